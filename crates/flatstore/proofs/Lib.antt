@@ -11,6 +11,7 @@ pub mod Replaying
 pub mod Refused
 pub mod ThreadRunning
 pub mod Standing
+pub mod Staying
 pub mod Opened
 pub mod Reading
 pub mod Agreeing

@@ -181,7 +181,7 @@ module _ (old s : State) (found : ℕ → ℕ) (A : Attached old s s.frame.bytes
   apart_from other unlike e = both (answers_none other) (sym (ap answers_none e) ∙ is_none) unlike
 
   -- What a run that answered nothing promises, by the input that it read, if any.
-  module _ (r : Report) (is : r.status ≡ status) (fin : r.finishes.items ≡ []) (ref : r.refusals.items ≡ []) (unbegun : r.began ≡ false) (cut : r.complete ≡ false) (sink : SinkUse) (same : sink.now ≡ sink.before) (cores : ℕ) (input : List ℕ)
+  module _ (r : Report) (is : r.status ≡ status) (fin : r.finishes.items ≡ []) (ref : r.refusals.items ≡ []) (unbegun : r.began ≡ false) (cut : r.complete ≡ false) (unplaced : r.in_place ≡ false) (sink : SinkUse) (same : sink.now ≡ sink.before) (cores : ℕ) (input : List ℕ)
       (count : IsTelling s → cores ≡ found 2) (line : is_of_line r.status ≡ true → IsServed s found × IsReadOut source.coming source.left × (r.status ≡ status_of (input_of cores input))) (fault : r.status ≡ statuses.SourceFault → IsServed s found)
       (judged : IsTelling s → IsDue s.frame.bytes found input r.status ⊎ IsFault old s source sink r.status) where
     no_status : (other : Status) → answers_none other ≡ false → r.status ≡ other → ⊥
@@ -204,8 +204,10 @@ module _ (old s : State) (found : ℕ → ℕ) (A : Attached old s s.frame.bytes
       cores_are = λ n told. count (told_now old s found A r fin ref cut cores input n told);
       order = order;
       due = judged;
+      asked = λ here. both r.in_place here unplaced;
+      astray = λ complete gone. both r.complete complete cut;
       done = λ done. absurd (no_status statuses.Done refl done);
-      failed = λ failed complete steady. absurd (no_status statuses.RegionFault refl failed);
+      failed = λ failed here steady. absurd (no_status statuses.RegionFault refl failed);
       sunk = λ sunk. absurd (no_status statuses.SinkFault refl sunk);
       begins = none_begins old s found A r fin ref cut cores input sink same;
       crash = none_lost old s found A r fin ref cut cores input;
@@ -237,9 +239,9 @@ module _ (old s : State) (found : ℕ → ℕ) (A : Attached old s s.frame.bytes
       | inr y ↦ elim y [ inl f ↦ f.1 | inr m ↦ absurd (memory_source (sym m ∙ e)) ]
     ]
 
-  pub refused_serves : (r : Report) → r.status ≡ status → r.finishes.items ≡ [] → r.refusals.items ≡ [] → r.began ≡ false → r.complete ≡ false → (sink : SinkUse) → sink.now ≡ sink.before
+  pub refused_serves : (r : Report) → r.status ≡ status → r.finishes.items ≡ [] → r.refusals.items ≡ [] → r.began ≡ false → r.complete ≡ false → r.in_place ≡ false → (sink : SinkUse) → sink.now ≡ sink.before
       → (input : List ℕ) × (cores : ℕ) × IsInput source.coming input × Serves old s found source cores input sink r
-  refused_serves r is fin ref unbegun cut sink same = by U where
+  refused_serves r is fin ref unbegun cut unplaced sink same = by U where
     in_status : (input : List ℕ) → IsDue s.frame.bytes found input status ⊎ IsFault old s source sink status → IsDue s.frame.bytes found input r.status ⊎ IsFault old s source sink r.status
     in_status input h = subst (λ st. IsDue s.frame.bytes found input st ⊎ IsFault old s source sink st) (sym is) h
 
@@ -252,14 +254,14 @@ module _ (old s : State) (found : ℕ → ℕ) (A : Attached old s s.frame.bytes
           input.0,
           found 2,
           input.1,
-          serves r is fin ref unbegun cut sink same (found 2) input.0 (λ telling. refl) (λ line. both (is_of_line r.status) line (ap is_of_line is ∙ unserved_line u)) (λ e. absurd (unserved_source u (sym is ∙ e)))
+          serves r is fin ref unbegun cut unplaced sink same (found 2) input.0 (λ telling. refl) (λ line. both (is_of_line r.status) line (ap is_of_line is ∙ unserved_line u)) (λ e. absurd (unserved_source u (sym is ∙ e)))
               (λ telling. in_status input.0 (unserved_due u input.0 telling sink)),
         )
     by (inr (cores, counted, inl x)) = (
       x.1,
       cores,
       x.2,
-      serves r is fin ref unbegun cut sink same cores x.1 (λ telling. (served_by old s found A cores counted telling).1) (λ line. ((λ telling. (served_by old s found A cores counted telling).0), x.0, is ∙ x.4)) (λ e. absurd (broken_no_source (input_of cores x.1) (sym x.4 ∙ sym is ∙ e)))
+      serves r is fin ref unbegun cut unplaced sink same cores x.1 (λ telling. (served_by old s found A cores counted telling).1) (λ line. ((λ telling. (served_by old s found A cores counted telling).0), x.0, is ∙ x.4)) (λ e. absurd (broken_no_source (input_of cores x.1) (sym x.4 ∙ sym is ∙ e)))
           (λ telling. in_status x.1 (inl (due_line cores x.1 (served_by old s found A cores counted telling) x.4))),
     )
     by (inr (cores, counted, inr (inl f))) =
@@ -267,22 +269,22 @@ module _ (old s : State) (found : ℕ → ℕ) (A : Attached old s s.frame.bytes
           input.0,
           cores,
           input.1,
-          serves r is fin ref unbegun cut sink same cores input.0 (λ telling. (served_by old s found A cores counted telling).1) (λ line. both (is_of_line r.status) line (ap is_of_line (is ∙ f.0))) (λ e telling. (served_by old s found A cores counted telling).0) (λ telling. in_status input.0 (inr (inr (inl f)))),
+          serves r is fin ref unbegun cut unplaced sink same cores input.0 (λ telling. (served_by old s found A cores counted telling).1) (λ line. both (is_of_line r.status) line (ap is_of_line (is ∙ f.0))) (λ e telling. (served_by old s found A cores counted telling).0) (λ telling. in_status input.0 (inr (inr (inl f)))),
         )
     by (inr (cores, counted, inr (inr m))) =
         let input = some_input source.coming in (
           input.0,
           cores,
           input.1,
-          serves r is fin ref unbegun cut sink same cores input.0 (λ telling. (served_by old s found A cores counted telling).1) (λ line. both (is_of_line r.status) line (ap is_of_line (is ∙ m))) (λ e. absurd (memory_source (sym m ∙ sym is ∙ e))) (λ telling. in_status input.0 (inr (inl m))),
+          serves r is fin ref unbegun cut unplaced sink same cores input.0 (λ telling. (served_by old s found A cores counted telling).1) (λ line. both (is_of_line r.status) line (ap is_of_line (is ∙ m))) (λ e. absurd (memory_source (sym m ∙ sym is ∙ e))) (λ telling. in_status input.0 (inr (inl m))),
         )
 
   -- A run that was refused so didn't end with a fault of the region.
   pub refused_fault : (r : Report) → r.status ≡ status → r.status ≡ statuses.RegionFault → ⊥
   refused_fault r is failed = apart_from statuses.RegionFault refl (sym is ∙ failed)
 
-  pub refused_replays : (r : Report) → r.status ≡ status → r.finishes.items ≡ [] → r.refusals.items ≡ [] → r.began ≡ false → r.complete ≡ false → (sink : SinkUse) → sink.now ≡ sink.before
+  pub refused_replays : (r : Report) → r.status ≡ status → r.finishes.items ≡ [] → r.refusals.items ≡ [] → r.began ≡ false → r.complete ≡ false → r.in_place ≡ false → (sink : SinkUse) → sink.now ≡ sink.before
       → (input : List ℕ) × (cores : ℕ) × IsInput source.coming input × Replays old s found source cores input sink r
-  refused_replays r is fin ref unbegun cut sink same =
-      let x = refused_serves r is fin ref unbegun cut sink same in
+  refused_replays r is fin ref unbegun cut unplaced sink same =
+      let x = refused_serves r is fin ref unbegun cut unplaced sink same in
       (x.0, x.1, x.2, record { serves = x.3; ends = λ failed. absurd (refused_fault r is failed); run = λ complete. both r.complete complete cut })

@@ -1,7 +1,7 @@
 -- From the last state of a replay to what the program promises.
-use Rattle.std.proofs.Common.{◌≡◌, ◌≢◌, ℕ, ◌/◌, ◌<◌, ◌≤◌, List, [], ◌∷◌, ◌++◌, length, refl, sym, ◌∙◌, ap, subst, arith, true, length-append}
-use Rattle.pm_region.specs.State.{State, Frame, IsTelling, MayLeave}
-use Rattle.pm_region.specs.Split.{Attached, IsOpenedOnceMore}
+use Rattle.std.proofs.Common.{◌≡◌, ◌≢◌, ℕ, ◌/◌, ◌<◌, ◌≤◌, List, [], ◌∷◌, ◌++◌, length, refl, sym, ◌∙◌, ap, subst, arith, true, false, length-append}
+use Rattle.pm_region.specs.State.{State, Frame, IsTelling, MayLeave, Rose}
+use Rattle.pm_region.specs.Split.{Attached, IsOpenedOnceMore, Stays}
 use Rattle.pm_region.specs.Words.{lasts}
 use Rattle.chunk_map.specs.Layouts.{layout_of}
 use Rattle.engine_laws.specs.Engine.{Engine}
@@ -13,16 +13,17 @@ use Rattle.group_engine.specs.declared.run_outcome.Outcome.{Outcome}
 use Rattle.group_engine.specs.Replayed.{report_in}
 use Rattle.group_engine.specs.Reports.{ReportsOn, as_told, told_by}
 use Rattle.engine_laws.proofs.Clients.{ran_given}
-use Rattle.flatstore.specs.Attaching.{Runs}
+use Rattle.flatstore.specs.Attaching.{Runs, Asks}
 use Rattle.flatstore.specs.Ends.{SourceUse, SinkUse, CountsFaults}
 use Rattle.flatstore.specs.LastStates.{told_in, RanTo}
 use Rattle.flatstore.specs.Promise.{IsInput, Replays}
-use Rattle.flatstore.specs.Played.{Played, HasWritten, is_ended}
+use Rattle.flatstore.specs.Played.{Played, HasAnswered, is_ended}
 use Rattle.flatstore.specs.declared.report.Report.{Report}
 use Rattle.flatstore.proofs.Causing.{HasCauses}
 use Rattle.flatstore.proofs.Running as running
 use Rattle.flatstore.proofs.Serving.{Known, serves, ends_then, counts_faults}
 use Rattle.flatstore.proofs.Standing.{origin_cores}
+use Rattle.flatstore.proofs.Staying.{asks_stays, asks_later, asks_rose}
 
 none_behind : {X : Type 0} (xs ys : List X) → xs ≡ xs ++ ys → ys ≡ []
 none_behind xs [] e = refl
@@ -80,6 +81,7 @@ module _ (old s t : State) (found word : ℕ → ℕ) (A : Attached old s s.fram
     was = λ n told. P.ran.stands.run.was n told (low_stamp n);
     bytes = ap (λ (fr : Frame). fr.bytes) P.ran.stands.run.frame;
     leaves = λ cells image may. subst (λ fr. MayLeave fr cells image) P.ran.stands.run.frame may;
+    kept = P.ran.stands.run.faults;
     low = let same = ap (λ (z : State). z.faults) began in omega (arith, low, same);
     words = subst (λ z. IsTelling z → (w : ℕ) → w < z.frame.bytes / 8 → o.found w ≡ lasts z w) (sym began) P.ran.begins.tells;
     count = count;
@@ -96,27 +98,34 @@ module _ (old s t : State) (found word : ℕ → ℕ) (A : Attached old s s.fram
     causes = causes;
   }
 
-  -- The report is on the last state of the run.
-  module _ (sink : SinkUse) (r : Report) (W : HasWritten x sink r.status)
+  -- The report is on the last state of the run, behind which the region was asked whether it is in its place.
+  module _ (u : State) (sink : SinkUse) (r : Report) (W : HasAnswered x sink r.in_place r.status) (asks : Asks r.complete r.in_place t u)
       (finishes : r.finishes.items ≡ x.finishes.items) (refusals : r.refusals.items ≡ x.refusals.items) (begun : r.began ≡ true) (complete_is : r.complete ≡ is_ended x.end) where
     report_told : told_in r ≡ told_by (report_in x)
     report_told i = as_told (finishes i) (refusals i)
 
-    replays : Replays old f.region found source cores input sink r
+    asks_last : Asks r.complete r.in_place f.region u
+    asks_last = subst (λ z. Asks r.complete r.in_place z u) (sym P.ran.region) asks
+
+    still : Stays f.region u
+    still = asks_stays r.complete r.in_place f.region u asks_last
+
+    later : (n : ℕ) → n ≤ f.region.faults → Rose n f.region.faults → Rose n u.faults
+    later = asks_later r.complete r.in_place f.region u asks_last
+
+    lost : r.complete ≡ true → r.in_place ≡ false → Rose f.region.faults u.faults
+    lost = asks_rose r.complete r.in_place f.region u asks_last
+
+    replays : Replays old u found source cores input sink r
     replays = record {
-      serves = serves old found source cores input o f x known P.ready.read.whole sink r.status W r refl report_told begun complete_is;
-      ends = ends_then old found source cores input o f x known P.ready.read.whole sink r.status W r refl report_told begun complete_is;
-      run = λ whole. subst (λ z. RanTo old z found cores input sink r) (sym P.ran.region)
-          (running.ran_to old s t found word A once granted P.recovered P.ready.stands cores input P.lines P.ready.read.good x P.ran count sink r W finishes refusals complete_is whole);
+      serves = serves old u found source cores input o f x known still later P.ready.read.whole sink r W lost report_told begun complete_is;
+      ends = ends_then old u found source cores input o f x known still later P.ready.read.whole sink r W lost report_told begun complete_is;
+      run = λ whole. running.ran_to old s t found word A once granted P.recovered P.ready.stands cores input P.lines P.ready.read.good x P.ran count u (asks_stays r.complete r.in_place t u asks) sink r W finishes refusals complete_is whole
+          (subst (λ b. Asks b r.in_place t u) whole asks);
     }
 
-    pub replay_counts : CountsFaults old t source sink r.status
-    replay_counts = subst (λ z. CountsFaults old z source sink r.status) P.ran.region (counts_faults old found source cores input o f x known P.ready.read.whole sink r.status W r refl report_told begun complete_is)
+    pub replay_counts : CountsFaults old u source sink r.status
+    replay_counts = counts_faults old u found source cores input o f x known still later P.ready.read.whole sink r W lost report_told begun complete_is
 
-    pub promise : (input : List ℕ) × (cores : ℕ) × IsInput source.coming input × Replays old t found source cores input sink r
-    promise = (
-      input,
-      cores,
-      P.ready.read.is_input,
-      subst (λ z. Replays old z found source cores input sink r) P.ran.region replays,
-    )
+    pub promise : (input : List ℕ) × (cores : ℕ) × IsInput source.coming input × Replays old u found source cores input sink r
+    promise = (input, cores, P.ready.read.is_input, replays)

@@ -1,7 +1,8 @@
 -- The run that a report is of.
-use Rattle.std.proofs.Common.{◌≡◌, ◌≢◌, ℕ, List, refl, sym, ◌∙◌, ap, subst, true, Ok}
+use Rattle.std.proofs.Common.{◌≡◌, ◌≢◌, ℕ, List, refl, sym, ◌∙◌, ap, subst, true, Ok, Option, Some, None}
+use Rattle.fs_model.specs.declared.model.Request.{Request}
 use Rattle.pm_region.specs.State.{State, Frame, IsTelling, cell_now}
-use Rattle.pm_region.specs.Split.{Attached, IsOpenedOnceMore}
+use Rattle.pm_region.specs.Split.{Attached, IsOpenedOnceMore, Stays}
 use Rattle.fs_text.specs.declared.line.Line.{Line}
 use Rattle.fs_text.specs.Input.{input_of}
 use Rattle.fs_text.specs.Streams.{Takes, TakesPrefix}
@@ -19,15 +20,26 @@ use Rattle.group_engine.specs.declared.run_outcome.End.TheVariants as ends
 use Rattle.group_engine.specs.declared.run_outcome.Outcome.{Outcome}
 use Rattle.group_engine.specs.Replayed.{StandsAsFound, Replayed}
 use Rattle.group_engine.specs.Reports.{as_told}
+use Rattle.group_engine.specs.Answers.{ShowsAnswer, kept_at}
+use Rattle.group_engine.specs.declared.types.Stamped.{Stamped}
+use Rattle.engine_laws.specs.Engine.{Answer}
+use Rattle.std.specs.List.{slice_get}
 use Rattle.group_engine.specs.Runs.{RunState, CoreMoves, first_state, with_request}
-use Rattle.flatstore.specs.Attaching.{GoesOnFrom, Runs}
+use Rattle.flatstore.specs.Attaching.{GoesOnFrom, Runs, Asks}
 use Rattle.flatstore.specs.Ends.{SinkUse}
 use Rattle.flatstore.specs.LastStates.{Opens, ReportsAnswers, RanTo}
-use Rattle.flatstore.specs.Played.{HasWritten, is_ended}
+use Rattle.flatstore.specs.Played.{HasAnswered, is_ended}
 use Rattle.flatstore.specs.declared.report.Report.{Report}
 use Rattle.flatstore.proofs.Attached.{found_words}
+use Rattle.flatstore.proofs.Staying.{tells_still, cells_still}
 use Rattle.flatstore.proofs.Texts.{both, small_sound}
 use Rattle.flatstore.proofs.Written.{front_written, all_written, fault_end, whole_end}
+
+shows_still : (K L : Type 0) → (L → K) → (asked : Option Request) (a : Option Answer) (x : Option Stamped) → ShowsAnswer K asked a x → ShowsAnswer L asked a x
+shows_still K L to asked None None is = tt
+shows_still K L to asked None (Some x) is = absurd is
+shows_still K L to asked (Some a) None is = absurd is
+shows_still K L to asked (Some a) (Some x) is = record { stamp = is.stamp; reply = is.reply; known = λ telling. is.known (to telling); cause = is.cause }
 
 module _ (old s t : State) (found word : ℕ → ℕ) (A : Attached old s s.frame.bytes found) (once : IsOpenedOnceMore old s) (granted : s.frame.refusals ≡ old.frame.refusals)
     (recovered : Recovered) (S : StandsAsFound s word recovered) (cores : ℕ) (input : List ℕ) (lines : List Line) (good : input_of cores input ≡ Ok lines)
@@ -41,9 +53,6 @@ module _ (old s t : State) (found word : ℕ → ℕ) (A : Attached old s s.fram
   -- The region went from where it was attached to where it is.
   pub on : Runs s t
   on = subst (λ z. Runs s z) P.region (subst (λ z. Runs z last.engine.region) P.begins.region P.stands.run)
-
-  abbrev pub from : GoesOnFrom old t t.frame.bytes found
-  from = record { at = s; attached = subst (λ (fr : Frame). Attached old s fr.bytes found) (sym on.frame) A; once = once; granted = granted; on = on }
 
   module _ (not_cut : x.end ≢ ends.Memory) where
     abbrev pub first : Opens s found cores
@@ -68,36 +77,52 @@ module _ (old s t : State) (found word : ℕ → ℕ) (A : Attached old s s.fram
     engine_ran = ran_seen (λ (e : RunState Worker). e.engine) CoreMoves AnyTurn (λ e c b f m. m.turn) with_request given_to (λ e q. refl) cores lines (first_state o P.workers) last
         (subst (λ n. Ran CoreMoves with_request n lines (first_state o P.workers) last) count (P.ran not_cut))
 
-  module _ (sink : SinkUse) (r : Report) (W : HasWritten x sink r.status)
-      (finishes : r.finishes.items ≡ x.finishes.items) (refusals : r.refusals.items ≡ x.refusals.items) (report_complete : r.complete ≡ is_ended x.end) (complete : r.complete ≡ true) where
+  -- Behind the last state it was asked whether it is in its place.
+  module _ (u : State) (still : Stays t u) (sink : SinkUse) (r : Report) (W : HasAnswered x sink r.in_place r.status)
+      (finishes : r.finishes.items ≡ x.finishes.items) (refusals : r.refusals.items ≡ x.refusals.items) (report_complete : r.complete ≡ is_ended x.end) (complete : r.complete ≡ true) (asks : Asks true r.in_place t u) where
     not_cut : x.end ≢ ends.Memory
     not_cut m = both (is_ended x.end) (sym report_complete ∙ complete) (ap is_ended m)
 
-    reports : ReportsAnswers t sink last r
+    abbrev pub from : GoesOnFrom old last.engine.region u.frame.bytes found
+    from = record {
+      at = s;
+      attached = subst (λ n. Attached old s n found) (sym (still.bytes ∙ ap (λ (fr : Frame). fr.bytes) on.frame)) A;
+      once = once;
+      granted = granted;
+      on = subst (λ z. Runs s z) (sym P.region) on;
+    }
+
+    shown : (n : ℕ) → ShowsAnswer (IsTelling u) (slice_get last.engine.given n) (last.engine.answer n) (kept_at last.answers n)
+    shown n = shows_still (IsTelling t) (IsTelling u) (tells_still t u still) (slice_get last.engine.given n) (last.engine.answer n) (kept_at last.answers n) (P.shown n)
+
+    reports : ReportsAnswers u sink last r
     reports = record {
       finishes = finishes ∙ P.kept.finishes;
       refusals = refusals ∙ P.kept.refusals;
-      begins = subst (λ rs. TakesPrefix sink.before sink.now (replies_text rs)) P.kept.replies (front_written x sink r.status W (sym report_complete ∙ complete));
-      writes = λ out. subst (λ rs. Takes sink.before sink.now (replies_text rs)) P.kept.replies (all_written x sink r.status W out);
+      begins = subst (λ rs. TakesPrefix sink.before sink.now (replies_text rs)) P.kept.replies (front_written x sink r.status r.in_place W);
+      writes = λ here out. subst (λ rs. Takes sink.before sink.now (replies_text rs)) P.kept.replies (all_written x sink r.status r.in_place W here out);
       count = P.count;
-      shown = P.shown;
+      shown = shown;
       told_is = (λ i. as_told (finishes i) (refusals i)) ∙ P.reports.told_is;
-      replies = λ telling. sym P.kept.replies ∙ P.reports.known telling;
+      replies = λ telling. sym P.kept.replies ∙ P.reports.known (tells_still t u still telling);
     }
 
-    pub ran_to : RanTo old t found cores input sink r
+    licensed : IsTelling t → AllLicensed last.engine.layout last.engine.group (cell_now t)
+    licensed = subst (λ (z : State). IsTelling z → AllLicensed last.engine.layout last.engine.group (cell_now z)) P.region P.stands.licensed
+
+    pub ran_to : RanTo old u found cores input sink r
     ran_to = record {
+      last = last;
       from = from;
       first = first not_cut;
       lines = lines;
       good = good;
-      last = last;
       ran = subst (λ n. Ran CoreMoves with_request n lines (first_state o P.workers) last) count (P.ran not_cut);
-      ends = P.region;
+      ends = subst (λ z. Asks true r.in_place z u) (sym P.region) asks;
       answered = (P.done not_cut).answered;
       drained = (P.done not_cut).drained;
       reports = reports;
-      stops = λ fault. P.fault (fault_end x sink r.status W fault);
-      goes = λ whole. P.complete (whole_end x sink r.status W whole);
-      licensed = subst (λ (z : State). IsTelling z → AllLicensed last.engine.layout last.engine.group (cell_now z)) P.region P.stands.licensed;
+      stops = λ fault here. P.fault (fault_end x sink r.status r.in_place W fault here);
+      goes = λ whole. P.complete (whole_end x sink r.status r.in_place W whole);
+      licensed = λ telling. subst (AllLicensed last.engine.layout last.engine.group) (λ i w. sym (cells_still t u still w) i) (licensed (tells_still t u still telling));
     }

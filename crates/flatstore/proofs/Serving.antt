@@ -3,7 +3,7 @@ use Rattle.std.proofs.Common.{◌≡◌, ◌≢◌, ◌⊎◌, inl, inr, ℕ, �
 use Rattle.std.specs.List.{AllByRecursion}
 use Rattle.pm_region.specs.Cell.{Cell}
 use Rattle.pm_region.specs.State.{State, IsTold, IsTelling, MayLeave, Rose, cell_now}
-use Rattle.pm_region.specs.Split.{Attached}
+use Rattle.pm_region.specs.Split.{Attached, Stays}
 use Rattle.pm_region.specs.Words.{lasts}
 use Rattle.fs_model.specs.declared.model.Request.{Request}
 use Rattle.fs_model.specs.declared.model.Reply.{Reply}
@@ -39,7 +39,7 @@ use Rattle.flatstore.specs.Ends.{SourceUse, SinkUse, CountsFaults}
 use Rattle.flatstore.specs.LastStates.{told_in, AreRising}
 use Rattle.flatstore.specs.Ordering.{KeepsOrder, IsServed, due, IsDue, IsFault, status_of, is_broken, is_quiet, is_of_line, is_whole}
 use Rattle.flatstore.specs.Promise.{WritesAll, WritesFront, Serves, asked_in}
-use Rattle.flatstore.specs.Played.{HasWritten, is_ended}
+use Rattle.flatstore.specs.Played.{HasAnswered, is_ended}
 use Rattle.flatstore.specs.declared.report.Status.{Status}
 use Rattle.flatstore.specs.declared.report.Status.TheVariants as statuses
 use Rattle.flatstore.specs.declared.report.Report.{Report}
@@ -47,6 +47,7 @@ use Rattle.flatstore.proofs.Inputs.{read_trace}
 use Rattle.flatstore.proofs.Attached.{found_words}
 use Rattle.flatstore.proofs.Agreeing as agreeing
 use Rattle.flatstore.proofs.Numbering.{all_map, rising}
+use Rattle.flatstore.proofs.Staying.{told_still, tells_still, leaves_still, leaves_now}
 use Rattle.flatstore.proofs.Causing.{HasCauses, full_of, spent_of, unrefused_of}
 use Rattle.flatstore.proofs.Texts.{both, takes_front, all_text, front_text, no_text, small_sound}
 
@@ -54,6 +55,7 @@ use Rattle.flatstore.proofs.Texts.{both, takes_front, all_text, front_text, no_t
 pub record Known (old : State) (found : ℕ → ℕ) (cores : ℕ) (input : List ℕ) (o : Origin) (f : Engine) (x : Outcome) : Type 0 where
   pub attached : Attached old o.region o.region.frame.bytes found
   pub low : old.faults ≤ o.region.faults
+  pub kept : o.region.faults ≤ f.region.faults
   pub origin : IsOrigin o
   pub words : IsTelling o.region → (w : ℕ) → w < o.region.frame.bytes / 8 → o.found w ≡ lasts o.region w
   pub count : (layout_of o.found).cores ≡ cores
@@ -73,12 +75,11 @@ pub record Known (old : State) (found : ℕ → ℕ) (cores : ℕ) (input : List
   pub whole : x.end ≡ ends.Complete → (c : ℕ) → c < f.layout.cores → f.stopped c ≡ false
   pub causes : HasCauses o.found (f.given ++ more) f.answer
 
-module _ (old : State) (found : ℕ → ℕ) (source : SourceUse) (cores : ℕ) (input : List ℕ) (o : Origin) (f : Engine) (x : Outcome) (K : Known old found cores input o f x) where
+-- The region says what it said in the last state, but for its counts.
+module _ (old t : State) (found : ℕ → ℕ) (source : SourceUse) (cores : ℕ) (input : List ℕ) (o : Origin) (f : Engine) (x : Outcome) (K : Known old found cores input o f x)
+    (still : Stays f.region t) (later : (n : ℕ) → n ≤ f.region.faults → Rose n f.region.faults → Rose n t.faults) where
   abbrev s : State
   s = o.region
-
-  abbrev t : State
-  t = f.region
 
   abbrev bytes : ℕ
   bytes = s.frame.bytes
@@ -87,7 +88,10 @@ module _ (old : State) (found : ℕ → ℕ) (source : SourceUse) (cores : ℕ) 
   attached = K.attached
 
   telling_then : IsTelling t → IsTelling s
-  telling_then telling = K.was t.stamp telling
+  telling_then telling = K.was t.stamp (told_still f.region t still t.stamp telling)
+
+  bytes_then : t.frame.bytes ≡ bytes
+  bytes_then = still.bytes ∙ K.bytes
 
   -- The words that were read are those found, where the region tells.
   pub words_found : IsTelling s → (w : ℕ) → w < bytes / 8 → o.found w ≡ found w
@@ -109,7 +113,7 @@ module _ (old : State) (found : ℕ → ℕ) (source : SourceUse) (cores : ℕ) 
   cores_found telling = sym K.count ∙ sym (ap (λ (l : Geometry). l.cores) (layout_is telling))
 
   served : IsServed t found
-  served telling = subst (λ n. IsSound n found) (sym K.bytes) (sound_found (telling_then telling))
+  served telling = subst (λ n. IsSound n found) (sym bytes_then) (sound_found (telling_then telling))
 
   abbrev trace : List Request
   trace = asked_in cores input
@@ -118,22 +122,26 @@ module _ (old : State) (found : ℕ → ℕ) (source : SourceUse) (cores : ℕ) 
   trace_is = read_trace cores input K.lines K.good ∙ K.given
 
   -- of a report on it, and what was written
-  module _ (read_out : IsReadOut source.coming source.left) (sink : SinkUse) (status : Status) (W : HasWritten x sink status)
-      (r : Report) (report_status : r.status ≡ status) (report_told : told_in r ≡ told_by (report_in x)) (report_began : r.began ≡ true) (report_complete : r.complete ≡ is_ended x.end) where
+  module _ (read_out : IsReadOut source.coming source.left) (sink : SinkUse) (r : Report) (W : HasAnswered x sink r.in_place r.status)
+      (lost : r.complete ≡ true → r.in_place ≡ false → Rose f.region.faults t.faults) (report_told : told_in r ≡ told_by (report_in x)) (report_began : r.began ≡ true) (report_complete : r.complete ≡ is_ended x.end) where
     pub told_is : told_in r ≡ told_of f
     told_is = report_told ∙ K.reports.told_is
 
     -- Replies of the state are replies to the input, by the cells found.
-    said_of : (MayStop May : Type 0) (replies : List Reply) → Answers (IsTelling t) (start_of o) (f.given ++ K.more) (told_of f) May replies → (May → MayStop) → Answers (IsTelling t) (cells_of found) trace (told_in r) MayStop replies
+    said_of : (MayStop May : Type 0) (replies : List Reply) → Answers (IsTelling f.region) (start_of o) (f.given ++ K.more) (told_of f) May replies → (May → MayStop) → Answers (IsTelling t) (cells_of found) trace (told_in r) MayStop replies
     said_of MayStop May replies a to = record {
       each = subst (λ q. AreReplies q replies) (sym trace_is) a.each;
-      lawful = λ telling. subst (λ q. IsLawful (cells_of found) q replies) (sym trace_is) (subst (λ c. IsLawful c (f.given ++ K.more) replies) (sym (start_is (telling_then telling))) (a.lawful telling));
+      lawful = λ telling. subst (λ q. IsLawful (cells_of found) q replies) (sym trace_is) (subst (λ c. IsLawful c (f.given ++ K.more) replies) (sym (start_is (telling_then telling))) (a.lawful (tells_still f.region t still telling)));
       fits = subst (λ (z : Told). Fits (finished_in z) z.refusals replies) (sym told_is) a.fits;
       stops = all_map (λ y. is_stopped y ≡ true → May) (λ y. is_stopped y ≡ true → MayStop) (λ y h stopped. to (h stopped)) replies a.stops;
     }
 
     risen : HasStopped f → Rose old.faults t.faults
-    risen h = let c = K.promised.cause h in let low = K.low in omega (arith, c, low)
+    risen h =
+        let c = K.promised.cause h in
+        let low = K.low in
+        let kept = K.kept in
+        later old.faults (omega (arith, low, kept)) (omega (arith, c, low))
 
     abbrev FrontMayStop : Type 0
     FrontMayStop = r.complete ≡ true → Rose old.faults t.faults
@@ -157,7 +165,7 @@ module _ (old : State) (found : ℕ → ℕ) (source : SourceUse) (cores : ℕ) 
 
       said_whole : (MayStop : Type 0) → (HasStopped f → MayStop) → Answers (IsTelling t) (cells_of found) trace (told_in r) MayStop x.replies.items
       said_whole MayStop to = said_of MayStop (AllAnswered f → HasStopped f) x.replies.items
-          (subst (λ q. Answers (IsTelling t) (start_of o) q (told_of f) (AllAnswered f → HasStopped f) x.replies.items) (sym given_all) K.reports.answers) (λ h. to (h (K.done not_cut).answered))
+          (subst (λ q. Answers (IsTelling f.region) (start_of o) q (told_of f) (AllAnswered f → HasStopped f) x.replies.items) (sym given_all) K.reports.answers) (λ h. to (h (K.done not_cut).answered))
 
       text_of : (MayStop : Type 0) → (HasStopped f → MayStop) → Takes sink.before sink.now (replies_text x.replies.items) → WritesAll (IsTelling t) (cells_of found) trace (told_in r) MayStop sink
       text_of MayStop to = all_text (IsTelling t) (cells_of found) trace (told_in r) MayStop x.replies.items (said_whole MayStop to) sink
@@ -176,81 +184,122 @@ module _ (old : State) (found : ℕ → ℕ) (source : SourceUse) (cores : ℕ) 
     cut_front cut same = no_text (IsTelling t) (cells_of found) trace (told_in r) FrontMayStop (replies_from f.answer 0 (length (f.given ++ K.more)))
         (said_of FrontMayStop (AllAnswered f → K.more ≡ [] → HasStopped f) (replies_from f.answer 0 (length (f.given ++ K.more))) (K.promised.replies K.more) (λ any complete. both r.complete complete (report_complete ∙ cut))) sink same
 
-    begun : HasWritten x sink status → Front
-    begun (inl w) = front_of (completed w.1) FrontMayStop (λ h complete. risen h) (takes_front sink.before sink.now (replies_text x.replies.items) w.2)
-    begun (inr (inl w)) = elim w.2 [
-      | inl all ↦ front_of (faulted w.1) FrontMayStop (λ h complete. risen h) (takes_front sink.before sink.now (replies_text x.replies.items) all.0)
-      | inr some ↦ front_of (faulted w.1) FrontMayStop (λ h complete. risen h) some.1
+    -- and of a run that did, where nothing was written
+    none_front : (is_ended x.end ≡ true) → sink.now ≡ sink.before → Front
+    none_front is same = no_text (IsTelling t) (cells_of found) trace (told_in r) FrontMayStop x.replies.items (said_whole (ended is) FrontMayStop (λ h complete. risen h)) sink same
+
+    begun : (p : Bool) → HasAnswered x sink p r.status → Front
+    begun true (inl w, is) = front_of (ended is) FrontMayStop (λ h complete. risen h) (takes_front sink.before sink.now (replies_text x.replies.items) w.2)
+    begun true (inr (inl w), is) = elim w.2 [
+      | inl all ↦ front_of (ended is) FrontMayStop (λ h complete. risen h) (takes_front sink.before sink.now (replies_text x.replies.items) all.0)
+      | inr some ↦ front_of (ended is) FrontMayStop (λ h complete. risen h) some.1
     ]
-    begun (inr (inr (inl w))) = front_of (completed w.1) FrontMayStop (λ h complete. risen h) w.3
-    begun (inr (inr (inr w))) = elim w.1 [
-      | inl some ↦ front_of (ended some.0) FrontMayStop (λ h complete. risen h) some.1
-      | inr cut ↦ cut_front cut.0 cut.1
-    ]
+    begun true (inr (inr (inl w)), is) = front_of (ended is) FrontMayStop (λ h complete. risen h) w.3
+    begun true (inr (inr (inr w)), is) = front_of (ended is) FrontMayStop (λ h complete. risen h) w.2
+    begun false (same, inl cut) = cut_front cut.1 same
+    begun false (same, inr out) = none_front out.1 same
 
     -- the statuses that it cannot have
     no_status : (Q : Status → Bool) → Q statuses.Done ≡ false → Q statuses.RegionFault ≡ false → Q statuses.SinkFault ≡ false → Q statuses.Memory ≡ false → Q r.status ≡ true → ⊥
-    no_status Q done failed sunk memory is = by W where
-      by : HasWritten x sink status → ⊥
-      by (inl w) = both (Q r.status) is (ap Q (report_status ∙ w.0) ∙ done)
-      by (inr (inl w)) = both (Q r.status) is (ap Q (report_status ∙ w.0) ∙ failed)
-      by (inr (inr (inl w))) = both (Q r.status) is (ap Q (report_status ∙ w.0) ∙ sunk)
-      by (inr (inr (inr w))) = both (Q r.status) is (ap Q (report_status ∙ w.0) ∙ memory)
+    no_status Q done failed sunk memory is = by r.in_place W where
+      by : (p : Bool) → HasAnswered x sink p r.status → ⊥
+      by true (inl w, any) = both (Q r.status) is (ap Q w.0 ∙ done)
+      by true (inr (inl w), any) = both (Q r.status) is (ap Q w.0 ∙ failed)
+      by true (inr (inr (inl w)), any) = both (Q r.status) is (ap Q w.0 ∙ sunk)
+      by true (inr (inr (inr w)), any) = both (Q r.status) is (ap Q w.0 ∙ memory)
+      by false (same, inl cut) = both (Q r.status) is (ap Q cut.0 ∙ memory)
+      by false (same, inr out) = both (Q r.status) is (ap Q out.0 ∙ failed)
 
     written : r.status ≡ statuses.Done → WritesAll (IsTelling t) (cells_of found) trace (told_in r) ⊥ sink × (sink.flushed ≡ true)
-    written done = by W where
-      by : HasWritten x sink status → WritesAll (IsTelling t) (cells_of found) trace (told_in r) ⊥ sink × (sink.flushed ≡ true)
-      by (inl w) = (text_of (completed w.1) ⊥ (never w.1) w.2, w.3)
-      by (inr (inl w)) = cc (sym done ∙ report_status ∙ w.0)
-      by (inr (inr (inl w))) = cc (sym done ∙ report_status ∙ w.0)
-      by (inr (inr (inr w))) = cc (sym done ∙ report_status ∙ w.0)
+    written done = by r.in_place W where
+      by : (p : Bool) → HasAnswered x sink p r.status → WritesAll (IsTelling t) (cells_of found) trace (told_in r) ⊥ sink × (sink.flushed ≡ true)
+      by true (inl w, any) = (text_of (completed w.1) ⊥ (never w.1) w.2, w.3)
+      by true (inr (inl w), any) = cc (sym done ∙ w.0)
+      by true (inr (inr (inl w)), any) = cc (sym done ∙ w.0)
+      by true (inr (inr (inr w)), any) = cc (sym done ∙ w.0)
+      by false (same, inl cut) = cc (sym done ∙ cut.0)
+      by false (same, inr out) = cc (sym done ∙ out.0)
 
-    written_failed : r.status ≡ statuses.RegionFault → (Rose sink.faults sink.faults' → ⊥) → WritesAll (IsTelling t) (cells_of found) trace (told_in r) (Rose old.faults t.faults) sink × (sink.flushed ≡ true)
-    written_failed failed steady = by W where
-      by : HasWritten x sink status → WritesAll (IsTelling t) (cells_of found) trace (told_in r) (Rose old.faults t.faults) sink × (sink.flushed ≡ true)
-      by (inl w) = cc (sym failed ∙ report_status ∙ w.0)
-      by (inr (inl w)) = elim w.2 [
+    written_failed : r.status ≡ statuses.RegionFault → r.in_place ≡ true → (Rose sink.faults sink.faults' → ⊥) → WritesAll (IsTelling t) (cells_of found) trace (told_in r) (Rose old.faults t.faults) sink × (sink.flushed ≡ true)
+    written_failed failed here steady = by r.in_place here W where
+      by : (p : Bool) → p ≡ true → HasAnswered x sink p r.status → WritesAll (IsTelling t) (cells_of found) trace (told_in r) (Rose old.faults t.faults) sink × (sink.flushed ≡ true)
+      by true is (inl w, any) = cc (sym failed ∙ w.0)
+      by true is (inr (inl w), any) = elim w.2 [
         | inl all ↦ (text_of (faulted w.1) (Rose old.faults t.faults) risen all.0, all.1)
         | inr some ↦ absurd (steady some.0)
       ]
-      by (inr (inr (inl w))) = cc (sym failed ∙ report_status ∙ w.0)
-      by (inr (inr (inr w))) = cc (sym failed ∙ report_status ∙ w.0)
+      by true is (inr (inr (inl w)), any) = cc (sym failed ∙ w.0)
+      by true is (inr (inr (inr w)), any) = cc (sym failed ∙ w.0)
+      by false is any = cc is
 
     written_sunk : r.status ≡ statuses.SinkFault → WritesFront (IsTelling t) (cells_of found) trace (told_in r) ⊥ sink
-    written_sunk sunk = by W where
-      by : HasWritten x sink status → WritesFront (IsTelling t) (cells_of found) trace (told_in r) ⊥ sink
-      by (inl w) = cc (sym sunk ∙ report_status ∙ w.0)
-      by (inr (inl w)) = cc (sym sunk ∙ report_status ∙ w.0)
-      by (inr (inr (inl w))) = front_of (completed w.1) ⊥ (never w.1) w.3
-      by (inr (inr (inr w))) = cc (sym sunk ∙ report_status ∙ w.0)
+    written_sunk sunk = by r.in_place W where
+      by : (p : Bool) → HasAnswered x sink p r.status → WritesFront (IsTelling t) (cells_of found) trace (told_in r) ⊥ sink
+      by true (inl w, any) = cc (sym sunk ∙ w.0)
+      by true (inr (inl w), any) = cc (sym sunk ∙ w.0)
+      by true (inr (inr (inl w)), any) = front_of (completed w.1) ⊥ (never w.1) w.3
+      by true (inr (inr (inr w)), any) = cc (sym sunk ∙ w.0)
+      by false (same, inl cut) = cc (sym sunk ∙ cut.0)
+      by false (same, inr out) = cc (sym sunk ∙ out.0)
 
     whole_ends : is_whole r.status ≡ true → x.end ≡ ends.Complete
-    whole_ends whole = by W where
-      by : HasWritten x sink status → x.end ≡ ends.Complete
-      by (inl w) = w.1
-      by (inr (inl w)) = both (is_whole r.status) whole (ap is_whole (report_status ∙ w.0))
-      by (inr (inr (inl w))) = w.1
-      by (inr (inr (inr w))) = both (is_whole r.status) whole (ap is_whole (report_status ∙ w.0))
+    whole_ends whole = by r.in_place W where
+      by : (p : Bool) → HasAnswered x sink p r.status → x.end ≡ ends.Complete
+      by true (inl w, any) = w.1
+      by true (inr (inl w), any) = both (is_whole r.status) whole (ap is_whole w.0)
+      by true (inr (inr (inl w)), any) = w.1
+      by true (inr (inr (inr w)), any) = both (is_whole r.status) whole (ap is_whole w.0)
+      by false (same, inl cut) = both (is_whole r.status) whole (ap is_whole cut.0)
+      by false (same, inr out) = both (is_whole r.status) whole (ap is_whole out.0)
+
+    -- Where the region was in its place, the run came to its end; where it was not, though the run did, nothing was written.
+    asked_then : r.in_place ≡ true → r.complete ≡ true
+    asked_then here = by r.in_place here W where
+      by : (p : Bool) → p ≡ true → HasAnswered x sink p r.status → r.complete ≡ true
+      by true is w = report_complete ∙ w.1
+      by false is w = cc is
+
+    kept_back : r.complete ≡ true → r.in_place ≡ false → (r.status ≡ statuses.RegionFault) × (sink.now ≡ sink.before)
+    kept_back complete gone = by r.in_place gone W where
+      by : (p : Bool) → p ≡ false → HasAnswered x sink p r.status → (r.status ≡ statuses.RegionFault) × (sink.now ≡ sink.before)
+      by true is w = cc (sym is)
+      by false is (same, inl cut) = both r.complete complete (report_complete ∙ cut.1)
+      by false is (same, inr out) = (out.0, same)
+
+    -- a fault of the region that was counted
+    failed_rose : r.status ≡ statuses.RegionFault → Rose old.faults t.faults
+    failed_rose failed = by r.in_place refl W where
+      gone : r.complete ≡ true → r.in_place ≡ false → Rose old.faults t.faults
+      gone complete is = let rose = lost complete is in let low = K.low in let kept = K.kept in omega (arith, rose, low, kept)
+
+      by : (p : Bool) → r.in_place ≡ p → HasAnswered x sink p r.status → Rose old.faults t.faults
+      by true is (inl w, any) = cc (sym failed ∙ w.0)
+      by true is (inr (inl w), any) = risen (K.fault w.1)
+      by true is (inr (inr (inl w)), any) = cc (sym failed ∙ w.0)
+      by true is (inr (inr (inr w)), any) = cc (sym failed ∙ w.0)
+      by false is (same, inl cut) = cc (sym failed ∙ cut.0)
+      by false is (same, inr out) = gone (report_complete ∙ out.1) is
 
     crash_then : RecoversThroughout t (cells_of found) trace (told_in r)
     crash_then n told image may =
         let stamp = attached.stamp in
-        let telling : IsTelling s = K.was n told in
-        let here : MayLeave s.frame (t.cells n) image = K.leaves (t.cells n) image may in
-        let shown = K.promised.crash K.more n told (omega (arith, stamp)) image here in
+        let before : IsTold f.region n = told_still f.region t still n told in
+        let telling : IsTelling s = K.was n before in
+        let here : MayLeave s.frame (f.region.cells n) image = K.leaves (f.region.cells n) image (leaves_still f.region t still n image may) in
+        let shown = K.promised.crash K.more n before (omega (arith, stamp)) image here in
         subst (λ z. Recovers t.frame.bytes (cells_of found) trace z (λ k. finished_by k trace z.finishes n) image) (sym told_is)
         (subst (λ q. Recovers t.frame.bytes (cells_of found) q (told_of f) (λ k. finished_by k q (told_of f).finishes n) image) (sym trace_is)
         (subst (λ c. Recovers t.frame.bytes c (f.given ++ K.more) (told_of f) (λ k. finished_by k (f.given ++ K.more) (told_of f).finishes n) image) (sym (start_is telling))
-        (subst (λ m. Recovers m (start_of o) (f.given ++ K.more) (told_of f) (λ k. finished_by k (f.given ++ K.more) (told_of f).finishes n) image) (sym K.bytes) shown)))
+        (subst (λ m. Recovers m (start_of o) (f.given ++ K.more) (told_of f) (λ k. finished_by k (f.given ++ K.more) (told_of f).finishes n) image) (sym bytes_then) shown)))
 
     recovers_all : is_whole r.status ≡ true → RecoversAll t (cells_of found) trace (told_in r)
     recovers_all whole telling image may k small =
         let e = whole_ends whole in
-        let here : MayLeave s.frame (cell_now t) image = K.leaves (cell_now t) image may in
+        let here : MayLeave s.frame (cell_now f.region) image = K.leaves (cell_now f.region) image (leaves_now f.region t still image may) in
         let start : start_of o ≡ cells_of found = sym (start_is (telling_then telling)) in
         let qs : f.given ≡ trace = sym (given_all (completed e)) ∙ sym trace_is in
         let told : told_of f ≡ told_in r = sym told_is in
-        K.promised.last (K.done (completed e)).answered (K.whole e) telling image here k ∙ (λ i. cell_after_all (changes_in (start i) (qs i) (told i) k) (start i k))
+        K.promised.last (K.done (completed e)).answered (K.whole e) (tells_still f.region t still telling) image here k ∙ (λ i. cell_after_all (changes_in (start i) (qs i) (told i) k) (start i k))
 
     order : KeepsOrder old t found source cores input r
     order = record {
@@ -266,14 +315,16 @@ module _ (old : State) (found : ℕ → ℕ) (source : SourceUse) (cores : ℕ) 
 
     -- the status that is due
     due_of : IsTelling t → IsDue t.frame.bytes found input r.status ⊎ IsFault old t source sink r.status
-    due_of telling = by W where
-      by : HasWritten x sink status → IsDue t.frame.bytes found input r.status ⊎ IsFault old t source sink r.status
-      by (inl w) =
+    due_of telling = by r.in_place W where
+      by : (p : Bool) → HasAnswered x sink p r.status → IsDue t.frame.bytes found input r.status ⊎ IsFault old t source sink r.status
+      by true (inl w, any) =
           let sound : first_fault t.frame.bytes found ≡ None = served telling in
-          inl (report_status ∙ w.0 ∙ sym (ap (due found input) sound ∙ ap (λ c. status_of (input_of c input)) (sym (cores_found (telling_then telling))) ∙ ap status_of K.good))
-      by (inr (inl w)) = inr (inr (inr (inr (report_status ∙ w.0, risen (K.fault w.1)))))
-      by (inr (inr (inl w))) = inr (inr (inr (inl (report_status ∙ w.0, w.2))))
-      by (inr (inr (inr w))) = inr (inl (report_status ∙ w.0))
+          inl (w.0 ∙ sym (ap (due found input) sound ∙ ap (λ c. status_of (input_of c input)) (sym (cores_found (telling_then telling))) ∙ ap status_of K.good))
+      by true (inr (inl w), any) = inr (inr (inr (inr (w.0, failed_rose w.0))))
+      by true (inr (inr (inl w)), any) = inr (inr (inr (inl (w.0, w.2))))
+      by true (inr (inr (inr w)), any) = inr (inl w.0)
+      by false (same, inl cut) = inr (inl cut.0)
+      by false (same, inr out) = inr (inr (inr (inr (out.0, failed_rose out.0))))
 
     -- The causes of refusals, by the words found.
     module _ (telling : IsTelling t) where
@@ -319,13 +370,15 @@ module _ (old : State) (found : ℕ → ℕ) (source : SourceUse) (cores : ℕ) 
 
     pub serves : Serves old t found source cores input sink r
     serves = record {
-      cores_are = λ n told. cores_found (K.was n told);
+      cores_are = λ n told. cores_found (K.was n (told_still f.region t still n told));
       order = order;
       due = due_of;
+      asked = asked_then;
+      astray = kept_back;
       done = written;
-      failed = λ failed complete. written_failed failed;
+      failed = written_failed;
       sunk = written_sunk;
-      begins = begun W;
+      begins = begun r.in_place W;
       crash = λ sound. crash_then;
       last = recovers_all;
       rising = subst (λ (z : Told). AreRising (finished_in z) × AreRising (refused_in z)) (sym told_is) (rising is_finish (λ a. a.stamp) f.answer 0 (length f.given), rising is_told (λ a. a.reply) f.answer 0 (length f.given));
@@ -342,26 +395,19 @@ module _ (old : State) (found : ℕ → ℕ) (source : SourceUse) (cores : ℕ) 
       region_fault = failed_rose;
     } where
       sunk_rose : r.status ≡ statuses.SinkFault → Rose sink.faults sink.faults'
-      sunk_rose sunk = by W where
-        by : HasWritten x sink status → Rose sink.faults sink.faults'
-        by (inl w) = cc (sym sunk ∙ report_status ∙ w.0)
-        by (inr (inl w)) = cc (sym sunk ∙ report_status ∙ w.0)
-        by (inr (inr (inl w))) = w.2
-        by (inr (inr (inr w))) = cc (sym sunk ∙ report_status ∙ w.0)
-
-      failed_rose : r.status ≡ statuses.RegionFault → Rose old.faults t.faults
-      failed_rose failed = by W where
-        by : HasWritten x sink status → Rose old.faults t.faults
-        by (inl w) = cc (sym failed ∙ report_status ∙ w.0)
-        by (inr (inl w)) = risen (K.fault w.1)
-        by (inr (inr (inl w))) = cc (sym failed ∙ report_status ∙ w.0)
-        by (inr (inr (inr w))) = cc (sym failed ∙ report_status ∙ w.0)
+      sunk_rose sunk = by r.in_place W where
+        by : (p : Bool) → HasAnswered x sink p r.status → Rose sink.faults sink.faults'
+        by true (inl w, any) = cc (sym sunk ∙ w.0)
+        by true (inr (inl w), any) = cc (sym sunk ∙ w.0)
+        by true (inr (inr (inl w)), any) = w.2
+        by true (inr (inr (inr w)), any) = cc (sym sunk ∙ w.0)
+        by false (same, inl cut) = cc (sym sunk ∙ cut.0)
+        by false (same, inr out) = cc (sym sunk ∙ out.0)
 
     -- A call of the region that failed doesn't keep it from its end.
     pub ends_then : r.status ≡ statuses.RegionFault → r.complete ≡ true
-    ends_then failed = by W where
-      by : HasWritten x sink status → r.complete ≡ true
-      by (inl w) = cc (sym failed ∙ report_status ∙ w.0)
-      by (inr (inl w)) = report_complete ∙ ap is_ended w.1
-      by (inr (inr (inl w))) = cc (sym failed ∙ report_status ∙ w.0)
-      by (inr (inr (inr w))) = cc (sym failed ∙ report_status ∙ w.0)
+    ends_then failed = by r.in_place W where
+      by : (p : Bool) → HasAnswered x sink p r.status → r.complete ≡ true
+      by true w = report_complete ∙ w.1
+      by false (same, inl cut) = cc (sym failed ∙ cut.0)
+      by false (same, inr out) = report_complete ∙ out.1

@@ -21,6 +21,9 @@ takes_nothing (Some b) = sym (append-nil b)
 pub takes_front : (before now : Option (List ℕ)) (text : List ℕ) → Takes before now text → TakesPrefix before now text
 takes_front before now text takes = ([], (text, sym (append-nil text), takes))
 
+pub no_front : (before now : Option (List ℕ)) (text : List ℕ) → now ≡ before → TakesPrefix before now text
+no_front before now text same = (text, ([], refl, subst (λ x. Takes before x []) (sym same) (takes_nothing before)))
+
 module _ (Known : Type 0) (start : ℕ → Option (List ℕ)) (trace : List Request) (r : Told) (MayStop : Type 0) (replies : List Reply) (said : Answers Known start trace r MayStop replies) (sink : SinkUse) where
   pub all_text : Takes sink.before sink.now (replies_text replies) → WritesAll Known start trace r MayStop sink
   all_text took = (replies_text replies, took, (replies, said, refl))

@@ -1,10 +1,10 @@
 -- From what the cores did in a run on threads, or why none ran, to what the program promises.
 use Rattle.std.proofs.Common.{◌≡◌, ◌≢◌, inl, inr, ℕ, ◌/◌, ◌<◌, ◌≤◌, List, [], ◌++◌, map, refl, sym, ◌∙◌, ap, subst, arith, true, false, Bool, Result, Ok, Err, append-nil}
-use Rattle.std.specs.Prelude.{IsTrue, IfErr}
+use Rattle.std.specs.Prelude.{IfErr}
 use Rattle.std.specs.Result.{IsErrAnd}
 use Rattle.pm_region.specs.Cell.{Cell}
 use Rattle.pm_region.specs.State.{State, InRange, IsTold, IsTelling, MayLeave, Rose, cell_now, counted}
-use Rattle.pm_region.specs.Split.{Attached, Stays, Refuses, IsOpenedOnceMore, words_in}
+use Rattle.pm_region.specs.Split.{Attached, Stays, Refuses, IsOpenedOnceMore}
 use Rattle.pm_region.specs.declared.split.AttachError.{AttachError}
 use Rattle.pm_region.specs.declared.split.AttachError.TheVariants as attach
 use Rattle.pm_region.specs.Words.{lasts}
@@ -22,12 +22,12 @@ use Rattle.group_engine.specs.declared.run_outcome.Outcome.{Outcome}
 use Rattle.group_engine.specs.Replayed.{report_in}
 use Rattle.group_engine.specs.Reports.{ReportsOn, reply_in, as_told, told_by}
 use Rattle.thread_engine.specs.RanApart.{Rejoined}
-use Rattle.flatstore.specs.Attaching.{GoesOnBy, AttachesToSplit, MayRejoin}
+use Rattle.flatstore.specs.Attaching.{GoesOnBy, Asks, AttachesToSplit, MayRejoin}
 use Rattle.flatstore.specs.Ends.{SourceUse, SinkUse, CountsFaults}
 use Rattle.flatstore.specs.LastStates.{told_in}
 use Rattle.flatstore.specs.Ordering.{KeepsOrder, IsServed, is_broken, is_of_line, is_quiet, is_whole}
 use Rattle.flatstore.specs.Promise.{IsInput, Serves}
-use Rattle.flatstore.specs.Played.{IsReady, IsRefused, HasWritten, is_ended}
+use Rattle.flatstore.specs.Played.{IsReady, IsRefused, HasAnswered, is_ended}
 use Rattle.flatstore.specs.ThreadPlays.{PlayedApart, HasNotSplit, IsNotRun, WhyNotRun, why_of, status_for, has_begun}
 use Rattle.flatstore.specs.ThreadRuns.{RanOnThreads, RunsOnThreads}
 use Rattle.flatstore.specs.declared.report.Status.{Status}
@@ -39,48 +39,21 @@ use Rattle.flatstore.proofs.Causing.{HasCauses}
 use Rattle.flatstore.proofs.Refused.{served_by, apart_from, told_now, none_begins, none_lost, none_rising, none_full, none_spent, refused_serves, refused_fault, refused_source}
 use Rattle.flatstore.proofs.Serving.{Known, serves, ends_then, counts_faults, words_found}
 use Rattle.flatstore.proofs.Standing.{counted_by, origin_cores}
+use Rattle.flatstore.proofs.Staying.{tells_still, attached_still, cells_still, asks_stays, asks_later, asks_rose}
 use Rattle.flatstore.proofs.Texts.{both}
 use Rattle.flatstore.proofs.Written.{front_written, all_written, fault_end, whole_end}
 
--- What a region says that stays as it was.
-module _ (s t : State) (S : Stays s t) where
-  pub tells_still : IsTelling t → IsTelling s
-  tells_still now =
-      let stamp = S.stamp in
-      let since = S.since in
-      let low = now.since in
-      let below = now.below in
-      record {
-        says = subst (λ n. IsTrue (s.told n)) stamp (subst IsTrue (S.told t.stamp) now.says);
-        since = omega (arith, stamp, since, low);
-        seen = omega arith;
-        below = omega (arith, stamp, below);
-      }
-
-  in_range : (w : ℕ) → InRange t.frame w → InRange s.frame w
-  in_range w inside =
-      let first = S.first in
-      let words = S.words in
-      let low = inside.low in
-      let high = inside.high in
-      record { low = omega (arith, first, low); high = omega (arith, first, words, high) }
-
-  pub attached_still : (old : State) (found : ℕ → ℕ) → Attached old s s.frame.bytes found → Attached old t t.frame.bytes found
-  attached_still old found A = record {
-    first = S.first ∙ A.first;
-    words = S.words ∙ A.words ∙ ap words_in (sym S.bytes);
-    bytes_are = refl;
-    parted = S.parted ∙ A.parted;
-    stamp = S.stamp ∙ A.stamp;
-    since = S.since ∙ A.since;
-    certainly = λ w inside now. S.cells t.stamp w ∙ ap (λ n. s.cells n w) S.stamp ∙ A.certainly w (in_range w inside) (tells_still now);
-  }
-
 -- what was done to a region that was attached
-pub attaches_then : (old s t : State) (found : ℕ → ℕ) → Attached old s s.frame.bytes found → IsOpenedOnceMore old s → s.frame.refusals ≡ old.frame.refusals → t.frame.bytes ≡ s.frame.bytes → MayRejoin s t
-    → (r : Report) → r.attached ≡ true → AttachesToSplit old t found r
-attaches_then old s t found A once granted bytes done r opened = record {
-  attached = λ attached. record { at = s; attached = subst (λ n. Attached old s n found) (sym bytes) A; once = once; granted = granted; on = done };
+pub attaches_then : (old s t u : State) (found : ℕ → ℕ) → Attached old s s.frame.bytes found → IsOpenedOnceMore old s → s.frame.refusals ≡ old.frame.refusals → t.frame.bytes ≡ s.frame.bytes → MayRejoin s t
+    → (r : Report) → r.attached ≡ true → Asks r.complete r.in_place t u → AttachesToSplit old u found r
+attaches_then old s t u found A once granted bytes done r opened asks = record {
+  attached = λ attached. record {
+    at = s;
+    attached = subst (λ n. Attached old s n found) (sym ((asks_stays r.complete r.in_place t u asks).bytes ∙ bytes)) A;
+    once = once;
+    granted = granted;
+    on = record { left = t; done = done; asks = asks };
+  };
   unattached = λ isnt. both r.attached opened isnt;
   cause = λ isnt. both r.attached opened isnt;
 }
@@ -149,7 +122,7 @@ module _ (old s t : State) (found word : ℕ → ℕ) (A : Attached old s s.fram
   pub why_sink : status_for why ≡ statuses.SinkFault → ⊥
   why_sink e = sink_by why N.cause e
 
-  module _ (r : Report) (fin : r.finishes.items ≡ []) (ref : r.refusals.items ≡ []) (cut : r.complete ≡ false) (sink : SinkUse) (same : sink.now ≡ sink.before) (refused : Bool) where
+  module _ (r : Report) (fin : r.finishes.items ≡ []) (ref : r.refusals.items ≡ []) (cut : r.complete ≡ false) (unplaced : r.in_place ≡ false) (sink : SinkUse) (same : sink.now ≡ sink.before) (refused : Bool) where
     abbrev Promised : Type 0
     Promised = (input : List ℕ) × (cores : ℕ) × IsInput source.coming input × RunsOnThreads old t found source refused cores input sink r
 
@@ -157,7 +130,7 @@ module _ (old s t : State) (found word : ℕ → ℕ) (A : Attached old s s.fram
     module _ (status : Status) (is : r.status ≡ status) (unbegun : r.began ≡ false) (u : State) (B : Attached old u u.frame.bytes found) (U : IsRefused u source status) where
       early_serves : (input : List ℕ) × (cores : ℕ) × IsInput source.coming input × RunsOnThreads old u found source refused cores input sink r
       early_serves =
-          let x = refused_serves old u found B source status U r is fin ref unbegun cut sink same in
+          let x = refused_serves old u found B source status U r is fin ref unbegun cut unplaced sink same in
           (x.0, x.1, x.2, record { serves = x.3; unsplit = λ failed no. absurd (refused_fault old u found B source status U r is failed); run = λ complete. both r.complete complete cut })
 
     early : (status : Status) → WhyNotRun s word t source (Refused status) → r.status ≡ status → r.began ≡ false → Promised
@@ -196,8 +169,10 @@ module _ (old s t : State) (found word : ℕ → ℕ) (A : Attached old s s.fram
         cores_are = λ n told. (served_then (told_now old t found still r fin ref cut own_cores own_input n told)).1;
         order = order;
         due = λ telling. inr (inr (inr (inr (is, risen h))));
+        asked = λ here. both r.in_place here unplaced;
+        astray = λ complete gone. both r.complete complete cut;
         done = λ done. cc (sym is ∙ done);
-        failed = λ failed complete steady. both r.complete complete cut;
+        failed = λ failed here steady. both r.in_place here unplaced;
         sunk = λ sunk. cc (sym is ∙ sunk);
         begins = none_begins old t found still r fin ref cut own_cores own_input sink same;
         crash = none_lost old t found still r fin ref cut own_cores own_input;
@@ -279,6 +254,7 @@ module _ (old s t : State) (found word : ℕ → ℕ) (A : Attached old s s.fram
     attached = subst (λ (z : State). Attached old z z.frame.bytes found) (sym began) A;
     origin = P.ran.begins.is;
     low = let same = ap (λ (z : State). z.faults) began in omega (arith, low, same);
+    kept = let first = ap (λ (z : State). z.faults) began in let last = ap (λ (z : State). z.faults) P.ran.region in let rose = P.ran.rejoined.faults in omega (arith, first, last, rose);
     words = subst (λ z. IsTelling z → (w : ℕ) → w < z.frame.bytes / 8 → o.found w ≡ lasts z w) (sym began) P.ran.begins.tells;
     count = count;
     was = λ n told. subst IsTelling (sym began) (told_last n (subst (λ z. IsTold z n) P.ran.region told));
@@ -300,12 +276,24 @@ module _ (old s t : State) (found word : ℕ → ℕ) (A : Attached old s s.fram
   bytes : f.region.frame.bytes ≡ s.frame.bytes
   bytes = ap (λ (z : State). z.frame.bytes) P.ran.region ∙ P.ran.rejoined.bytes
 
-  abbrev from : GoesOnBy Rejoined old f.region f.region.frame.bytes found
-  from = record { at = s; attached = subst (λ n. Attached old s n found) (sym bytes) A; once = once; granted = granted; on = subst (λ z. Rejoined s z) (sym P.ran.region) P.ran.rejoined }
-
-  -- The report is on the last state of the cores.
-  module _ (sink : SinkUse) (r : Report) (W : HasWritten x sink r.status)
+  -- The report is on the last state of the cores, behind which the region was asked whether it is in its place.
+  module _ (u : State) (sink : SinkUse) (r : Report) (W : HasAnswered x sink r.in_place r.status) (asks : Asks r.complete r.in_place t u)
       (finishes : r.finishes.items ≡ x.finishes.items) (refusals : r.refusals.items ≡ x.refusals.items) (begun : r.began ≡ true) (complete_is : r.complete ≡ is_ended x.end) where
+    asks_last : Asks r.complete r.in_place f.region u
+    asks_last = subst (λ z. Asks r.complete r.in_place z u) (sym P.ran.region) asks
+
+    still : Stays f.region u
+    still = asks_stays r.complete r.in_place f.region u asks_last
+
+    later : (n : ℕ) → n ≤ f.region.faults → Rose n f.region.faults → Rose n u.faults
+    later = asks_later r.complete r.in_place f.region u asks_last
+
+    lost : r.complete ≡ true → r.in_place ≡ false → Rose f.region.faults u.faults
+    lost = asks_rose r.complete r.in_place f.region u asks_last
+
+    abbrev from : GoesOnBy Rejoined old f.region u.frame.bytes found
+    from = record { at = s; attached = subst (λ n. Attached old s n found) (sym (still.bytes ∙ bytes)) A; once = once; granted = granted; on = subst (λ z. Rejoined s z) (sym P.ran.region) P.ran.rejoined }
+
     report_told : told_in r ≡ told_by (report_in x)
     report_told i = as_told (finishes i) (refusals i)
 
@@ -315,11 +303,15 @@ module _ (old s t : State) (found word : ℕ → ℕ) (A : Attached old s s.fram
     text_is : replies_text x.replies.items ≡ replies_text (map reply_in P.ran.kept)
     text_is = ap replies_text P.ran.report.replies
 
-    ran_then : r.complete ≡ true → RanOnThreads old f.region found refused cores input sink r
+    licensed_last : IsTelling f.region → AllLicensed f.layout f.group (cell_now f.region)
+    licensed_last = subst (λ z. IsTelling z → AllLicensed f.layout f.group (cell_now z)) (sym P.ran.region) P.ran.licensed
+
+    ran_then : r.complete ≡ true → RanOnThreads old u found refused cores input sink r
     ran_then complete =
         let end : is_ended x.end ≡ true = sym complete_is ∙ complete in
         let not_cut : x.end ≢ ends.Memory = ended end in
         record {
+          f = f;
           from = from;
           start = record {
             word = word;
@@ -328,16 +320,15 @@ module _ (old s t : State) (found word : ℕ → ℕ) (A : Attached old s s.fram
             origin = o;
             begins = P.ran.begins;
             words = subst (λ (z : State). IsTelling z → (w : ℕ) → w < z.frame.bytes / 8 → o.found w ≡ found w) began
-                (words_found old found source cores input o f x known);
+                (words_found old u found source cores input o f x known still later);
             count = count;
           };
           lines = P.lines;
           good = P.ready.read.good;
-          f = f;
           given = P.ran.given;
           ran = P.ran.ran;
-          ends = refl;
-          next = λ telling told latest low each. subst (λ (z : State). z.stamp ≤ counted latest) (sym P.ran.region) (P.ran.next telling told latest low each);
+          ends = subst (λ b. Asks b r.in_place f.region u) complete asks_last;
+          next = λ telling told latest low each. subst (λ n. n ≤ counted latest) (sym (still.stamp ∙ ap (λ (z : State). z.stamp) P.ran.region)) (P.ran.next telling told latest low each);
           answered = (P.ran.done not_cut).answered;
           drained = (P.ran.done not_cut).drained;
           kept = P.ran.kept;
@@ -345,27 +336,27 @@ module _ (old s t : State) (found word : ℕ → ℕ) (A : Attached old s s.fram
           finishes = finishes ∙ P.ran.report.finishes;
           refusals = refusals ∙ P.ran.report.refusals;
           told_is = report_told ∙ P.ran.reports.told_is;
-          begins = subst (λ text. TakesPrefix sink.before sink.now text) text_is (front_written x sink r.status W end);
-          writes = λ out. subst (λ text. Takes sink.before sink.now text) text_is (all_written x sink r.status W out);
-          stops = λ fault. P.ran.fault (fault_end x sink r.status W fault);
-          goes = λ whole. P.ran.complete (whole_end x sink r.status W whole);
-          licensed = subst (λ z. IsTelling z → AllLicensed f.layout f.group (cell_now z)) (sym P.ran.region) P.ran.licensed;
+          begins = subst (λ text. TakesPrefix sink.before sink.now text) text_is (front_written x sink r.status r.in_place W);
+          writes = λ here out. subst (λ text. Takes sink.before sink.now text) text_is (all_written x sink r.status r.in_place W here out);
+          stops = λ fault here. P.ran.fault (fault_end x sink r.status r.in_place W fault here);
+          goes = λ whole. P.ran.complete (whole_end x sink r.status r.in_place W whole);
+          licensed = λ telling. subst (AllLicensed f.layout f.group) (λ i w. sym (cells_still f.region u still w) i) (licensed_last (tells_still f.region u still telling));
         }
       where
         ended : is_ended x.end ≡ true → x.end ≢ ends.Memory
         ended is m = both (is_ended x.end) is (ap is_ended m)
 
-    pub run_counts : CountsFaults old t source sink r.status
-    run_counts = subst (λ z. CountsFaults old z source sink r.status) P.ran.region (counts_faults old found source cores input o f x known P.ready.read.whole sink r.status W r refl report_told begun complete_is)
+    pub run_counts : CountsFaults old u source sink r.status
+    run_counts = counts_faults old u found source cores input o f x known still later P.ready.read.whole sink r W lost report_told begun complete_is
 
-    pub ran_on : (input : List ℕ) × (cores : ℕ) × IsInput source.coming input × RunsOnThreads old t found source refused cores input sink r
+    pub ran_on : (input : List ℕ) × (cores : ℕ) × IsInput source.coming input × RunsOnThreads old u found source refused cores input sink r
     ran_on = (
       input,
       cores,
       P.ready.read.is_input,
-      subst (λ z. RunsOnThreads old z found source refused cores input sink r) P.ran.region (record {
-        serves = serves old found source cores input o f x known P.ready.read.whole sink r.status W r refl report_told begun complete_is;
-        unsplit = λ failed no. both r.complete (ends_then old found source cores input o f x known P.ready.read.whole sink r.status W r refl report_told begun complete_is failed) no;
+      record {
+        serves = serves old u found source cores input o f x known still later P.ready.read.whole sink r W lost report_told begun complete_is;
+        unsplit = λ failed no. both r.complete (ends_then old u found source cores input o f x known still later P.ready.read.whole sink r W lost report_told begun complete_is failed) no;
         run = ran_then;
-      }),
+      },
     )

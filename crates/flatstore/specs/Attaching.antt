@@ -1,7 +1,7 @@
 -- How often a call opens its region, and what it leaves of one that it doesn't open.
-use Rattle.std.specs.Prelude.{◌≡◌, ◌⊎◌, ℕ, true, false}
+use Rattle.std.specs.Prelude.{◌≡◌, ◌⊎◌, ℕ, Bool, true, false}
 use Rattle.pm_region.specs.State.{State, Over, Rose}
-use Rattle.pm_region.specs.Split.{Attached, Stays, IsOpenedOnceMore, IsNotOpened}
+use Rattle.pm_region.specs.Split.{Attached, Stays, IsOpenedOnceMore, IsNotOpened, IsRevalidated, IsOutOfPlace}
 use Rattle.chunk_map.specs.declared.layouts.Geometry.{Geometry}
 use Rattle.chunk_map.specs.Layouts.{total_bytes}
 use Rattle.thread_engine.specs.RanApart.{Rejoined}
@@ -44,16 +44,33 @@ pub record AttachesBy (Done : State → State → Type 0) (old new : State) (fou
   pub unattached : r.attached ≡ false → IsUnopened old new
   pub cause : r.attached ≡ false → HasNotOpened old new r.status
 
--- a replay and a dump use the calls of the region alone
+-- a dump, a log, a scan and an audit use the calls of the region alone
 abbrev pub Attaches : State → State → (ℕ → ℕ) → Report → Type 0
 Attaches old new found r = AttachesBy Runs old new found r
 
--- a run on threads splits the region and joins it again, or leaves it as it was
+-- Behind a run that came to its end the region was asked whether it is in its place, as the last that was done to it,
+-- and whether it was says the second value. Behind one that didn't it was left as it was.
+abbrev pub Asks : Bool → Bool → State → State → Type 0
+Asks true true left new = IsRevalidated left new
+Asks true false left new = IsOutOfPlace left new
+Asks false in_place left new = new ≡ left
+
+-- This was done to it, and then it was asked, as the report says.
+pub record AsksBehind (Done : State → State → Type 0) (r : Report) (at new : State) : Type 0 where
+  pub left : State
+  pub done : Done at left
+  pub asks : Asks r.complete r.in_place left new
+
+-- a replay uses the calls of the region, and asks it behind the run
+abbrev pub AttachesToRun : State → State → (ℕ → ℕ) → Report → Type 0
+AttachesToRun old new found r = AttachesBy (AsksBehind Runs r) old new found r
+
+-- a run on threads splits the region and joins it again, or leaves it as it was, and asks it behind the run
 abbrev pub MayRejoin : State → State → Type 0
 MayRejoin old new = Rejoined old new ⊎ (Stays old new × IsNotOpened old new)
 
 abbrev pub AttachesToSplit : State → State → (ℕ → ℕ) → Report → Type 0
-AttachesToSplit old new found r = AttachesBy MayRejoin old new found r
+AttachesToSplit old new found r = AttachesBy (AsksBehind MayRejoin r) old new found r
 
 -- A format creates the region once, or leaves it as it was, or its one try to create it failed and left it no words.
 pub record Creates (old new : State) (l : Geometry) (r : Report) : Type 0 where

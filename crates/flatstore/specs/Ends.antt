@@ -56,9 +56,9 @@ pub record CountsFaults (old new : State) (source : SourceUse) (sink : SinkUse)
   pub sink_fault : status ≡ statuses.SinkFault → Rose sink.faults sink.faults'
   pub region_fault : status ≡ statuses.RegionFault → Faulted old new
 
--- no request is reported as finished or refused
+-- no request is reported as finished or refused, and no answer behind a run of where the region is
 abbrev pub AnswersNothing : Report → Type 0
-AnswersNothing r = (r.finishes.items ≡ []) × (r.refusals.items ≡ [])
+AnswersNothing r = (r.finishes.items ≡ []) × (r.refusals.items ≡ []) × (r.in_place ≡ false)
 
 -- it is no report of a run
 abbrev pub ReportsNothing : Report → Type 0

@@ -22,7 +22,7 @@ use Rattle.group_engine.specs.Replayed.{StandsAsFound, BeginsAt}
 use Rattle.group_engine.specs.Reports.{as_told, reply_in, finishes_in, refusals_in}
 use Rattle.group_engine.specs.Runs.{RunState, CoreMoves, AreNew, first_state, with_request}
 use Rattle.headline.specs.Headline.{Told}
-use Rattle.flatstore.specs.Attaching.{GoesOnFrom}
+use Rattle.flatstore.specs.Attaching.{GoesOnFrom, Asks}
 use Rattle.flatstore.specs.Ends.{SinkUse, IsAllOut}
 use Rattle.flatstore.specs.Ordering.{is_whole}
 use Rattle.flatstore.specs.declared.report.Status.TheVariants as statuses
@@ -73,7 +73,7 @@ pub record ReportsAnswers (new : State) (sink : SinkUse) (last : RunState Worker
   pub finishes : r.finishes.items ≡ finishes_in 0 last.answers
   pub refusals : r.refusals.items ≡ refusals_in 0 last.answers
   pub begins : TakesPrefix sink.before sink.now (replies_text (map reply_in last.answers))
-  pub writes : IsAllOut r.status sink
+  pub writes : r.in_place ≡ true → IsAllOut r.status sink
       → Takes sink.before sink.now (replies_text (map reply_in last.answers))
   -- Those are the answers of the state, each with its stamp and the cause of its refusal; where the
   -- region doesn't tell, a get may have found another value.
@@ -87,22 +87,23 @@ pub record ReportsAnswers (new : State) (sink : SinkUse) (last : RunState Worker
 -- last state, and this is a report on it.
 pub record RanTo (old new : State) (found : ℕ → ℕ) (cores : ℕ) (input : List ℕ)
     (sink : SinkUse) (r : Report) : Type 0 where
-  pub from : GoesOnFrom old new new.frame.bytes found
+  pub last : RunState Worker
+  pub from : GoesOnFrom old last.engine.region new.frame.bytes found
   pub first : Opens from.at found cores
   -- The lines are those of the input: a request joins its owner's backlog, a `go` line is so many
   -- moves of its core's worker, and after the last come passes over all cores until nothing moves.
   pub lines : List Line
   pub good : input_of cores input ≡ Ok lines
-  pub last : RunState Worker
   pub ran : Ran CoreMoves with_request cores lines (first_of first) last
-  -- The region is as it is in the last state. Everything is answered there, every slot is empty and
-  -- nothing waits.
-  pub ends : last.engine.region ≡ new
+  -- The region is as it is in the last state, but that behind it it was asked whether it is in its
+  -- place. Everything is answered there, every slot is empty and nothing waits.
+  pub ends : Asks true r.in_place last.engine.region new
   pub answered : AllAnswered last.engine
   pub drained : IsDrained last.engine
   pub reports : ReportsAnswers new sink last r
-  -- The status tells a fault of the region exactly where a core has stopped.
-  pub stops : r.status ≡ statuses.RegionFault → HasStopped last.engine
+  -- The status tells a fault of the region exactly where a core has stopped, or the region was out of
+  -- its place behind the run.
+  pub stops : r.status ≡ statuses.RegionFault → r.in_place ≡ true → HasStopped last.engine
   pub goes : is_whole r.status ≡ true → NoneHasStopped last.engine
   -- Whatever a crash leaves of a part now is licensed by its core's view in that state.
   pub licensed : IsTelling new → AllLicensed last.engine.layout last.engine.group (cell_now new)

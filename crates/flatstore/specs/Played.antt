@@ -65,7 +65,8 @@ is_ended ends.Complete = true
 is_ended ends.RegionFault = true
 is_ended ends.Memory = false
 
--- What the writing did: everything was written and flushed, or the front of it, and the status says which. A fault of the region goes before one of the sink.
+-- What the writing did behind a run that came to its end: everything was written and flushed, or the front of it, and the
+-- status says which. A fault of the region goes before one of the sink.
 abbrev pub HasWritten : Outcome → SinkUse → Status → Type 0
 HasWritten x sink status =
     ((status ≡ statuses.Done) × (x.end ≡ ends.Complete)
@@ -76,9 +77,18 @@ HasWritten x sink status =
     × TakesPrefix sink.before sink.now (replies_text x.replies.items))))
     ⊎ (((status ≡ statuses.SinkFault) × (x.end ≡ ends.Complete) × Rose sink.faults sink.faults'
     × TakesPrefix sink.before sink.now (replies_text x.replies.items))
-    ⊎ ((status ≡ statuses.Memory) × (((is_ended x.end ≡ true)
-    × TakesPrefix sink.before sink.now (replies_text x.replies.items))
-    ⊎ ((is_ended x.end ≡ false) × (sink.now ≡ sink.before))))))
+    ⊎ ((status ≡ statuses.Memory) × (is_ended x.end ≡ true)
+    × TakesPrefix sink.before sink.now (replies_text x.replies.items))))
+
+-- Why nothing was written: the run didn't come to its end, or behind it the region was out of its place.
+abbrev pub IsKeptBack : Outcome → Status → Type 0
+IsKeptBack x status = ((status ≡ statuses.Memory) × (is_ended x.end ≡ false))
+    ⊎ ((status ≡ statuses.RegionFault) × (is_ended x.end ≡ true))
+
+-- what became of the replies, by whether the region was found in its place behind the run
+abbrev pub HasAnswered : Outcome → SinkUse → Bool → Status → Type 0
+HasAnswered x sink true status = HasWritten x sink status × (is_ended x.end ≡ true)
+HasAnswered x sink false status = (sink.now ≡ sink.before) × IsKeptBack x status
 
 -- the status of a run by its end, and whether a write failed
 abbrev pub ended_as : End → Bool → Status

@@ -1,5 +1,5 @@
 -- What a call of the program promises, over the region, the source and the sink before and after it.
-use Rattle.std.specs.Prelude.{◌≡◌, ◌⊎◌, ℕ, ◌+◌, ◌≤◌, List, [], take, true, Option, Some, None}
+use Rattle.std.specs.Prelude.{◌≡◌, ◌⊎◌, ℕ, ◌+◌, ◌≤◌, List, [], take, true, false, Option, Some, None}
 use Rattle.std.specs.List.{AllByRecursion}
 use Rattle.fs_model.specs.declared.model.Request.{Request}
 use Rattle.fs_model.specs.declared.model.Reply.TheVariants.{Full}
@@ -49,10 +49,15 @@ pub record Serves (old new : State) (found : ℕ → ℕ) (source : SourceUse) (
   -- The words found and the input decide on the status, but for faults that were counted and want of memory.
   pub due : IsTelling new → IsDue new.frame.bytes found input r.status
       ⊎ IsFault old new source sink r.status
+  -- Behind a run that came to its end the region was asked whether it is in its place. Where it was not, that is a fault
+  -- of the region, and nothing was written.
+  pub asked : r.in_place ≡ true → r.complete ≡ true
+  pub astray : r.complete ≡ true → r.in_place ≡ false → (r.status ≡ statuses.RegionFault)
+      × (sink.now ≡ sink.before)
   -- At the end the whole text was written and flushed, without a `stopped`; also where a call of the region failed, and no write did.
   pub done : r.status ≡ statuses.Done → WritesAll (IsTelling new) (cells_of found)
       (asked_in cores input) (told_in r) ⊥ sink × (sink.flushed ≡ true)
-  pub failed : r.status ≡ statuses.RegionFault → r.complete ≡ true
+  pub failed : r.status ≡ statuses.RegionFault → r.in_place ≡ true
       → (Rose sink.faults sink.faults' → ⊥)
       → WritesAll (IsTelling new) (cells_of found) (asked_in cores input) (told_in r)
       (Faulted old new) sink × (sink.flushed ≡ true)

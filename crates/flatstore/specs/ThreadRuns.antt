@@ -16,7 +16,7 @@ use Rattle.group_engine.specs.declared.types.Stamped.{Stamped}
 use Rattle.group_engine.specs.Reports.{reply_in, finishes_in, refusals_in}
 use Rattle.thread_engine.specs.CoreRuns.{AllRan}
 use Rattle.thread_engine.specs.RanApart.{Rejoined, KeepsAnswers}
-use Rattle.flatstore.specs.Attaching.{GoesOnBy}
+use Rattle.flatstore.specs.Attaching.{GoesOnBy, Asks}
 use Rattle.flatstore.specs.Ends.{SourceUse, SinkUse, IsAllOut}
 use Rattle.flatstore.specs.LastStates.{told_in, NoneHasStopped, Starts}
 use Rattle.flatstore.specs.Ordering.{is_whole}
@@ -28,19 +28,20 @@ use Rattle.flatstore.specs.declared.report.Report.{Report}
 -- a report on the answers that the cores' workers gave. `refused` says whether the gate may hold a post back.
 pub record RanOnThreads (old new : State) (found : ℕ → ℕ) (refused : Bool) (cores : ℕ)
     (input : List ℕ) (sink : SinkUse) (r : Report) : Type 0 where
-  -- The region was attached, and then split and joined.
-  pub from : GoesOnBy Rejoined old new new.frame.bytes found
+  -- The region was attached, and then split and joined; so it is in the last state.
+  pub f : Engine
+  pub from : GoesOnBy Rejoined old f.region new.frame.bytes found
   pub start : Starts from.at found cores
   -- The requests are those of the input, each given to the owner of its key. Each core has a chain of its worker's moves,
   -- from the worker that opens on what recovery gave for it to an end; the groups' states are lawful.
   pub lines : List Line
   pub good : input_of cores input ≡ Ok lines
-  pub f : Engine
   pub given : f.given ≡ asked_in lines
   pub ran : AllRan start.origin start.recovered refused f
-  -- The region is as it is in the last state, and goes on telling by the stamp after the latest of its pieces' stamps,
-  -- where each piece told to its end. Everything is answered there, every slot is empty and nothing waits.
-  pub ends : f.region ≡ new
+  -- The region is as it is in the last state, but that behind it it was asked whether it is in its place. It goes on telling
+  -- by the stamp after the latest of its pieces' stamps, where each piece told to its end. Everything is answered there,
+  -- every slot is empty and nothing waits.
+  pub ends : Asks true r.in_place f.region new
   pub next : IsTelling from.at
       → ((c : ℕ) (low : c < f.layout.cores) → TellsFrom from.at (ran.cores c low).last.region)
       → (latest : ℕ) → from.at.stamp ≤ latest
@@ -55,10 +56,10 @@ pub record RanOnThreads (old new : State) (found : ℕ → ℕ) (refused : Bool)
   pub refusals : r.refusals.items ≡ refusals_in 0 kept
   pub told_is : told_in r ≡ told_of f
   pub begins : TakesPrefix sink.before sink.now (replies_text (map reply_in kept))
-  pub writes : IsAllOut r.status sink
+  pub writes : r.in_place ≡ true → IsAllOut r.status sink
       → Takes sink.before sink.now (replies_text (map reply_in kept))
-  -- The status tells a fault of the region exactly where a core has stopped.
-  pub stops : r.status ≡ statuses.RegionFault → HasStopped f
+  -- The status tells a fault of the region exactly where a core has stopped, or the region was out of its place behind the run.
+  pub stops : r.status ≡ statuses.RegionFault → r.in_place ≡ true → HasStopped f
   pub goes : is_whole r.status ≡ true → NoneHasStopped f
   -- Whatever a crash leaves of a part now is licensed by its core's view in that state.
   pub licensed : IsTelling new → AllLicensed f.layout f.group (cell_now new)

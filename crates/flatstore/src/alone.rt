@@ -8,7 +8,7 @@ ghost use Rattle.flatstore.specs.Commands.Form.{Format, Replay, Dump, Log, Scan}
 ghost use Rattle.flatstore.specs.Dumps.{Dumps};
 ghost use Rattle.flatstore.specs.Formats.{Formats};
 ghost use Rattle.flatstore.specs.Logs.{Logs};
-ghost use Rattle.flatstore.specs.Attaching.{Attaches};
+ghost use Rattle.flatstore.specs.Attaching.{AttachesToRun};
 ghost use Rattle.flatstore.specs.Ordering.{is_of_region, is_quiet};
 ghost use Rattle.flatstore.specs.Promise.{IsInput, Replays};
 ghost use Rattle.flatstore.specs.Scans.{Scans};
@@ -74,7 +74,7 @@ pub fn flatstore_alone<T: Threads, S: Source, O: Sink, R: SplitRegion + ReadRegi
     // The headline.
     ensures attaches { (path : List ℕ) → alone_form_of (words_of words.now.items)
         ≡ Some (Replay path)
-        → Attaches (R.state region.old) (R.state region.new) (R.found region.old) result }
+        → AttachesToRun (R.state region.old) (R.state region.new) (R.found region.old) result }
     ensures replay { (path : List ℕ) → alone_form_of (words_of words.now.items) ≡ Some (Replay path)
         → result.attached ≡ true
         → (input : List ℕ) × (cores : ℕ) × IsInput (S.coming source.old) input
@@ -87,8 +87,9 @@ pub fn flatstore_alone<T: Threads, S: Source, O: Sink, R: SplitRegion + ReadRegi
         (source_use S.coming S.fault_count source.old source.new)
         (sink_use O.taken O.flushed O.fault_count sink.old sink.new) result.status }
 
-    // Nothing is written where the run didn't come to its end.
+    // Nothing is written where the run didn't come to its end, or the region was out of its place behind it.
     ensures incomplete { result.complete ≡ false → sink.new ≡ sink.old }
+    ensures out_of_place { result.began ≡ true → result.in_place ≡ false → sink.new ≡ sink.old }
     ensures unattached { result.attached ≡ false → result.complete ≡ false }
 
     // A call that began no run reports none.

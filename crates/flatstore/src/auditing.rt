@@ -142,6 +142,7 @@ fn write_audit<O: Sink>(alloc: Global, sink: &mut O, verdict: Verdict) -> Report
         attached: true,
         began: false,
         complete: true,
+        in_place: false,
     }
 }
 

@@ -55,6 +55,7 @@ fn write_dump<O: Sink>(alloc: Global, sink: &mut O, pairs: &[Pair]) -> Report
         attached: true,
         began: false,
         complete: true,
+        in_place: false,
     }
 }
 

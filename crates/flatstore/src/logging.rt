@@ -59,6 +59,7 @@ fn write_log<O: Sink>(alloc: Global, sink: &mut O, entries: &[PlacedEntry]) -> R
         attached: true,
         began: false,
         complete: true,
+        in_place: false,
     }
 }
 

@@ -2,7 +2,7 @@
 ghost use Rattle.std.specs.Prelude.{◌≡◌, ◌⊎◌, ℕ, ◌≤◌, List, Some, None, true, false, OnOk, OnErr, IfOk};
 ghost use Rattle.pm_region.specs.Split.{Attached};
 ghost use Rattle.flatstore.specs.Ends.{AnswersNothing, CountsFaults, sink_use, source_use};
-ghost use Rattle.flatstore.specs.Attaching.{Attaches};
+ghost use Rattle.flatstore.specs.Attaching.{AttachesToRun};
 ghost use Rattle.flatstore.specs.Ordering.{is_of_region, is_quiet};
 ghost use Rattle.flatstore.specs.Promise.{IsInput, Replays};
 ghost use Rattle.flatstore.specs.declared.report.Status.TheVariants as statuses;
@@ -14,15 +14,15 @@ use pm_region::{AttachError, ReadRegion, SplitRegion};
 use std::alloc::Global;
 
 /// Attaches the region, reads the input, runs its lines, and writes the replies in the order of the requests once all
-/// are answered.
+/// are answered and the region is found in its place.
 pub fn replay_region<S: Source, O: Sink, R: SplitRegion + ReadRegion>(
     alloc: Global,
     source: &mut S,
     sink: &mut O,
     region: &mut R,
 ) -> Report
-    ensures attaches { Attaches (R.state region.old) (R.state region.new) (R.found region.old)
-        result }
+    ensures attaches { AttachesToRun (R.state region.old) (R.state region.new)
+        (R.found region.old) result }
 
     // The headline.
     ensures replay { result.attached ≡ true
@@ -35,8 +35,9 @@ pub fn replay_region<S: Source, O: Sink, R: SplitRegion + ReadRegion>(
         (sink_use O.taken O.flushed O.fault_count sink.old sink.new) result.status }
     ensures no_usage { result.status ≡ statuses.Usage → ⊥ }
 
-    // Nothing is written where the run didn't come to its end.
+    // Nothing is written where the run didn't come to its end, or the region was out of its place behind it.
     ensures incomplete { result.complete ≡ false → sink.new ≡ sink.old }
+    ensures out_of_place { result.in_place ≡ false → sink.new ≡ sink.old }
     ensures unattached { result.attached ≡ false → result.complete ≡ false }
     ensures unbegun { result.began ≡ false → AnswersNothing result }
     ensures unattached_unbegun { result.attached ≡ false → result.began ≡ false }
@@ -54,7 +55,7 @@ pub fn replay_region<S: Source, O: Sink, R: SplitRegion + ReadRegion>(
         Err(AttachError::Memory) => Report::of(alloc, Status::Memory, false),
         Ok(()) => match replay(alloc, source, region) {
             Err(status) => Report::of(alloc, status, true),
-            Ok(outcome) => write_outcome(alloc, sink, outcome),
+            Ok(outcome) => write_outcome(alloc, sink, region, outcome),
         },
     }
 }

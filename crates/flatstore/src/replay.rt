@@ -5,15 +5,16 @@ ghost use Rattle.pm_region.specs.Words.{lasts};
 ghost use Rattle.pm_region.specs.Split.{words_in};
 ghost use Rattle.group_engine.specs.Replayed.{StandsAsFound};
 ghost use Rattle.fs_text.specs.Bounds.{IsWithin};
+ghost use Rattle.flatstore.specs.Attaching.{Asks};
 ghost use Rattle.flatstore.specs.Ends.{sink_use, source_use};
 ghost use Rattle.flatstore.specs.Reads.{IsRead, IsUnread, unread_as};
-ghost use Rattle.flatstore.specs.Played.{StandsWhole, IsReady, Played, IsUnserved, IsRefused, HasWritten, is_ended, ended_as};
+ghost use Rattle.flatstore.specs.Played.{StandsWhole, IsReady, Played, IsUnserved, IsRefused, HasWritten, HasAnswered, is_ended, ended_as};
 ghost use Rattle.flatstore.specs.Ordering.{is_of_region};
 
 use crate::report::{Report, Status};
 use fs_text::{Input, InputError, OutError, Sink, Source, read_input, write_replies};
 use group_engine::run_outcome::{self, End, Outcome};
-use pm_region::{ReadRegion, SplitRegion};
+use pm_region::{ReadRegion, RegionFault, SplitRegion};
 use recover::{RecoverError, Recovered, recover_read};
 use std::alloc::Global;
 
@@ -133,33 +134,67 @@ fn status_of(end: End, sunk: bool) -> Status
     }
 }
 
-/// Writes the replies, where every request was answered, and reports.
-pub fn write_outcome<O: Sink>(alloc: Global, sink: &mut O, outcome: Outcome) -> Report
+// Writes the replies of a run that came to its end.
+fn write_text<O: Sink>(alloc: Global, sink: &mut O, outcome: &Outcome) -> Status
+    requires { is_ended outcome.now.end ≡ true }
+    ensures { HasWritten outcome.now (sink_use O.taken O.flushed O.fault_count sink.old sink.new)
+        result }
+{
+    match write_replies(alloc, sink, outcome.replies.as_slice()) {
+        Err(OutError::Memory) => Status::Memory,
+        Err(OutError::SinkFault) => status_of(outcome.end, true),
+        Ok(()) => status_of(outcome.end, false),
+    }
+}
+
+// The report on a run that began.
+fn report_on(outcome: Outcome, status: Status, in_place: bool) -> Report
+    ensures status { result.status ≡ status }
     ensures finishes { result.finishes.items ≡ outcome.finishes.items }
     ensures refusals { result.refusals.items ≡ outcome.refusals.items }
     ensures attached { result.attached ≡ true }
     ensures began { result.began ≡ true }
     ensures complete { result.complete ≡ is_ended outcome.end }
-    ensures written { HasWritten outcome
-        (sink_use O.taken O.flushed O.fault_count sink.old sink.new) result.status }
-    ensures untouched { result.complete ≡ false → sink.new ≡ sink.old }
+    ensures in_place { result.in_place ≡ in_place }
 {
-    let complete = is_ended(outcome.end);
-    let status = if !complete {
-        Status::Memory
-    } else {
-        match write_replies(alloc, sink, outcome.replies.as_slice()) {
-            Err(OutError::Memory) => Status::Memory,
-            Err(OutError::SinkFault) => status_of(outcome.end, true),
-            Ok(()) => status_of(outcome.end, false),
-        }
-    };
     Report {
         status,
+        complete: is_ended(outcome.end),
         finishes: outcome.finishes,
         refusals: outcome.refusals,
         attached: true,
         began: true,
-        complete,
+        in_place,
+    }
+}
+
+/// Asks the region whether it is still in its place, where every request was answered, and writes the replies only if
+/// it is: what stands in a region that has lost its place, nobody finds. Reports in any case.
+pub fn write_outcome<O: Sink, R: SplitRegion>(
+    alloc: Global,
+    sink: &mut O,
+    region: &mut R,
+    outcome: Outcome,
+) -> Report
+    ensures finishes { result.finishes.items ≡ outcome.finishes.items }
+    ensures refusals { result.refusals.items ≡ outcome.refusals.items }
+    ensures attached { result.attached ≡ true }
+    ensures began { result.began ≡ true }
+    ensures complete { result.complete ≡ is_ended outcome.end }
+    ensures asked { result.in_place ≡ true → result.complete ≡ true }
+    ensures asks { Asks result.complete result.in_place (R.state region.old) (R.state region.new) }
+    ensures answered { HasAnswered outcome
+        (sink_use O.taken O.flushed O.fault_count sink.old sink.new) result.in_place result.status }
+    ensures untouched { result.in_place ≡ false → sink.new ≡ sink.old }
+{
+    if !is_ended(outcome.end) {
+        return report_on(outcome, Status::Memory, false);
+    }
+    match region.revalidate() {
+        Err(RegionFault) => report_on(outcome, Status::RegionFault, false),
+        Ok(()) => {
+            let status = write_text(alloc, sink, &outcome);
+            report_on(outcome, status, true)
+        }
     }
 }

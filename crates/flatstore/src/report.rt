@@ -50,6 +50,10 @@ pub struct Report {
     /// for `scan`, whether all queries were judged, since each answer is written before the next is computed. Where
     /// not, nothing was written. `format` has no text, and says no.
     pub complete: bool,
+    /// Whether the region was found in its place behind the run, before a reply was written. `replay` and `run` ask so
+    /// once every request is answered. Where it was not, its file has lost its name or its length: then no reply was
+    /// written, and the status is `RegionFault`.
+    pub in_place: bool,
 }
 
 impl Report {
@@ -61,6 +65,7 @@ impl Report {
         ensures attached { result.attached ≡ attached }
         ensures began { result.began ≡ false }
         ensures complete { result.complete ≡ false }
+        ensures in_place { result.in_place ≡ false }
     {
         Report {
             status,
@@ -69,6 +74,7 @@ impl Report {
             attached,
             began: false,
             complete: false,
+            in_place: false,
         }
     }
 }

@@ -322,3 +322,20 @@ fn an_attach_that_fails(rt: HostRuntime) -> Result<(), Fail> {
     assert!(rt; written.is_empty());
     Ok(())
 }
+
+// Attached, and out of its place when all is answered: no reply tells of the put, which is done.
+#[test]
+fn a_place_that_is_lost(rt: HostRuntime) -> Result<(), Fail> {
+    let alloc = rt.alloc();
+    let plan = Faults {
+        opens: vec![in alloc; 2]?,
+        fences: Vec::new(alloc),
+    };
+    let mut region = MemRegion::new(alloc, fresh_of(alloc, 1, 1)?, 5000, plan)?;
+    let (report, written) = replay(&rt, &mut region, "put 5 abc\nget 5\n")?;
+    assert_eq!(rt; report.status, Status::RegionFault);
+    assert_eq!(rt; (report.complete, report.in_place), (true, false));
+    assert_eq!(rt; report.finishes.len(), 1);
+    assert!(rt; written.is_empty());
+    Ok(())
+}

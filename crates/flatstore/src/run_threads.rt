@@ -58,6 +58,7 @@ impl NotRun {
         ensures attached { result.attached ≡ true }
         ensures began { result.began ≡ has_begun self }
         ensures complete { result.complete ≡ false }
+        ensures in_place { result.in_place ≡ false }
     {
         match self {
             NotRun::Refused(status) => Report::of(alloc, status, true),
@@ -97,7 +98,7 @@ fn run_cores<T: Threads + Wait + Sync, S: Source, R: SplitRegion + ReadRegion, G
 }
 
 /// Attaches the region, reads the input, runs a worker for each core in a thread of its own, and writes the replies in
-/// the order of the requests once all are joined.
+/// the order of the requests once all are joined and the region is found in its place.
 pub fn run_region<
     T: Threads + Wait + Sync,
     S: Source,
@@ -120,8 +121,9 @@ pub fn run_region<
         (sink_use O.taken O.flushed O.fault_count sink.old sink.new) result.status }
     ensures no_usage { result.status ≡ statuses.Usage → ⊥ }
 
-    // Nothing is written where the run didn't come to its end.
+    // Nothing is written where the run didn't come to its end, or the region was out of its place behind it.
     ensures incomplete { result.complete ≡ false → sink.new ≡ sink.old }
+    ensures out_of_place { result.in_place ≡ false → sink.new ≡ sink.old }
     ensures unattached { result.attached ≡ false → result.complete ≡ false }
     ensures unbegun { result.began ≡ false → AnswersNothing result }
     ensures unattached_unbegun { result.attached ≡ false → result.began ≡ false }
@@ -139,7 +141,7 @@ pub fn run_region<
         Err(AttachError::Memory) => Report::of(alloc, Status::Memory, false),
         Ok(()) => match run_cores(rt, alloc, source, region, gate) {
             Err(why) => why.report(alloc),
-            Ok(outcome) => write_outcome(alloc, sink, outcome),
+            Ok(outcome) => write_outcome(alloc, sink, region, outcome),
         },
     }
 }

@@ -176,6 +176,7 @@ fn write_answers<R: ReadRegion, O: Sink>(
         attached: true,
         began: false,
         complete: true,
+        in_place: false,
     }
 }
 

@@ -280,3 +280,20 @@ fn a_piece_that_fails(rt: HostRuntime) -> Result<(), Fail> {
     );
     Ok(())
 }
+
+// Attached, split, and out of its place when all is answered.
+#[test]
+fn a_place_that_is_lost_at_work(rt: HostRuntime) -> Result<(), Fail> {
+    let alloc = rt.alloc();
+    let plan = Faults {
+        opens: vec![in alloc; 3]?,
+        fences: Vec::new(alloc),
+    };
+    let mut region = MemRegion::new(alloc, fresh_of(alloc, 2, 2)?, 5000, plan)?;
+    let (report, written) = run(&rt, &mut region, "put 5 abc\nget 5\n")?;
+    assert_eq!(rt; report.status, Status::RegionFault);
+    assert_eq!(rt; (report.complete, report.in_place), (true, false));
+    assert_eq!(rt; report.finishes.len(), 1);
+    assert!(rt; written.is_empty());
+    Ok(())
+}
