@@ -231,7 +231,7 @@ answered_aside p m v w u k e less idle H = prepared_holds p m v w u (with_standi
     (λ j busy. ⊎_elim (λ same. absurd (let both : true ≡ false = sym busy ∙ ap (is_busy w.places.items) same ∙ idle in cc both)) (λ ne. (let r = less.others j ne in omega (arith, r))) (cases_eq j k)) H
 
 pub answered_standing : (s : State) (p : Place) (m : ℕ) (v : View) (w u : Worker) → OnlyAnswers w u → Stands s p m v w → Stands s p m v u
-answered_standing s p m v w u e S = prepared_stands s p m v w u (with_standing w u e) S
+answered_standing s p m v w u e S = subst (λ (x : Worker). Stands s p m v x) (sym e) (record { lies = S.lies; licensed = S.licensed; landed = S.landed; log = S.log; free = S.free; due = S.due; cut = S.cut; names = S.names })
 
 -- what becomes of the room for its record
 pub answered_uses : (w u : Worker) (k : ℕ) → OnlyAnswers w u → LessRoom w.index u.index k → is_busy w.places.items k ≡ false → UsesRoom w u k
