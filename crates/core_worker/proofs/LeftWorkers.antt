@@ -12,7 +12,8 @@ use Rattle.core_worker.specs.declared.types.Place.{Place}
 use Rattle.core_worker.specs.declared.types.Place.TheVariants.{Free, Staged, Posted}
 use Rattle.core_worker.specs.declared.worker.Worker.{Worker}
 use Rattle.core_worker.specs.OwnPlaces.{place_at, is_free}
-use Rattle.core_worker.specs.Beginning.{OnlyStages, IsStaged}
+use Rattle.core_index.specs.Index.{LessRoom}
+use Rattle.core_worker.specs.Beginning.{OnlyAnswers, OnlyStages, IsStaged}
 use Rattle.core_worker.specs.Accepting.{IsAsBefore}
 use Rattle.core_worker.specs.Finishing.{LetsGo, Settles}
 use Rattle.core_worker.specs.Turns.{SameButLeading, UnpledgedAt, Unpledges, persisted_left, failed_left}
@@ -55,9 +56,13 @@ staged_way w x n r only S =
     let was = free_way (place_at w.places.items S.slot) S.lowest.0 in
     omega (arith, same, places, was)
 
--- What is only answered.
-pub answered_way : (w x : Worker) → x ≡ record w { answers = x.answers } → left x ≡ left w
-answered_way w x only = ap left only
+-- What is only answered; room for a record of its key may be given back.
+pub answered_way : (w x : Worker) (k : ℕ) → OnlyAnswers w x → LessRoom w.index x.index k → left x ≤ left w
+answered_way w x k only gives =
+    let same = ap serves_left only in
+    let kept = ap (λ (y : Worker). clears_left y.accepted y.cleaning y.standing x.index y.notices.items) only in
+    let less = clears.stays w.accepted w.cleaning w.standing w.standing w.index x.index w.notices.items (omega arith) gives.untold in
+    omega (arith, same, kept, less)
 
 pub before_way : (w x : Worker) → IsAsBefore w x → left x ≤ left w
 before_way w x B =

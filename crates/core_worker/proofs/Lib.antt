@@ -101,3 +101,4 @@ pub mod Clients
 pub mod ClearsLeft
 pub mod RetiredKeys
 mod JustRooms
+mod CountedFaults

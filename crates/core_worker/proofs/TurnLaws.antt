@@ -203,9 +203,9 @@ keeps_same seat s a v w H S O agrees =
     (record { flying = v.flying; taken = v.taken; broken = v.broken; holds = v.holds; looked = v.looked; took = v.took; is = refl }) refl O.stops O (λ r. r) (omega arith)
 
 -- the lowest staged change was posted, or its block could not be written
-pub posts_did : (s t : State) (refused : Bool) (seat : SeatAt) (start before after : Option Group) (v mid u : View) (w x : Worker) (slot : ℕ) → PassesItems seat.number (at_entry w v) 8 mid → IsLowest is_staged w.places.items slot → w.stopped ≡ false → w.winds_down ≡ false → PostsOrStops seat.number before after mid u w x slot → (HasNoBlock (place_at w.places.items slot) → t ≡ s)
+pub posts_did : (s t : State) (refused : Bool) (seat : SeatAt) (start before after : Option Group) (v mid u : View) (w x : Worker) (slot : ℕ) → PassesItems seat.number (at_entry w v) 8 mid → IsLowest is_staged w.places.items slot → w.stopped ≡ false → w.winds_down ≡ false → PostsOrStops seat.number before after mid u w x slot → (HasNoBlock (place_at w.places.items slot) → t ≡ s) → (x.stopped ≡ false → t.faults ≡ s.faults)
     → Did s t refused start seat (at_entry w v) (at_entry x u)
-posts_did s t refused seat start before after v mid u w x slot passes lowest runs works which plain = ⊎_elim
+posts_did s t refused seat start before after v mid u w x slot passes lowest runs works which plain calm = ⊎_elim
     (λ done. let F = facts_of seat.number before after mid u w done.0 x slot done.1 done.2 in
     posts (record {
       slot = slot;
@@ -222,7 +222,7 @@ posts_did s t refused seat start before after v mid u w x slot passes lowest run
       places = F.places;
       view = F.view;
       same = F.same;
-    }) (λ bare. plain (subst (λ (y : WorkerPlace). HasNoBlock y) (sym F.was) bare)))
+    }) (λ bare. plain (subst (λ (y : WorkerPlace). HasNoBlock y) (sym F.was) bare)) (calm (ap (λ (y : Worker). y.stopped) F.same ∙ runs)))
     (λ stops. loses_block (record {
       slot = slot;
       mid = mid;

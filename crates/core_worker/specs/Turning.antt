@@ -64,7 +64,7 @@ pub record DropsLowest (s : State) (m : ℕ) (a b : Moment) (all : Bool) : Type 
   pub drops : Drops s slot a.worker b.worker all
   pub view : b.view ≡ mid
 
--- The item of the order of work that a turn did. Where there was no memory for what waited of a key, `all` is false. All but those that write, which lose a write, or which post behind a block that was written, leave the region as it was.
+-- The item of the order of work that a turn did. Where there was no memory for what waited of a key, `all` is false. All but those that write, which lose a write, or which post behind a block that was written, leave the region as it was. A change is posted only where no fault of the region was counted in the turn.
 pub data Did (s t : State) (refused : Bool) (before : Option Group) (seat : SeatAt)
     (a b : Moment) : Type 0 where
   goes_round : t ≡ s → GoesRound before seat a b → Did s t refused before seat a b
@@ -76,7 +76,7 @@ pub data Did (s t : State) (refused : Bool) (before : Option Group) (seat : Seat
   finishes : t ≡ s → (all : Bool) → Finishes s seat.place seat.number a b all
       → Did s t refused before seat a b
   posts : (x : Posts seat.number a b) → (PointsNowhere x.entry.body → t ≡ s)
-      → Did s t refused before seat a b
+      → t.faults ≡ s.faults → Did s t refused before seat a b
   loses_block : LosesBlock seat.number a b → Did s t refused before seat a b
   drops : t ≡ s → (all : Bool) → DropsLowest s seat.number a b all
       → Did s t refused before seat a b

@@ -275,7 +275,7 @@ pub record Posts (m : ℕ) (a b : Moment) : Type 0 where
   pub view : b.view ≡ after_post slot entry value mid
   pub same : b.worker ≡ record a.worker { places = b.worker.places; allocator = b.worker.allocator }
 
--- Item 5 at a fault: the block of the lowest staged change couldn't be written. The change stays staged, and the core stops.
+-- Item 5 at a fault: the block of the lowest staged change couldn't be written, or a fault was counted meanwhile. The change stays staged, and the core stops.
 pub record LosesBlock (m : ℕ) (a b : Moment) : Type 0 where
   pub slot : ℕ
   pub mid : View

@@ -98,8 +98,8 @@ pub(crate) fn place_in(places: &Vec<Place>, slot: u32) -> &Place
 }
 
 impl Worker {
-    // Writes the block of the change that is staged in a place. It answers false where that failed: then the core
-    // stops.
+    // Writes the block of the change that is staged in a place. It answers false where that failed, or where the
+    // region counted a fault meanwhile, whatever it answered: then the core stops.
     fn write_staged<R: Region, B: Board>(
         &mut self,
         region: &mut R,
@@ -130,11 +130,20 @@ impl Worker {
         ensures blocks { (class : ℕ) → free_block_count self.new.allocator class
             ≡ free_block_count self.old.allocator class }
         ensures cause { result ≡ false → Faulted (R.state region.old) (R.state region.new) }
+        ensures calm { result ≡ true
+            → (R.state region.new).faults ≡ (R.state region.old).faults }
     {
+        let before = region.faults();
         match place_in(&self.places, slot) {
             Place::Staged { value, .. } => {
                 match write_for(&mut self.allocator, region, board, pointer, value.bytes()) {
-                    Ok(()) => true,
+                    Ok(()) => {
+                        if region.faults() == before {
+                            return true;
+                        }
+                        self.stopped = true;
+                        false
+                    }
                     Err(_) => {
                         self.stopped = true;
                         false
@@ -264,6 +273,8 @@ impl Worker {
             → InOrderAt (B.seat board.old) (B.view board.new) self.new }
         ensures cause { self.new.stopped ≡ true
             → Faulted (R.state region.old) (R.state region.new) }
+        ensures calm { self.new.stopped ≡ false
+            → (R.state region.new).faults ≡ (R.state region.old).faults }
         ensures steps { TurnSteps true (R.state region.old) (R.state region.new)
             (B.view board.old) (B.view board.new)
             (trail_with (B.trail board.old) (B.at board.old))

@@ -97,6 +97,8 @@ impl Worker {
             (B.whole board.new) (B.view board.old) (B.view board.new) self.old self.new slot }
         ensures plain { HasNoBlock (place_at self.old.places.items slot)
             → R.state region.new ≡ R.state region.old }
+        ensures calm { self.new.stopped ≡ false
+            → (R.state region.new).faults ≡ (R.state region.old).faults }
         ensures steps { TurnSteps true (R.state region.old) (R.state region.new)
             (B.view board.old) (B.view board.new)
             (trail_with (B.trail board.old) (B.at board.old))

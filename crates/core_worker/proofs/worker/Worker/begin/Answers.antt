@@ -1,5 +1,6 @@
 -- A core that has stopped answers so.
-use Rattle.std.proofs.Common.{subst}
+use Rattle.std.proofs.Common.{subst, arith}
+use Rattle.core_worker.proofs.LeftWorkers.{answered_way}
 use Rattle.core_index.specs.Index.{LessRoom}
 use Rattle.core_worker.proofs.RoomKept.{answered_room}
 use Rattle.core_worker.proofs.Beginnings.{answered, answered_aside, answered_standing, answered_busy, answered_uses, begins_stopped}
@@ -39,3 +40,8 @@ returns-then-self-clause-line g c = line_answered c.args.self.now c.answer_at_on
 
 pub begin_running-requires-clause-nothing : goal.begin_running-requires-clause-nothing
 begin_running-requires-clause-nothing g c = c.requires.nothing c.if-self.false
+
+pub returns-then-self-clause-most : goal.returns-then-self-clause-most
+returns-then-self-clause-most g c =
+    let way = answered_way c.args.self.now c.answer_at_once.new.self _ c.answer_at_once.ensures.rest c.answer_at_once.ensures.less in
+    omega (arith, way)

@@ -11,7 +11,7 @@ use Rattle.core_worker.specs.Plans.{IsPlanOf, may_stage}
 use Rattle.core_worker.specs.Beginning.{answer_with}
 use Rattle.core_worker.proofs.Beginnings.{begins_refused, answered, answered_aside, answered_standing, answered_uses, staged_busy, staged_keeps, staged_uses}
 use Rattle.core_worker.proofs.Finding.{live_is, is_live}
-use Rattle.core_worker.proofs.LeftWorkers.{staged_way}
+use Rattle.core_worker.proofs.LeftWorkers.{answered_way, staged_way}
 use Rattle.core_worker.proofs.Pointers.{measured, live_last}
 use Rattle.core_worker.proofs.Serving.{line_answered, line_staged}
 use Rattle.core_worker.proofs.worker.Worker.begin_running.Goals as goal
@@ -185,3 +185,18 @@ pub returns-in-Delete-clause-uses : goal.returns-in-Delete-clause-uses
 returns-in-Delete-clause-uses g c =
     let is = (subst (IsPlanOf c.args.self.now c.args.request) c.in-Delete.is c.in-Ok.ensures.plan).0 in
     staged_uses c.args.self.now c.stage_delete.new.self c.args.number (key_of c.args.request) (requests.Delete c.in-Delete.key) c.stage_delete.ensures.rest c.stage_delete.ensures.staged (ap key_of (sym is))
+
+pub returns-in-Err-clause-most : goal.returns-in-Err-clause-most
+returns-in-Err-clause-most g c =
+    let way = answered_way c.args.self.now c.answer_at_once.new.self _ c.answer_at_once.ensures.rest c.answer_at_once.ensures.less in
+    omega (arith, way)
+
+pub returns-in-Get-clause-most : goal.returns-in-Get-clause-most
+returns-in-Get-clause-most g c =
+    let way = answered_way c.args.self.now c.answer_at_once-in-Get.new.self _ c.answer_at_once-in-Get.ensures.rest c.answer_at_once-in-Get.ensures.less in
+    omega (arith, way)
+
+pub returns-in-Absent-clause-most : goal.returns-in-Absent-clause-most
+returns-in-Absent-clause-most g c =
+    let way = answered_way c.args.self.now c.answer_at_once-in-Absent.new.self _ c.answer_at_once-in-Absent.ensures.rest c.answer_at_once-in-Absent.ensures.less in
+    omega (arith, way)

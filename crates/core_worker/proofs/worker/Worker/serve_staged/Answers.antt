@@ -22,7 +22,7 @@ returns-in-Post-clause-turned g c before v tells =
     let seat = g.B.Board.seat c.args.board.now in
     let chosen = c.in-Post.ensures in
     posts_did (g.R.Region.state c.args.region.now) (g.R.Region.state c.post.new.region) (g.G.Gate.may_refuse c.args.gate.now) seat before (g.B.Board.whole c.args.board.now) (g.B.Board.whole c.post.new.board) v (g.B.Board.view c.args.board.now) (g.B.Board.view c.post.new.board) c.args.self.now c.post.new.self c.in-Post.slot
-    tells.0 chosen.0 chosen.2 chosen.3 c.post.ensures.posts c.post.ensures.plain
+    tells.0 chosen.0 chosen.2 chosen.3 c.post.ensures.posts c.post.ensures.plain c.post.ensures.calm
 
 pub drop_staged-requires-clause-tied : goal.drop_staged-requires-clause-tied
 drop_staged-requires-clause-tied g c =
