@@ -1,5 +1,5 @@
 -- The worker of core 5 at the board of the second of two groups, which is opened on all words of the region.
-use Rattle.std.proofs.Common.{◌≡◌, ℕ, ◌/◌, ◌%◌, ◌<◌, List, sym, ◌∙◌, ap, subst, arith}
+use Rattle.std.proofs.Common.{◌≡◌, ℕ, ◌/◌, ◌%◌, ◌<◌, List, [], ◌∷◌, sym, ◌∙◌, ap, subst, arith}
 use Rattle.std.specs.Prelude.{slice_index_or}
 use Rattle.pm_region.specs.State.{State}
 use Rattle.pm_region.specs.Words.{lasts}
@@ -19,8 +19,13 @@ use Rattle.group_laws.specs.MemberViews.{View, view_of}
 use Rattle.group_board.specs.Seats.{SeatAt}
 use Rattle.group_board.specs.Journals.{image_of, place_in}
 use Rattle.core_worker.specs.declared.worker.Worker.{Worker}
+use Rattle.fs_model.specs.declared.model.Request.{Request}
+use Rattle.fs_model.specs.Cells.{key_of}
+use Rattle.group_engine.specs.Calls.{AreOwn}
+use Rattle.group_engine.specs.Working.{IsMember}
 use Rattle.core_worker.specs.Accepting.{HasTie, IsTied, StaysTied}
 use Rattle.core_worker.specs.Order.{InOrder}
+use Rattle.core_worker.specs.Supplies.{HasKeptRoom}
 use Rattle.core_worker.specs.Ties.{Holds, Stands}
 use Rattle.core_worker.specs.Openings.{IsNew, IsCertainAt, ByEachImage, opened_view}
 use Rattle.engine_tests.specs.WorkerTrials.{IsSeated, IsAtBoard}
@@ -67,8 +72,8 @@ module _ (s : State) (r : Recovered) (d start : CoreStart) (w : Worker) (first :
         own s r 5 d start w first words certain made found stand eight low is N,
       )
 
-  pub at_board : (g : Group) → g ≡ opened (place_at l 1) (lasts s) → IsAtBoard s g w
-  at_board g opens = subst (λ (x : Group). IsAtBoard s x w) (sym opens) (record { seated = fifth.0; own = fifth.1 })
+  pub at_board : HasKeptRoom w → (g : Group) → g ≡ opened (place_at l 1) (lasts s) → IsAtBoard s g w
+  at_board rule g opens = subst (λ (x : Group). IsAtBoard s x w) (sym opens) (record { seated = fifth.0; rule = rule; own = fifth.1 })
 
 -- so it may accept a request for one of its keys
 pub tied_at : (s : State) (g : Group) (w : Worker) → IsAtBoard s g w → (k : ℕ) → k % 8 ≡ 5 → IsTied s w k (record { place = g.place; number = 1; view = view_of g 1 })
@@ -78,10 +83,10 @@ pub has_tie : (s : State) (g : Group) (w : Worker) → IsAtBoard s g w → (k : 
 has_tie s g w at k is = (record { place = g.place; number = 1; view = view_of g 1 }, tied_at s g w at k is)
 
 -- and stays there
-pub still_at : (s : State) (g : Group) (w x : Worker) (k : ℕ) → IsAtBoard s g w → k % 8 ≡ 5 → StaysTied s w x k → IsAtBoard s g x
-still_at s g w x k at is stays =
+pub still_at : (s : State) (g : Group) (w x : Worker) (k : ℕ) → IsAtBoard s g w → k % 8 ≡ 5 → StaysTied s w x k → (HasKeptRoom w → HasKeptRoom x) → IsAtBoard s g x
+still_at s g w x k at is stays rule =
     let tied = stays (record { place = g.place; number = 1; view = view_of g 1 }) (tied_at s g w at k is) in
-    record { seated = record { holds = tied.holds; stands = tied.stands; order = tied.order }; own = at.own }
+    record { seated = record { holds = tied.holds; stands = tied.stands; order = tied.order }; rule = rule at.rule; own = at.own }
 
 -- a seat is where it was, and giving an answer out changes nothing of this
 pub seated_on : (t : State) (a b : SeatAt) (v : View) (w x : Worker) → b ≡ a → Holds a.place a.number v w → Stands t a.place a.number v w → InOrder a.place a.number v w
@@ -94,3 +99,7 @@ seated_on t a b v w x same holds stands order h s o = subst (λ (z : SeatAt). Is
   stands = s t a.place a.number v stands;
   order = o a.place a.number v order;
 })
+
+-- the worker works for that member, whose key the request's is
+pub works_at : (s : State) (p : Place) (m : ℕ) (v : View) (w : Worker) (n : ℕ) (r : Request) (queue : List (ℕ × Request)) → IsSeated s p m v w → HasKeptRoom w → owner p (key_of r) ≡ m → queue ≡ (n, r) ∷ [] → IsMember p m s v w × AreOwn p m queue
+works_at s p m v w n r queue seated rule own is = (record { holds = seated.holds; stands = seated.stands; order = seated.order; rule = λ runs. rule }, subst (AreOwn p m) (sym is) (own, tt))

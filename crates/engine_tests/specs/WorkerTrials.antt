@@ -8,6 +8,7 @@ use Rattle.core_worker.specs.declared.worker.Worker.{Worker}
 use Rattle.core_worker.specs.Accepting.{HasTie}
 use Rattle.core_worker.specs.Order.{InOrder}
 use Rattle.core_worker.specs.Status.{has_room, is_leading}
+use Rattle.core_worker.specs.Supplies.{HasKeptRoom}
 use Rattle.core_worker.specs.Ties.{Holds, Stands}
 
 -- the worker of a core of eight may accept a request for any of its keys
@@ -26,4 +27,5 @@ pub record IsSeated (s : State) (p : Place) (m : ℕ) (v : View) (w : Worker) : 
 -- so it is of core 5 as member 1 of its group, and of its keys
 pub record IsAtBoard (s : State) (g : Group) (w : Worker) : Type 0 where
   pub seated : IsSeated s g.place 1 (view_of g 1) w
+  pub rule : HasKeptRoom w
   pub own : (k : ℕ) → k % 8 ≡ 5 → owner g.place k ≡ 1

@@ -78,7 +78,7 @@ fn open_board<W: RegionWords>(
 }
 
 /// The worker of core 5 and the board of its group, in which it is member 1.
-fn seated(alloc: Global, region: &SteadyRegion) -> Result<Option<(Worker, LocalBoard)>, Fail>
+pub fn seated(alloc: Global, region: &SteadyRegion) -> Result<Option<(Worker, LocalBoard)>, Fail>
     requires first { (steady_state region.now).frame.first ≡ 0 }
     requires tells { IsTelling (steady_state region.now) }
     requires certain { IsCertain (steady_state region.now) }

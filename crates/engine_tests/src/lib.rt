@@ -7,6 +7,8 @@ mod crew_tests;
 #[cfg(test)]
 mod gate_tests;
 #[cfg(test)]
+mod heed_tests;
+#[cfg(test)]
 mod report_tests;
 #[cfg(test)]
 mod worker_tests;

@@ -123,7 +123,11 @@ module _ (b : Origin) (done : ℕ → List Deed) (holder : Option ℕ) (slot : �
       kept = refl;
       flying = refl;
       taken = refl;
+      looked = refl;
+      dead = refl;
       doomed = refl;
+      leaving = refl;
+      mailed = refl;
       broken = refl;
       holds = refl;
       posted = refl;
@@ -132,6 +136,8 @@ module _ (b : Origin) (done : ℕ → List Deed) (holder : Option ℕ) (slot : �
       last = λ k is. ap (λ j. (view_by b j (deeds_of F.1 j)).last k) is;
       cell = λ k is. ap (λ j. (view_by b j (deeds_of F.1 j)).cell k) is;
       pending = λ k is. ap (λ j. (view_by b j (deeds_of F.1 j)).pending k) is;
+      present = λ k n is. ap (λ j. (view_by b j (deeds_of F.1 j)).present k n) is;
+      told = λ k n is. ap (λ j. (view_by b j (deeds_of F.1 j)).told k n) is;
     }
 
     pub shown_at : (u : Group) × IsShown p image early u

@@ -82,7 +82,11 @@ shown_view n (x ∷ ts) tokens E d sizes zero m t u at low there = record {
   kept = ap (λ (v : View). v.kept) view;
   flying = ap (λ (v : View). v.flying) view;
   taken = ap (λ (v : View). v.taken) view;
+  looked = ap (λ (v : View). v.looked) view;
+  dead = ap (λ (v : View). v.dead) view;
   doomed = ap (λ (v : View). v.doomed) view;
+  leaving = ap (λ (v : View). v.leaving) view;
+  mailed = ap (λ (v : View). v.mailed) view;
   broken = ap (λ (v : View). v.broken) view;
   holds = ap (λ (v : View). v.holds) view;
   posted = ap (λ (v : View). v.posted) view;
@@ -91,6 +95,8 @@ shown_view n (x ∷ ts) tokens E d sizes zero m t u at low there = record {
   last = λ k own. ap (λ (v : View). v.last k) (own_view k own);
   cell = λ k own. ap (λ (v : View). v.cell k) (own_view k own);
   pending = λ k own. ap (λ (v : View). v.pending k) (own_view k own);
+  present = λ k n own. ap (λ (v : View). v.present k n) (own_view k own);
+  told = λ k n own. ap (λ (v : View). v.told k n) (own_view k own);
 } where
   long : length E.0 ≡ n
   long = E.3 ∙ sizes 0 x refl

@@ -51,12 +51,16 @@ abbrev pub fixed_in : (seat : SeatAt) (refused : Bool) (a b : WorkState) → Wor
     → List Fixed
 fixed_in seat refused a b w = fixed_along seat refused a w.path b w.leads
 
--- The state of a group has what member m has by this view, of its own keys and of its log and blocks.
+-- The state of a group has what member m has by this view: of what is a key's or a name's, that of its own keys, and all else of its own.
 pub record HasView (w : Group) (m : ℕ) (v : View) : Type 0 where
   pub kept : w.kept m ≡ v.kept
   pub flying : w.flying m ≡ v.flying
   pub taken : w.taken m ≡ v.taken
+  pub looked : w.looked m ≡ v.looked
+  pub dead : w.dead m ≡ v.dead
   pub doomed : w.doomed m ≡ v.doomed
+  pub leaving : w.leaving m ≡ v.leaving
+  pub mailed : w.mailed m ≡ v.mailed
   pub broken : w.broken m ≡ v.broken
   pub holds : w.holds m ≡ v.holds
   pub posted : w.posted m ≡ v.posted
@@ -65,6 +69,8 @@ pub record HasView (w : Group) (m : ℕ) (v : View) : Type 0 where
   pub last : (k : ℕ) → places.owner w.place k ≡ m → w.last k ≡ v.last k
   pub cell : (k : ℕ) → places.owner w.place k ≡ m → w.cell k ≡ v.cell k
   pub pending : (k : ℕ) → places.owner w.place k ≡ m → w.pending k ≡ v.pending k
+  pub present : (k n : ℕ) → places.owner w.place k ≡ m → w.present k n ≡ v.present k n
+  pub told : (k n : ℕ) → places.owner w.place k ≡ m → w.told k n ≡ v.told k n
 
 -- what a member has after its steps: the view after the newest, or that with which it began
 abbrev pub view_after : View → List TrailStep → View

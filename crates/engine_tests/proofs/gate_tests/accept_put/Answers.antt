@@ -8,4 +8,4 @@ pub accept-accepted-requires-clause-tied : goal.accept-accepted-requires-clause-
 accept-accepted-requires-clause-tied c = has_tie (steady_state c.args.region.now) (state c.args.board.now.keeper.me.0) c.args.worker.now c.requires 29 refl
 
 pub returns : goal.returns
-returns c = still_at (steady_state c.args.region.now) (state c.args.board.now.keeper.me.0) c.args.worker.now c.accept-accepted.new.self 29 c.requires refl c.accept-accepted.ensures.ties
+returns c = still_at (steady_state c.args.region.now) (state c.args.board.now.keeper.me.0) c.args.worker.now c.accept-accepted.new.self 29 c.requires refl c.accept-accepted.ensures.ties c.accept-accepted.ensures.rule

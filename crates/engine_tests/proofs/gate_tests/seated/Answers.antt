@@ -32,4 +32,4 @@ returns c =
     c.requires.first (sym c.words.ensures ∙ c.if-words-ne16896.false) c.requires.certain
     c.in_ok-found.ensures.made found (c.in_ok-found.ensures.stands c.requires.certain) eight four c.swap_remove-start.ensures.value
     c.in_ok-worker.ensures.new c.in_ok-worker.ensures.holds c.in_ok-worker.ensures.stands c.in_ok-worker.ensures.order
-    g (opened_second (lasts s) c.in_ok-found.found found eight four (words c.args.region.now) (same c.args.region.now) g c.in_ok-board.ensures)
+    c.in_ok-worker.ensures.rule g (opened_second (lasts s) c.in_ok-found.found found eight four (words c.args.region.now) (same c.args.region.now) g c.in_ok-board.ensures)

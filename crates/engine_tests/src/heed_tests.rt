@@ -1,0 +1,83 @@
+// One core's job with a put in its queue: it is answered, or left where another core has found no memory.
+ghost use Rattle.std.specs.Prelude.{◌≡◌, ℕ, [], ◌∷◌, ◌%◌, IfOk};
+ghost use Rattle.pm_region.specs.Steady.{steady_state};
+ghost use Rattle.fs_model.specs.declared.model.Request.{Request};
+ghost use Rattle.fs_model.specs.Cells.{key_of};
+ghost use Rattle.core_worker.specs.Supplies.{HasKeptRoom};
+ghost use Rattle.group_laws.specs.Places.{owner};
+ghost use Rattle.engine_tests.specs.WorkerTrials.{IsSeated};
+
+use crate::gate_tests::seated;
+use crate::worker_tests::attached;
+use core_worker::{OpenGate, Worker};
+use fs_model::{Key, Request, Value};
+use group_board::{Board, LocalSeat};
+use pm_region::SteadyRegion;
+use std::alloc::Global;
+use std::collections::VecDeque;
+use std::sync::Wait;
+use std::sync::atomic::AtomicBool;
+use std::test::Fail;
+use thread_engine::core_job::CoreJob;
+
+// A queue with a put of three bytes under this key, as request 7.
+fn queue_of(alloc: Global, key: Key) -> Result<VecDeque<(u64, Request)>, Fail>
+    ensures { IfOk result (λ q. (r : Request) × (key_of r ≡ key) × (q.items ≡ (7, r) ∷ [])) }
+{
+    let value = Value::of(Vec::from_slice(alloc, b"abc")?);
+    let mut queue = VecDeque::new(alloc);
+    queue.push_back((7, Request::Put { key, value }))?;
+    Ok(queue)
+}
+
+// Works such a queue off, where the others have said so much of memory. It gives how many requests are left, and
+// whether one was answered.
+fn worked<B: Board>(
+    rt: &impl Wait,
+    alloc: Global,
+    seat: B,
+    piece: SteadyRegion,
+    worker: Worker,
+    key: Key,
+    short: bool,
+) -> Result<(u64, bool), Fail>
+    requires seated { IsSeated (steady_state piece) (B.seat seat).place (B.seat seat).number
+        (B.view seat) worker }
+    requires rule { HasKeptRoom worker }
+    requires own { owner (B.seat seat).place key ≡ (B.seat seat).number }
+{
+    let queue = queue_of(alloc, key)?;
+    let mut job = CoreJob {
+        seat,
+        piece,
+        worker,
+        queue,
+    };
+    job.work(rt, alloc, &OpenGate, &AtomicBool::new(short));
+    Ok((job.queue.len() as u64, job.worker.next_answer().is_some()))
+}
+
+fn worked_at_board(rt: &HostRuntime, short: bool) -> Result<(u64, bool), Fail> {
+    let alloc = rt.alloc();
+    let region = attached(alloc)?;
+    let Some((worker, mut board)) = seated(alloc, &region)? else {
+        return Ok((0, false));
+    };
+    let seat = LocalSeat {
+        board: &mut board,
+        member: 1,
+    };
+    worked(rt, alloc, seat, region, worker, 29, short)
+}
+
+#[test]
+fn works_off(rt: HostRuntime) -> Result<(), Fail> {
+    assert_eq!(rt; worked_at_board(&rt, false)?, (0, true));
+    Ok(())
+}
+
+#[test]
+fn heeds_want_of_memory(rt: HostRuntime) -> Result<(), Fail> {
+    assert_eq!(rt; worked_at_board(&rt, true)?, (1, false));
+    Ok(())
+}
