@@ -95,6 +95,10 @@ module _ (image : ℕ → ℕ) (trace : List Request) (ans : ℕ → Option Answ
   spent_of = all_map Is (λ (x : Refusal). (last : ℕ) → x.why ≡ causes.Versions last → (k : ℕ) → IsAsked trace x.request k → 1048574 ≤ version_of image k + changes_asked k (take x.request trace))
       (λ x h last why k asked. C.spent x.request h.answer h.is (h.what_is ∙ ap reply_to why) k asked) refusals each
 
+  pub long_of : AllByRecursion (λ (x : Refusal). (n : ℕ) → x.why ≡ causes.Length n → (q : Request) → slice_get trace x.request ≡ Some q → is_too_long l q ≡ true) refusals
+  long_of = all_map Is (λ (x : Refusal). (n : ℕ) → x.why ≡ causes.Length n → (q : Request) → slice_get trace x.request ≡ Some q → is_too_long l q ≡ true)
+      (λ x h n why q asked. C.long x.request h.answer h.is (h.what_is ∙ ap reply_to why) q asked) refusals each
+
   -- nothing is refused within all limits
   module _ (W : IsWithinLimits image trace) where
     no_room : (x : Refusal) → Is x → reply_to x.why ≡ Full → ⊥

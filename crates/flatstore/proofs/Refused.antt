@@ -1,6 +1,6 @@
 -- From a replay that answered nothing to what the program promises.
 use Rattle.std.proofs.Common.{◌≡◌, ◌⊎◌, inl, inr, ℕ, ◌+◌, ◌≤◌, take, arith, List, [], ◌∷◌, sym, ◌∙◌, ap, subst, refl, true, false, Bool, Option, Some, None, Result, Ok, Err}
-use Rattle.std.specs.List.{AllByRecursion}
+use Rattle.std.specs.List.{AllByRecursion, slice_get}
 use Rattle.pm_region.specs.State.{State, IsTold, IsTelling, Rose}
 use Rattle.pm_region.specs.Split.{Attached}
 use Rattle.pm_region.specs.Words.{lasts}
@@ -17,9 +17,9 @@ use Rattle.store_image.specs.declared.types.Fault.{Fault}
 use Rattle.store_image.specs.declared.types.Fault.TheVariants as faults
 use Rattle.store_image.specs.Soundness.{IsSound, first_fault}
 use Rattle.store_image.proofs.Clients.{superblock_facts, has_layout}
-use Rattle.core_room.specs.declared.types.Shortage.TheVariants.{Versions}
+use Rattle.core_room.specs.declared.types.Shortage.TheVariants.{Versions, Length}
 use Rattle.headline.specs.Ample.{IsAmpleFor}
-use Rattle.headline.specs.Limits.{IsAsked, version_of, changes_asked}
+use Rattle.headline.specs.Limits.{IsAsked, version_of, changes_asked, is_too_long}
 use Rattle.headline.specs.Headline.{Told, Answers, cells_of, finished_in, refused_in, RecoversThroughout}
 use Rattle.headline.specs.Run.{Recorded}
 use Rattle.headline.proofs.Clients.{recorded}
@@ -163,6 +163,9 @@ module _ (old s : State) (found : ℕ → ℕ) (A : Attached old s s.frame.bytes
   pub none_spent : AllByRecursion (λ (x : Refusal). (last : ℕ) → x.why ≡ Versions last → (k : ℕ) → IsAsked trace x.request k → LAST_PUT_VERSION ≤ version_of found k + changes_asked k (take x.request trace)) r.refusals.items
   none_spent = subst (λ xs. AllByRecursion (λ (x : Refusal). (last : ℕ) → x.why ≡ Versions last → (k : ℕ) → IsAsked trace x.request k → LAST_PUT_VERSION ≤ version_of found k + changes_asked k (take x.request trace)) xs) (sym ref) tt
 
+  pub none_long : AllByRecursion (λ (x : Refusal). (n : ℕ) → x.why ≡ Length n → (q : Request) → slice_get trace x.request ≡ Some q → is_too_long (layout_of found) q ≡ true) r.refusals.items
+  none_long = subst (λ xs. AllByRecursion (λ (x : Refusal). (n : ℕ) → x.why ≡ Length n → (q : Request) → slice_get trace x.request ≡ Some q → is_too_long (layout_of found) q ≡ true) xs) (sym ref) tt
+
 module _ (old s : State) (found : ℕ → ℕ) (A : Attached old s s.frame.bytes found) (source : SourceUse) (status : Status) (U : IsRefused s source status) where
   unread_none : (cores : ℕ) → IsUnread source cores status → answers_none status ≡ true
   unread_none cores (inl u) = ap answers_none u.4 ∙ broken_none (input_of cores u.1) u.3
@@ -216,6 +219,8 @@ module _ (old s : State) (found : ℕ → ℕ) (A : Attached old s s.frame.bytes
       full = λ telling. none_full old s found A r fin ref cut cores input;
       spent = λ telling. none_spent old s found A r fin ref cut cores input;
       unrefused = λ telling within. ref;
+      long = λ telling. none_long old s found A r fin ref cut cores input;
+      short = λ memory began no. both r.began began unbegun;
     }
 
   unserved_due : IsUnserved s status → (input : List ℕ) → IsTelling s → (sink : SinkUse) → IsDue s.frame.bytes found input status ⊎ IsFault old s source sink status

@@ -23,7 +23,7 @@ use Rattle.flatstore.proofs.Causing.{HasCauses}
 use Rattle.flatstore.proofs.Running as running
 use Rattle.flatstore.proofs.Serving.{Known, serves, ends_then, counts_faults}
 use Rattle.flatstore.proofs.Standing.{origin_cores}
-use Rattle.flatstore.proofs.Staying.{asks_stays, asks_later, asks_rose}
+use Rattle.flatstore.proofs.Staying.{asks_stays, asks_later, asks_none, asks_rose}
 
 none_behind : {X : Type 0} (xs ys : List X) → xs ≡ xs ++ ys → ys ≡ []
 none_behind xs [] e = refl
@@ -95,6 +95,7 @@ module _ (old s t : State) (found word : ℕ → ℕ) (A : Attached old s s.fram
     done = P.ran.done;
     fault = P.ran.fault;
     whole = P.ran.complete;
+    ceased = P.ran.ceased;
     causes = causes;
   }
 
@@ -116,16 +117,19 @@ module _ (old s t : State) (found word : ℕ → ℕ) (A : Attached old s s.fram
     lost : r.complete ≡ true → r.in_place ≡ false → Rose f.region.faults u.faults
     lost = asks_rose r.complete r.in_place f.region u asks_last
 
+    unasked : r.complete ≡ false → f.region ≡ u
+    unasked = asks_none r.complete r.in_place f.region u asks_last
+
     replays : Replays old u found source cores input sink r
     replays = record {
-      serves = serves old u found source cores input o f x known still later P.ready.read.whole sink r W lost report_told begun complete_is;
-      ends = ends_then old u found source cores input o f x known still later P.ready.read.whole sink r W lost report_told begun complete_is;
+      serves = serves old u found source cores input o f x known still later P.ready.read.whole sink r W lost unasked report_told begun complete_is;
+      ends = ends_then old u found source cores input o f x known still later P.ready.read.whole sink r W lost unasked report_told begun complete_is;
       run = λ whole. running.ran_to old s t found word A once granted P.recovered P.ready.stands cores input P.lines P.ready.read.good x P.ran count u (asks_stays r.complete r.in_place t u asks) sink r W finishes refusals complete_is whole
           (subst (λ b. Asks b r.in_place t u) whole asks);
     }
 
     pub replay_counts : CountsFaults old u source sink r.status
-    replay_counts = counts_faults old u found source cores input o f x known still later P.ready.read.whole sink r W lost report_told begun complete_is
+    replay_counts = counts_faults old u found source cores input o f x known still later P.ready.read.whole sink r W lost unasked report_told begun complete_is
 
     pub promise : (input : List ℕ) × (cores : ℕ) × IsInput source.coming input × Replays old u found source cores input sink r
     promise = (input, cores, P.ready.read.is_input, replays)

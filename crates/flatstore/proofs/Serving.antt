@@ -1,6 +1,6 @@
 -- From the last state of a run to what the program promises of it, whoever made the moves of its cores.
-use Rattle.std.proofs.Common.{◌≡◌, ◌≢◌, ◌⊎◌, inl, inr, ℕ, ◌/◌, ◌<◌, ◌≤◌, List, [], ◌++◌, length, refl, sym, ◌∙◌, ap, subst, arith, true, false, Bool, None, append-nil, map, take, ◌+◌, ◌%◌, length-append, Ok}
-use Rattle.std.specs.List.{AllByRecursion}
+use Rattle.std.proofs.Common.{◌≡◌, ◌≢◌, ◌⊎◌, inl, inr, ℕ, ◌/◌, ◌<◌, ◌≤◌, List, [], ◌++◌, length, refl, sym, ◌∙◌, ap, subst, arith, true, false, Bool, Some, None, append-nil, map, take, ◌+◌, ◌%◌, length-append, Ok}
+use Rattle.std.specs.List.{AllByRecursion, slice_get}
 use Rattle.pm_region.specs.Cell.{Cell}
 use Rattle.pm_region.specs.State.{State, IsTold, IsTelling, MayLeave, Rose, cell_now}
 use Rattle.pm_region.specs.Split.{Attached, Stays}
@@ -23,12 +23,14 @@ use Rattle.headline.specs.Headline.{Answers, Told, finished_in, refused_in, cell
 use Rattle.headline.specs.Kinds.{AreReplies}
 use Rattle.headline.specs.Ample.{IsAmpleFor}
 use Rattle.headline.specs.Limits.{IsAsked, version_of, changes_asked, is_too_long, IsWithinLimits}
-use Rattle.core_room.specs.declared.types.Shortage.TheVariants.{Versions}
+use Rattle.core_room.specs.declared.types.Shortage.TheVariants.{Versions, Length}
 use Rattle.engine_laws.specs.Engine.{Engine}
 use Rattle.engine_laws.specs.Stands.{Origin, start_of}
 use Rattle.engine_laws.specs.Promises.{IsOrigin, Promised, IsDone, HasStopped}
+use Rattle.engine_laws.specs.Ceasing.{HasCeased}
 use Rattle.engine_laws.specs.Ran as runs
 use Rattle.engine_laws.specs.Reports.{told_of, replies_from, AllAnswered}
+use Rattle.group_engine.specs.declared.run_outcome.End.{End}
 use Rattle.group_engine.specs.declared.run_outcome.End.TheVariants as ends
 use Rattle.group_engine.specs.declared.run_outcome.Outcome.{Outcome}
 use Rattle.group_engine.specs.Replayed.{report_in}
@@ -36,7 +38,7 @@ use Rattle.group_engine.specs.Reports.{ReportsOn, told_by}
 use Rattle.group_engine.specs.Answers.{reply_to}
 use Rattle.group_engine.specs.declared.run_report.Refusal.{Refusal}
 use Rattle.flatstore.specs.Ends.{SourceUse, SinkUse, CountsFaults}
-use Rattle.flatstore.specs.LastStates.{told_in, AreRising}
+use Rattle.flatstore.specs.LastStates.{told_in, AreRising, WindsDown}
 use Rattle.flatstore.specs.Ordering.{KeepsOrder, IsServed, due, IsDue, IsFault, status_of, is_broken, is_quiet, is_of_line, is_whole}
 use Rattle.flatstore.specs.Promise.{WritesAll, WritesFront, Serves, asked_in}
 use Rattle.flatstore.specs.Played.{HasAnswered, is_ended}
@@ -48,7 +50,7 @@ use Rattle.flatstore.proofs.Attached.{found_words}
 use Rattle.flatstore.proofs.Agreeing as agreeing
 use Rattle.flatstore.proofs.Numbering.{all_map, rising}
 use Rattle.flatstore.proofs.Staying.{told_still, tells_still, leaves_still, leaves_now}
-use Rattle.flatstore.proofs.Causing.{HasCauses, full_of, spent_of, unrefused_of}
+use Rattle.flatstore.proofs.Causing.{HasCauses, full_of, spent_of, unrefused_of, long_of}
 use Rattle.flatstore.proofs.Texts.{both, takes_front, all_text, front_text, no_text, small_sound}
 
 -- What is known of a run on a region that was attached, by the requests of an input, whoever made the moves of its cores.
@@ -73,6 +75,7 @@ pub record Known (old : State) (found : ℕ → ℕ) (cores : ℕ) (input : List
   pub done : x.end ≢ ends.Memory → IsDone o f
   pub fault : x.end ≡ ends.RegionFault → HasStopped f
   pub whole : x.end ≡ ends.Complete → (c : ℕ) → c < f.layout.cores → f.stopped c ≡ false
+  pub ceased : x.end ≡ ends.Memory → HasCeased f
   pub causes : HasCauses o.found (f.given ++ more) f.answer
 
 -- The region says what it said in the last state, but for its counts.
@@ -123,7 +126,7 @@ module _ (old t : State) (found : ℕ → ℕ) (source : SourceUse) (cores : ℕ
 
   -- of a report on it, and what was written
   module _ (read_out : IsReadOut source.coming source.left) (sink : SinkUse) (r : Report) (W : HasAnswered x sink r.in_place r.status)
-      (lost : r.complete ≡ true → r.in_place ≡ false → Rose f.region.faults t.faults) (report_told : told_in r ≡ told_by (report_in x)) (report_began : r.began ≡ true) (report_complete : r.complete ≡ is_ended x.end) where
+      (lost : r.complete ≡ true → r.in_place ≡ false → Rose f.region.faults t.faults) (unasked : r.complete ≡ false → f.region ≡ t) (report_told : told_in r ≡ told_by (report_in x)) (report_began : r.began ≡ true) (report_complete : r.complete ≡ is_ended x.end) where
     pub told_is : told_in r ≡ told_of f
     told_is = report_told ∙ K.reports.told_is
 
@@ -368,6 +371,17 @@ module _ (old t : State) (found : ℕ → ℕ) (source : SourceUse) (cores : ℕ
       pub unrefused_then : IsWithinLimits found trace → r.refusals.items ≡ []
       unrefused_then = unrefused_of found trace f.answer causes_found (length f.given) within r.refusals.items told_refused some_cores
 
+      pub long_then : AllByRecursion (λ (y : Refusal). (n : ℕ) → y.why ≡ Length n → (q : Request) → slice_get trace y.request ≡ Some q → is_too_long l q ≡ true) r.refusals.items
+      long_then = long_of found trace f.answer causes_found (length f.given) within r.refusals.items told_refused some_cores
+
+    -- there was no memory before the end
+    short_then : r.complete ≡ false → WindsDown t r
+    short_then cut = record { state = f; region = unasked cut; ceased = K.ceased (by x.end (sym report_complete ∙ cut)); told_is = told_is } where
+      by : (e : End) → is_ended e ≡ false → e ≡ ends.Memory
+      by ends.Complete is = absurd (cc is)
+      by ends.RegionFault is = absurd (cc is)
+      by ends.Memory is = refl
+
     pub serves : Serves old t found source cores input sink r
     serves = record {
       cores_are = λ n told. cores_found (K.was n (told_still f.region t still n told));
@@ -385,6 +399,8 @@ module _ (old t : State) (found : ℕ → ℕ) (source : SourceUse) (cores : ℕ
       full = full_then;
       spent = spent_then;
       unrefused = unrefused_then;
+      long = long_then;
+      short = λ memory began cut. short_then cut;
     }
 
     -- Each fault that the status tells was counted.

@@ -81,6 +81,10 @@ asks_later true true s t is n low rose = let same = ap (λ (z : State). z.faults
 asks_later true false s t is n low rose = let more = is.faulted in omega (arith, low, more)
 asks_later false in_place s t is n low rose = let same = ap (λ (z : State). z.faults) is in omega (arith, same, rose)
 
+pub asks_none : (complete in_place : Bool) (s t : State) → Asks complete in_place s t → complete ≡ false → s ≡ t
+asks_none true in_place s t is cut = cc (sym cut)
+asks_none false in_place s t is cut = sym is
+
 pub asks_rose : (complete in_place : Bool) (s t : State) → Asks complete in_place s t → complete ≡ true → in_place ≡ false → Rose s.faults t.faults
 asks_rose true true s t is whole out = cc (sym out)
 asks_rose true false s t is whole out = is.faulted

@@ -36,10 +36,10 @@ use Rattle.flatstore.specs.declared.report.Report.{Report}
 use Rattle.flatstore.specs.declared.run_threads.NotRun.{NotRun}
 use Rattle.flatstore.specs.declared.run_threads.NotRun.TheVariants.{Refused, Unsplit}
 use Rattle.flatstore.proofs.Causing.{HasCauses}
-use Rattle.flatstore.proofs.Refused.{served_by, apart_from, told_now, none_begins, none_lost, none_rising, none_full, none_spent, refused_serves, refused_fault, refused_source}
+use Rattle.flatstore.proofs.Refused.{served_by, apart_from, told_now, none_begins, none_lost, none_rising, none_full, none_spent, none_long, refused_serves, refused_fault, refused_source}
 use Rattle.flatstore.proofs.Serving.{Known, serves, ends_then, counts_faults, words_found}
 use Rattle.flatstore.proofs.Standing.{counted_by, origin_cores}
-use Rattle.flatstore.proofs.Staying.{tells_still, attached_still, cells_still, asks_stays, asks_later, asks_rose}
+use Rattle.flatstore.proofs.Staying.{tells_still, attached_still, cells_still, asks_stays, asks_later, asks_none, asks_rose}
 use Rattle.flatstore.proofs.Texts.{both}
 use Rattle.flatstore.proofs.Written.{front_written, all_written, fault_end, whole_end}
 
@@ -181,6 +181,8 @@ module _ (old s t : State) (found word : ℕ → ℕ) (A : Attached old s s.fram
         full = λ telling. none_full old t found still r fin ref cut own_cores own_input;
         spent = λ telling. none_spent old t found still r fin ref cut own_cores own_input;
         unrefused = λ telling within. ref;
+        long = λ telling. none_long old t found still r fin ref cut own_cores own_input;
+        short = λ memory began no. cc (sym is ∙ memory);
       }
 
       unsplit : Promised
@@ -270,6 +272,7 @@ module _ (old s t : State) (found word : ℕ → ℕ) (A : Attached old s s.fram
     done = P.ran.done;
     fault = P.ran.fault;
     whole = P.ran.complete;
+    ceased = P.ran.ceased;
     causes = causes;
   }
 
@@ -290,6 +293,9 @@ module _ (old s t : State) (found word : ℕ → ℕ) (A : Attached old s s.fram
 
     lost : r.complete ≡ true → r.in_place ≡ false → Rose f.region.faults u.faults
     lost = asks_rose r.complete r.in_place f.region u asks_last
+
+    unasked : r.complete ≡ false → f.region ≡ u
+    unasked = asks_none r.complete r.in_place f.region u asks_last
 
     abbrev from : GoesOnBy Rejoined old f.region u.frame.bytes found
     from = record { at = s; attached = subst (λ n. Attached old s n found) (sym (still.bytes ∙ bytes)) A; once = once; granted = granted; on = subst (λ z. Rejoined s z) (sym P.ran.region) P.ran.rejoined }
@@ -347,7 +353,7 @@ module _ (old s t : State) (found word : ℕ → ℕ) (A : Attached old s s.fram
         ended is m = both (is_ended x.end) is (ap is_ended m)
 
     pub run_counts : CountsFaults old u source sink r.status
-    run_counts = counts_faults old u found source cores input o f x known still later P.ready.read.whole sink r W lost report_told begun complete_is
+    run_counts = counts_faults old u found source cores input o f x known still later P.ready.read.whole sink r W lost unasked report_told begun complete_is
 
     pub ran_on : (input : List ℕ) × (cores : ℕ) × IsInput source.coming input × RunsOnThreads old u found source refused cores input sink r
     ran_on = (
@@ -355,8 +361,8 @@ module _ (old s t : State) (found word : ℕ → ℕ) (A : Attached old s s.fram
       cores,
       P.ready.read.is_input,
       record {
-        serves = serves old u found source cores input o f x known still later P.ready.read.whole sink r W lost report_told begun complete_is;
-        unsplit = λ failed no. both r.complete (ends_then old u found source cores input o f x known still later P.ready.read.whole sink r W lost report_told begun complete_is failed) no;
+        serves = serves old u found source cores input o f x known still later P.ready.read.whole sink r W lost unasked report_told begun complete_is;
+        unsplit = λ failed no. both r.complete (ends_then old u found source cores input o f x known still later P.ready.read.whole sink r W lost unasked report_told begun complete_is failed) no;
         run = ran_then;
       },
     )

@@ -12,6 +12,7 @@ use Rattle.recover.specs.declared.types.Recovered.{Recovered}
 use Rattle.core_worker.specs.declared.worker.Worker.{Worker}
 use Rattle.engine_laws.specs.Engine.{Engine}
 use Rattle.engine_laws.specs.Promises.{HasStopped}
+use Rattle.engine_laws.specs.Ceasing.{HasCeased}
 use Rattle.engine_laws.specs.Parts.{AllLicensed}
 use Rattle.engine_laws.specs.Stands.{Origin}
 use Rattle.engine_laws.specs.Ran.{Ran}
@@ -40,6 +41,14 @@ AreRising (n ∷ ns) = AllByRecursion (λ m. n < m) ns × AreRising ns
 -- every core goes on to the end
 abbrev pub NoneHasStopped : Engine → Type 0
 NoneHasStopped e = (c : ℕ) → c < e.layout.cores → e.stopped c ≡ false
+
+-- The report is on a state of the run, at the region's end, in which every worker has wound down: nobody leads, and all
+-- that was posted or taken is finished. What was staged or waited has no answer.
+pub record WindsDown (new : State) (r : Report) : Type 0 where
+  pub state : Engine
+  pub region : state.region ≡ new
+  pub ceased : HasCeased state
+  pub told_is : told_in r ≡ told_of state
 
 -- The words that a run begins with in a region that was just attached, and what recovery gave of them.
 pub record Starts (at : State) (found : ℕ → ℕ) (cores : ℕ) : Type 0 where

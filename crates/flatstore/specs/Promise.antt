@@ -1,6 +1,6 @@
 -- What a call of the program promises, over the region, the source and the sink before and after it.
 use Rattle.std.specs.Prelude.{◌≡◌, ◌⊎◌, ℕ, ◌+◌, ◌≤◌, List, [], take, true, false, Option, Some, None}
-use Rattle.std.specs.List.{AllByRecursion}
+use Rattle.std.specs.List.{AllByRecursion, slice_get}
 use Rattle.fs_model.specs.declared.model.Request.{Request}
 use Rattle.fs_model.specs.declared.model.Reply.TheVariants.{Full}
 use Rattle.pm_region.specs.State.{State, IsTold, IsTelling, Faulted, Rose}
@@ -8,14 +8,14 @@ use Rattle.fs_text.specs.Input.{trace_of}
 use Rattle.fs_text.specs.Streams.{Takes}
 use Rattle.headline.specs.Headline.{Told, cells_of, finished_in, refused_in, WritesReplies, BeginsReplies, RecoversThroughout, RecoversAll}
 use Rattle.headline.specs.Ample.{IsAmpleFor}
-use Rattle.headline.specs.Limits.{IsAsked, version_of, changes_asked, IsWithinLimits}
+use Rattle.headline.specs.Limits.{IsAsked, version_of, changes_asked, is_too_long, IsWithinLimits}
 use Rattle.chunk_map.specs.Layouts.{layout_of, owner}
 use Rattle.log_entry.specs.declared.entry_limits.TheConstants.{LAST_PUT_VERSION}
 use Rattle.store_image.specs.Soundness.{IsSound}
-use Rattle.core_room.specs.declared.types.Shortage.TheVariants.{Versions}
+use Rattle.core_room.specs.declared.types.Shortage.TheVariants.{Versions, Length}
 use Rattle.group_engine.specs.Answers.{reply_to}
 use Rattle.flatstore.specs.Ends.{SourceUse, SinkUse}
-use Rattle.flatstore.specs.LastStates.{told_in, AreRising, RanTo}
+use Rattle.flatstore.specs.LastStates.{told_in, AreRising, RanTo, WindsDown}
 use Rattle.flatstore.specs.Ordering.{KeepsOrder, IsDue, IsFault, is_whole}
 use Rattle.flatstore.specs.declared.report.Status.TheVariants as statuses
 use Rattle.flatstore.specs.declared.report.Report.{Report}
@@ -87,6 +87,13 @@ pub record Serves (old new : State) (found : ℕ → ℕ) (source : SourceUse) (
       (take x.request (asked_in cores input))) r.refusals.items
   pub unrefused : IsTelling new → IsWithinLimits found (asked_in cores input)
       → r.refusals.items ≡ []
+  -- A request is refused for its length only where it is too long, as a put alone can be.
+  pub long : IsTelling new → AllByRecursion (λ x. (bytes : ℕ) → x.why ≡ Length bytes
+      → (q : Request) → slice_get (asked_in cores input) x.request ≡ Some q
+      → is_too_long (layout_of found) q ≡ true) r.refusals.items
+  -- Where there was no memory for all of a run that began, every worker wound down.
+  pub short : r.status ≡ statuses.Memory → r.began ≡ true → r.complete ≡ false
+      → WindsDown new r
 
 -- The headline, of a replay: one thread makes the moves of all cores, by the lines of the input.
 pub record Replays (old new : State) (found : ℕ → ℕ) (source : SourceUse) (cores : ℕ)
