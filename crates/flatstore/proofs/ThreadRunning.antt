@@ -29,7 +29,7 @@ use Rattle.flatstore.specs.Ordering.{KeepsOrder, IsServed, is_broken, is_of_line
 use Rattle.flatstore.specs.Promise.{IsInput, Serves}
 use Rattle.flatstore.specs.Played.{IsReady, IsRefused, HasAnswered, is_ended}
 use Rattle.flatstore.specs.ThreadPlays.{PlayedApart, HasNotSplit, IsNotRun, WhyNotRun, why_of, status_for, has_begun}
-use Rattle.flatstore.specs.ThreadRuns.{RanOnThreads, RunsOnThreads}
+use Rattle.flatstore.specs.ThreadRuns.{CoresRan, RanOnThreads, RunsOnThreads}
 use Rattle.flatstore.specs.declared.report.Status.{Status}
 use Rattle.flatstore.specs.declared.report.Status.TheVariants as statuses
 use Rattle.flatstore.specs.declared.report.Report.{Report}
@@ -131,7 +131,7 @@ module _ (old s t : State) (found word : ℕ → ℕ) (A : Attached old s s.fram
       early_serves : (input : List ℕ) × (cores : ℕ) × IsInput source.coming input × RunsOnThreads old u found source refused cores input sink r
       early_serves =
           let x = refused_serves old u found B source status U r is fin ref unbegun cut unplaced sink same in
-          (x.0, x.1, x.2, record { serves = x.3; unsplit = λ failed no. absurd (refused_fault old u found B source status U r is failed); run = λ complete. both r.complete complete cut })
+          (x.0, x.1, x.2, record { serves = x.3; unsplit = λ failed no. absurd (refused_fault old u found B source status U r is failed); worked = λ began steady. both r.began began unbegun; run = λ complete. both r.complete complete cut })
 
     early : (status : Status) → WhyNotRun s word t source (Refused status) → r.status ≡ status → r.began ≡ false → Promised
     early status (inl x) is unbegun = subst (λ z. (input : List ℕ) × (cores : ℕ) × IsInput source.coming input × RunsOnThreads old z found source refused cores input sink r) (sym x.0)
@@ -190,7 +190,7 @@ module _ (old s t : State) (found word : ℕ → ℕ) (A : Attached old s s.fram
         own_input,
         own_cores,
         h.ready.read.is_input,
-        record { serves = split_serves; unsplit = λ failed no. (still, subst (λ n. Rose n t.frame.refusals) granted h.refused); run = λ complete. both r.complete complete cut },
+        record { serves = split_serves; unsplit = λ failed no. (still, subst (λ n. Rose n t.frame.refusals) granted h.refused); worked = λ began steady. both r.complete (steady is) cut; run = λ complete. both r.complete complete cut },
       )
 
     by_why : (y : NotRun) → WhyNotRun s word t source y → r.status ≡ status_for y → r.began ≡ has_begun y → Promised
@@ -312,41 +312,48 @@ module _ (old s t : State) (found word : ℕ → ℕ) (A : Attached old s s.fram
     licensed_last : IsTelling f.region → AllLicensed f.layout f.group (cell_now f.region)
     licensed_last = subst (λ z. IsTelling z → AllLicensed f.layout f.group (cell_now z)) (sym P.ran.region) P.ran.licensed
 
+    cores_ran : CoresRan old u found refused cores input r
+    cores_ran = record {
+      f = f;
+      from = from;
+      start = record {
+        word = word;
+        recovered = P.recovered;
+        stands = P.ready.stands;
+        origin = o;
+        begins = P.ran.begins;
+        words = subst (λ (z : State). IsTelling z → (w : ℕ) → w < z.frame.bytes / 8 → o.found w ≡ found w) began
+            (words_found old u found source cores input o f x known still later);
+        count = count;
+      };
+      lines = P.lines;
+      good = P.ready.read.good;
+      given = P.ran.given;
+      ran = P.ran.ran;
+      inside = P.ran.inside;
+      ends = asks_last;
+      next = λ telling told latest low each. subst (λ n. n ≤ counted latest) (sym (still.stamp ∙ ap (λ (z : State). z.stamp) P.ran.region)) (P.ran.next telling told latest low each);
+      kept = P.ran.kept;
+      keeps = P.ran.keeps;
+      finishes = finishes ∙ P.ran.report.finishes;
+      refusals = refusals ∙ P.ran.report.refusals;
+      told_is = report_told ∙ P.ran.reports.told_is;
+      licensed = λ telling. subst (AllLicensed f.layout f.group) (λ i w. sym (cells_still f.region u still w) i) (licensed_last (tells_still f.region u still telling));
+    }
+
     ran_then : r.complete ≡ true → RanOnThreads old u found refused cores input sink r
+    unfolding cores_ran
     ran_then complete =
         let end : is_ended x.end ≡ true = sym complete_is ∙ complete in
         let not_cut : x.end ≢ ends.Memory = ended end in
         record {
-          f = f;
-          from = from;
-          start = record {
-            word = word;
-            recovered = P.recovered;
-            stands = P.ready.stands;
-            origin = o;
-            begins = P.ran.begins;
-            words = subst (λ (z : State). IsTelling z → (w : ℕ) → w < z.frame.bytes / 8 → o.found w ≡ found w) began
-                (words_found old u found source cores input o f x known still later);
-            count = count;
-          };
-          lines = P.lines;
-          good = P.ready.read.good;
-          given = P.ran.given;
-          ran = P.ran.ran;
-          ends = subst (λ b. Asks b r.in_place f.region u) complete asks_last;
-          next = λ telling told latest low each. subst (λ n. n ≤ counted latest) (sym (still.stamp ∙ ap (λ (z : State). z.stamp) P.ran.region)) (P.ran.next telling told latest low each);
+          all = cores_ran;
           answered = (P.ran.done not_cut).answered;
           drained = (P.ran.done not_cut).drained;
-          kept = P.ran.kept;
-          keeps = P.ran.keeps;
-          finishes = finishes ∙ P.ran.report.finishes;
-          refusals = refusals ∙ P.ran.report.refusals;
-          told_is = report_told ∙ P.ran.reports.told_is;
           begins = subst (λ text. TakesPrefix sink.before sink.now text) text_is (front_written x sink r.status r.in_place W);
           writes = λ here out. subst (λ text. Takes sink.before sink.now text) text_is (all_written x sink r.status r.in_place W here out);
           stops = λ fault here. P.ran.fault (fault_end x sink r.status r.in_place W fault here);
           goes = λ whole. P.ran.complete (whole_end x sink r.status r.in_place W whole);
-          licensed = λ telling. subst (AllLicensed f.layout f.group) (λ i w. sym (cells_still f.region u still w) i) (licensed_last (tells_still f.region u still telling));
         }
       where
         ended : is_ended x.end ≡ true → x.end ≢ ends.Memory
@@ -363,6 +370,7 @@ module _ (old s t : State) (found word : ℕ → ℕ) (A : Attached old s s.fram
       record {
         serves = serves old u found source cores input o f x known still later P.ready.read.whole sink r W lost unasked report_told begun complete_is;
         unsplit = λ failed no. both r.complete (ends_then old u found source cores input o f x known still later P.ready.read.whole sink r W lost unasked report_told begun complete_is failed) no;
+        worked = λ begun_is steady. cores_ran;
         run = ran_then;
       },
     )

@@ -33,6 +33,8 @@ mod judging_tests;
 #[cfg(test)]
 mod log_tests;
 mod logging;
+#[cfg(test)]
+mod meeting_tests;
 mod parser;
 mod playing;
 mod replay;

@@ -127,7 +127,7 @@ module _ (p : Place) (m : ℕ) (s t : State) (refused : Bool) (before : Option G
   did_keeps (marks quiet M) = ap (λ (z : View). z.blocks q) M.view
   did_keeps (fails quiet F) = ap (λ (z : View). z.blocks q) F.view
   did_keeps (finishes quiet all F) = taken_back F.slot F.mid F.finishes.freed (ap (λ (z : View). z.blocks) F.before.looked.view) F.finishes.takes.home F.finishes.takes.entry F.finishes.takes.view
-  did_keeps (posts P plain) =
+  did_keeps (posts P plain calm) =
       let mid = P.before.looked.view in
       let other : k ≢ P.entry.key = out_key P.mid.pending P.entry.key k (Some (record { entry = P.entry; slot = Some P.slot })) d (sym (ap (λ (z : View). z.pending k) P.view) ∙ is) (λ e. none_some P.slot (slot_is (record { entry = P.entry; slot = Some P.slot }) (in_doubt d) e)) in
       absurd (clash w.stopped (doubt_stops p m v w H k d (sym (ap (λ (z : View). z.pending k) mid) ∙ sym (put_else P.mid.pending P.entry.key k (Some (record { entry = P.entry; slot = Some P.slot })) other) ∙ sym (ap (λ (z : View). z.pending k) P.view) ∙ is)) P.runs.0)

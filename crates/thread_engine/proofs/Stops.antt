@@ -98,7 +98,7 @@ module _ (p : Place) (m : ℕ) (v u : View) (w x : Worker) (H : Holds p m v w) (
     stopped_stays stop (marks quiet M) = stays_as _ M.view refl refl
     stopped_stays stop (fails quiet F) = stays_as _ F.view refl refl
     stopped_stays stop (finishes quiet all F) = taken_back F.slot F.mid F.finishes.takes.home F.finishes.takes.entry (ap (λ (z : View). z.pending) F.before.looked.view) (ap (λ (z : View). z.flying) F.before.looked.view) F.finishes.takes.pending F.finishes.takes.view
-    stopped_stays stop (posts P plain) = absurd (clash w.stopped stop P.runs.0)
+    stopped_stays stop (posts P plain calm) = absurd (clash w.stopped stop P.runs.0)
     stopped_stays stop (loses_block L) = absurd (clash w.stopped stop L.runs.0)
     stopped_stays stop (drops quiet all D) = stays_as _ (D.view ∙ D.before.looked.view) refl refl
     stopped_stays stop (locks quiet L) = (
@@ -130,7 +130,7 @@ module _ (p : Place) (m : ℕ) (v u : View) (w x : Worker) (H : Holds p m v w) (
     now_rests runs stop D (marks quiet M) = absurd (still (ap (λ (z : Worker). z.stopped) M.same) runs stop)
     now_rests runs stop D (fails quiet F) = absurd (still (ap (λ (z : Worker). z.stopped) F.same) runs stop)
     now_rests runs stop D (finishes quiet all F) = (taken_back F.slot F.mid F.finishes.takes.home F.finishes.takes.entry (ap (λ (z : View). z.pending) F.before.looked.view) (ap (λ (z : View). z.flying) F.before.looked.view) F.finishes.takes.pending F.finishes.takes.view).1 ∙ idle_flies F.before.free runs
-    now_rests runs stop D (posts P plain) = absurd (still (ap (λ (z : Worker). z.stopped) P.same) runs stop)
+    now_rests runs stop D (posts P plain calm) = absurd (still (ap (λ (z : Worker). z.stopped) P.same) runs stop)
     now_rests runs stop D (loses_block L) = absurd (no_doubt runs (doubted_in _ (L.view ∙ L.before.looked.view) refl D))
     now_rests runs stop D (drops quiet all E) = absurd (clash w.stopped E.stopped runs)
     now_rests runs stop D (locks quiet L) = absurd (still (ap (λ (z : Worker). z.stopped) L.same) runs stop)

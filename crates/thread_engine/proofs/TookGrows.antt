@@ -47,7 +47,7 @@ module _ (s t : State) (refused : Bool) (before : Option Group) (seat : SeatAt) 
   did_grows (marks quiet M) = let at = ap (λ (z : View). lines_in z.took) M.view in omega (arith, at)
   did_grows (fails quiet F) = let at = ap (λ (z : View). lines_in z.took) F.view in omega (arith, at)
   did_grows (finishes quiet all F) = taken_back F.mid (ap (λ (z : View). lines_in z.took) F.before.looked.view) F.finishes.takes.home F.finishes.takes.entry F.finishes.takes.view
-  did_grows (posts P plain) = let at = ap (λ (z : View). lines_in z.took) P.view in let was = ap (λ (z : View). lines_in z.took) P.before.looked.view in omega (arith, at, was)
+  did_grows (posts P plain calm) = let at = ap (λ (z : View). lines_in z.took) P.view in let was = ap (λ (z : View). lines_in z.took) P.before.looked.view in omega (arith, at, was)
   did_grows (loses_block L) = same L.mid L.view (ap (λ (z : View). lines_in z.took) L.before.looked.view)
   did_grows (drops quiet all D) = same D.mid D.view (ap (λ (z : View). lines_in z.took) D.before.looked.view)
   did_grows (locks quiet L) = let at = ap (λ (z : View). lines_in z.took) L.view in let was = ap (λ (z : View). lines_in z.took) L.before.looked.view in omega (arith, at, was)

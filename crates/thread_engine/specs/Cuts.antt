@@ -33,7 +33,8 @@ kinds_in [] = []
 kinds_in (x ∷ xs) = kinds_in xs ++ (x.0, x.1.kind) ∷ []
 
 -- A group shows this state after these steps: the machine's steps lead there, and each member has what it has after its own.
-pub record IsShown (p : Place) (image : ℕ → ℕ) (steps : List (ℕ × TrailStep)) (w : Group) : Type 0 where
+pub record IsShown (p : Place) (image : ℕ → ℕ) (steps : List (ℕ × TrailStep))
+    (w : Group) : Type 0 where
   pub runs : Runs (opened p image) (kinds_in steps) w
   pub views : (m : ℕ) → HasView w m (view_after (view_of (opened p image) m) (steps_of steps m))
 

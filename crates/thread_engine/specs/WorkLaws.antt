@@ -61,7 +61,8 @@ pub record WorksOff (seat : SeatAt) (a b : WorkState) : Type 0 where
       → owner seat.place k ≡ seat.number
       → KeyIs start (key_view a.view k) ((hands_at a).place k) a.worker.stopped xs
       → (more : List Request)
-      × (changes_on start ((xs ++ map replied (fixed_of k fixed)) ++ posted_in ((hands_at b).place k))
+      × (changes_on start ((xs ++ map replied (fixed_of k fixed))
+      ++ posted_in ((hands_at b).place k))
       ≡ changes_on start (xs ++ posted_in ((hands_at a).place k)) ++ more)
   pub told : IsTelling b.region → IsTelling a.region
 
