@@ -102,3 +102,4 @@ pub mod ClearsLeft
 pub mod RetiredKeys
 mod JustRooms
 mod CountedFaults
+mod SendingLaws

@@ -1,4 +1,5 @@
 pub mod Outbox
+pub mod Sending
 pub mod OwnPlaces
 pub mod Supplies
 pub mod KeyTies

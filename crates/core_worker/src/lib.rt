@@ -24,6 +24,7 @@ mod planning;
 mod post_item;
 mod posted_places;
 mod search_places;
+mod sending;
 mod status;
 mod stop_worker;
 mod stopped_items;
