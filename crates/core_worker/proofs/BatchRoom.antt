@@ -24,7 +24,7 @@ use Rattle.core_worker.specs.declared.types.Place.{Place}
 use Rattle.core_worker.specs.declared.types.Place.TheVariants.{Free, Staged, Posted}
 use Rattle.core_worker.specs.declared.worker.Worker.{Worker}
 use Rattle.core_worker.specs.OwnPlaces.{own}
-use Rattle.core_worker.specs.Supplies.{supply_of, rest, KeepsRule, HasKeptRoom, room_for}
+use Rattle.core_worker.specs.Supplies.{supply_of, under_way, rest, KeepsRule, HasKeptRoom, room_for}
 use Rattle.core_worker.specs.Refusals.{IsCounted}
 use Rattle.core_worker.specs.Ties.{Holds}
 use Rattle.core_worker.specs.Turns.{TakesFor, appended_to}
@@ -51,7 +51,7 @@ own_few (Posted n k lines ∷ ps) each = let rest = own_few ps each.1 in let few
 
 -- What a leader is told of the room of a worker that keeps the rule.
 module _ (p : group.Place) (m : ℕ) (v : View) (w : Worker) (H : Holds p m v w) where
-  pub nothing_rests : rest w.cleaning ≡ 0
+  pub nothing_rests : rest (under_way w) ≡ 0
   nothing_rests = ap rest H.cleaning
 
   pub kept_room : HasKeptRoom w → IsKept (room_for w)
@@ -101,11 +101,11 @@ space_is w a false (Some j) lines n had takes = absurd (cc takes.0)
 
 -- After the batch, once its own entries pledge nothing any more.
 module _ (p : group.Place) (m : ℕ) (v : View) (w u : Worker) (H : Holds p m v w) (f : Bool) (o : Option ℕ) (lines : ℕ) (ws : List ℕ) (had : HasSpace (room_for w) f lines (length ws)) (takes : TakesFor f w.allocator u.allocator o)
-    (opened : o ≡ None → is_some w.log.opened ≡ true) (log : u.log ≡ appended_to (opened_for w.log o) (padded ws)) (less : own u.places.items + lines ≡ own w.places.items) (cleaning : u.cleaning ≡ w.cleaning) where
+    (opened : o ≡ None → is_some w.log.opened ≡ true) (log : u.log ≡ appended_to (opened_for w.log o) (padded ws)) (less : own u.places.items + lines ≡ own w.places.items) (cleaning : under_way u ≡ under_way w) where
   pub room_wrote : HasKeptRoom w → HasKeptRoom u
   room_wrote h =
       let none = nothing_rests p m v w H in
-      let still : rest u.cleaning ≡ 0 = ap rest cleaning ∙ none in
+      let still : rest (under_way u) ≡ 0 = ap rest cleaning ∙ none in
       let at = opened_some w.log o opened in
       let room = ap room_of log ∙ room_appended (opened_for w.log o) ws at.0 at.1 in
       let is = space_is w u.allocator f o lines (length ws) had takes in

@@ -27,6 +27,8 @@ use Rattle.core_worker.specs.declared.types.Place.TheVariants.{Free, Staged, Pos
 use Rattle.core_worker.specs.declared.worker.Worker.{Worker}
 use Rattle.core_worker.specs.OwnPlaces.{place_at, key_in, is_busy, Replaces}
 use Rattle.core_worker.specs.KeyTies.{IsPlaced, Offers, KnowsKey, IsStagedBlock, IsBlockFor}
+use Rattle.core_worker.specs.declared.types.Cleaning.TheVariants.{Nothing}
+use Rattle.core_worker.specs.Supplies.{under_way}
 use Rattle.core_worker.specs.LogNames.{NamesStand}
 use Rattle.core_worker.specs.Ties.{Stands, Leads, HasSpaceFor, is_lost}
 use Rattle.core_worker.specs.Beginning.{HoldsAside}
@@ -38,7 +40,7 @@ pub record Frees (p : Place) (m key slot : ℕ) (v u : View) (w x : Worker) : Ty
   pub layout : x.layout ≡ w.layout
   pub core : x.core ≡ w.core
   pub log : x.log ≡ w.log
-  pub cleaning : x.cleaning ≡ w.cleaning
+  pub cleaning : (under_way x ≡ under_way w) ⊎ (under_way x ≡ Nothing)
   pub runs : x.stopped ≡ false → w.stopped ≡ false
   -- keys
   pub spelled : IsSpelledIndex x.index
@@ -196,7 +198,7 @@ module _ (p : Place) (m key slot : ℕ) (v u : View) (w x : Worker) (H : HoldsAs
     space = F.space;
     broken = F.broken;
     lost = F.lost;
-    cleaning = F.cleaning ∙ H.cleaning;
+    cleaning = ⊎_elim (λ same. same ∙ H.cleaning) (λ none. none) F.cleaning;
     remembers = F.remembers;
     chunks = λ r j low. ⊎_elim
         (λ y. inl (⊎_elim (λ e. inl (F.chunks.free j ∙ e)) (λ e. inr (ap is_some (F.chunks.classes j) ∙ e)) y))

@@ -81,7 +81,7 @@ module _ (p : Place) (m : ℕ) (v : View) (w : Worker) (H : HoldsAside p m v w) 
       layout = refl;
       core = refl;
       log = refl;
-      cleaning = refl;
+      cleaning = inr refl;
       runs = λ r. absurd (cc r);
       spelled = H.spelled;
       room = λ k ne. omega arith;

@@ -32,6 +32,7 @@ mod Pointers
 mod Staging
 mod Finding
 mod Beginnings
+pub mod UnderWay
 mod RoomKept
 mod AcceptedOrder
 mod Accepted

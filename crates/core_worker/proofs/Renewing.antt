@@ -6,6 +6,12 @@ use Rattle.group_laws.specs.Places.{Place}
 use Rattle.group_laws.specs.MemberViews.{View}
 use Rattle.core_worker.specs.declared.types.Leading.{Leading}
 use Rattle.core_worker.specs.declared.types.Leading.TheVariants as leads
+use Rattle.core_log.specs.declared.types.Room.{Room}
+use Rattle.batch_leader.specs.Rounds.{words_in}
+use Rattle.batch_leader.specs.Leading.{Suits, HasSpace}
+use Rattle.core_worker.specs.declared.types.Cleaning.TheVariants.{Nothing}
+use Rattle.core_worker.specs.Supplies.{room_for, under_way, HasKeptRoom}
+use Rattle.core_worker.proofs.UnderWay.{still_nothing, room_same, room_winds}
 use Rattle.core_worker.specs.declared.worker.Worker.{Worker}
 use Rattle.core_worker.specs.Ties.{Holds, Stands, HasSpaceFor}
 use Rattle.core_worker.specs.StandingTies.{SameNames}
@@ -13,13 +19,13 @@ use Rattle.core_worker.specs.Turns.{Moment, Persists, LosesBatch, PersistsOrLose
 use Rattle.core_worker.proofs.NamesKnown.{adds_same}
 use Rattle.core_worker.proofs.NamesStood.{names_same}
 
-space : (w : Worker) (st : StandingState) (winds : Bool) (l : Leading) → HasSpaceFor w l → HasSpaceFor (record w { standing = st; winds_down = winds }) l
-space w st winds (leads.Nothing b) h = tt
-space w st winds (leads.Collecting c) h = h
-space w st winds (leads.Batch b) h = h
-space w st winds (leads.Persisted x) h = tt
-space w st winds (leads.Failed x) h = tt
-space w st winds leads.Between h = tt
+space : (w : Worker) (st : StandingState) (winds : Bool) → room_for (record w { winds_down = winds }) ≡ room_for w → (l : Leading) → HasSpaceFor w l → HasSpaceFor (record w { standing = st; winds_down = winds }) l
+space w st winds room (leads.Nothing b) h = tt
+space w st winds room (leads.Collecting c) h = subst (λ (r : Room). Suits r c) (sym room) h
+space w st winds room (leads.Batch b) h = subst (λ (r : Room). HasSpace r b.fresh b.own_lines (words_in b.changes.taken.items)) (sym room) h
+space w st winds room (leads.Persisted x) h = tt
+space w st winds room (leads.Failed x) h = tt
+space w st winds room leads.Between h = tt
 
 pub holds_renewed : (p : Place) (m : ℕ) (v : View) (w : Worker) (st : StandingState) (winds : Bool) → (winds ≡ false → w.winds_down ≡ false) → Holds p m v w → Holds p m v (record w { standing = st; winds_down = winds })
 holds_renewed p m v w st winds works H = record {
@@ -42,13 +48,15 @@ holds_renewed p m v w st winds works H = record {
   blocks = H.blocks;
   waits = λ on. H.waits (works on);
   leads = H.leads;
-  space = λ r. space w st winds w.leading (H.space r);
+  space = λ r. space w st winds (room_same w winds (way ∙ sym H.cleaning)) w.leading (H.space r);
   broken = H.broken;
   lost = H.lost;
-  cleaning = H.cleaning;
+  cleaning = way;
   remembers = H.remembers;
   chunks = H.chunks;
-}
+} where
+  way : under_way (record w { winds_down = winds }) ≡ Nothing
+  way = still_nothing w.cleaning w.stopped w.winds_down w.stopped winds (λ r. r) works H.cleaning
 
 pub stands_renewed : (s : State) (p : Place) (m : ℕ) (v : View) (w : Worker) (st : StandingState) (winds : Bool) → (winds ≡ false → w.winds_down ≡ false) → SameNames w.standing st → Stands s p m v w → Stands s p m v (record w { standing = st; winds_down = winds })
 stands_renewed s p m v w st winds works same S = record { lies = S.lies; licensed = S.licensed; landed = S.landed; log = S.log; free = S.free; due = S.due; cut = S.cut; names = λ r on telling. names_same s m v.kept v.present v.told v.dead w.log w.standing st same (S.names r (works on) telling) }
@@ -91,3 +99,7 @@ batch_renewed m a y x u rest same count up still which = by y.stopped refl which
   by : (b : Bool) → y.stopped ≡ b → PersistsOrLoses b m a (record { worker = y; view = u }) → PersistsOrLoses x.stopped m a (record { worker = x; view = u })
   by true e L = subst (λ (b : Bool). PersistsOrLoses b m a (record { worker = x; view = u })) (sym (ap (λ (z : Worker). z.stopped) (still e) ∙ e)) (subst (λ (z : Worker). LosesBatch a (record { worker = z; view = u })) (sym (still e)) L)
   by false e P = subst (λ (b : Bool). PersistsOrLoses b m a (record { worker = x; view = u })) (sym (ap (λ (z : Worker). z.stopped) rest ∙ e)) (subst (λ (z : Worker). Persists m a (record { worker = z; view = u })) (sym rest) (persists_renewed m a y u x.standing x.winds_down same count up P))
+
+-- and the room rule is kept
+pub renewed_room : (y x : Worker) → x ≡ record y { standing = x.standing; winds_down = x.winds_down } → (y.winds_down ≡ true → x.winds_down ≡ true) → HasKeptRoom y → HasKeptRoom x
+renewed_room y x rest up h = subst (λ (z : Worker). HasKeptRoom z) (sym rest) (room_winds y x.winds_down (still_works y x up) h)

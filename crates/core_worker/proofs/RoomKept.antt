@@ -24,7 +24,8 @@ use Rattle.core_worker.specs.declared.types.Place.{Place}
 use Rattle.core_worker.specs.declared.types.Place.TheVariants.{Free, Staged, Posted}
 use Rattle.core_worker.specs.declared.worker.Worker.{Worker}
 use Rattle.core_worker.specs.OwnPlaces.{place_at, lines_in, own, Replaces}
-use Rattle.core_worker.specs.Supplies.{supply_of, rest, KeepsRule, HasKeptRoom}
+use Rattle.core_worker.specs.Supplies.{supply_of, under_way, rest, KeepsRule, HasKeptRoom}
+use Rattle.core_worker.proofs.UnderWay.{room_less}
 
 -- the lines of equal places, and of places that differ in one
 pub own_same : (xs ys : List Place) → length ys ≡ length xs → ((t : ℕ) → place_at ys t ≡ place_at xs t) → own ys ≡ own xs
@@ -76,7 +77,7 @@ leaving s need e = ⊎_elim
     (or_cases (leb 3 s.free_chunks) (s.free_chunks == 2 && leb (s.own_lines + s.rest_lines + need) s.open_lines) e)
 
 module _ (w u : Worker) (slot number : ℕ) (e : Entry) (value : List ℕ) (need : ℕ) (placed : Replaces w.places.items u.places.items slot (Staged number e value)) (was : place_at w.places.items slot ≡ Free) (lt : slot < length w.places.items)
-    (lines : lines_for (length (words_of e)) ≡ need) (log : u.log ≡ w.log) (cleaning : u.cleaning ≡ w.cleaning) where
+    (lines : lines_for (length (words_of e)) ≡ need) (log : u.log ≡ w.log) (cleaning : under_way u ≡ under_way w) where
   grown : own u.places.items ≡ own w.places.items + need
   grown =
       let all = own_with w.places.items u.places.items slot (Staged number e value) placed lt in
@@ -89,14 +90,14 @@ module _ (w u : Worker) (slot number : ℕ) (e : Entry) (value : List ℕ) (need
       let g = grown in
       let r = ap rest cleaning in
       let o = ap room_of log in
-      by_room u.cleaning (supply_of u) (⊎_elim (λ l. inl (omega (arith, l, g, r, o))) (λ f. inr (omega (arith, f, chunks))) (fitting (supply_of w) need fits))
+      by_room (under_way u) (supply_of u) (⊎_elim (λ l. inl (omega (arith, l, g, r, o))) (λ f. inr (omega (arith, f, chunks))) (fitting (supply_of w) need fits))
 
   pub room_cut : free_chunk_count w.allocator ≡ free_chunk_count u.allocator + 1 → may_cut (supply_of w) need ≡ true → HasKeptRoom u
   room_cut chunks cuts =
       let g = grown in
       let r = ap rest cleaning in
       let o = ap room_of log in
-      by_room u.cleaning (supply_of u) (⊎_elim (λ l. inl (omega (arith, l, g, r, o))) (λ f. inr (omega (arith, f, chunks))) (leaving (supply_of w) need cuts))
+      by_room (under_way u) (supply_of u) (⊎_elim (λ l. inl (omega (arith, l, g, r, o))) (λ f. inr (omega (arith, f, chunks))) (leaving (supply_of w) need cuts))
 
   -- a block was taken, from a chunk that was cut or from one that had been
   pub room_block : (class q : ℕ) → lacks_room (supply_of w) need ≡ false → Takes w.allocator u.allocator class (may_cut (supply_of w) need) (Some q) → HasKeptRoom u
@@ -114,10 +115,8 @@ pub answered_room : (w u : Worker) → u ≡ record w { answers = u.answers; ind
 answered_room w u e h = subst (λ (x : Worker). HasKeptRoom x) (sym e) h
 
 -- what has the same room keeps the rule
-pub room_again : (w u : Worker) → own u.places.items ≡ own w.places.items → free_chunk_count u.allocator ≡ free_chunk_count w.allocator → u.log ≡ w.log → u.cleaning ≡ w.cleaning → HasKeptRoom w → HasKeptRoom u
-room_again w u lines chunks log cleaning h =
-    let same : supply_of u ≡ supply_of w = λ i. record { free_chunks = chunks i; open_lines = room_of (log i); own_lines = lines i; rest_lines = rest (cleaning i) } in
-    subst (λ (c : Cleaning). KeepsRule c (supply_of u)) (sym cleaning) (subst (KeepsRule w.cleaning) (sym same) h)
+pub room_again : (w u : Worker) → own u.places.items ≡ own w.places.items → free_chunk_count u.allocator ≡ free_chunk_count w.allocator → u.log ≡ w.log → (under_way u ≡ under_way w) ⊎ (under_way u ≡ Nothing) → HasKeptRoom w → HasKeptRoom u
+room_again w u lines chunks log way h = room_less w u (omega (arith, lines)) chunks log way h
 
 -- after a value was written to a block, as many chunks are free
 pub wrote_chunks : (s : State) (old new : Sets) (p class : ℕ) (value : List ℕ) → WroteValue s old new p class value → free_chunk_count new ≡ free_chunk_count old
@@ -128,4 +127,4 @@ pub room_posted : (m : ℕ) (before after : Option Group) (x y : View) (w u : Wo
 room_posted m before after x y w u slot eight lt P h =
     let all = own_with w.places.items u.places.items slot (Posted P.number P.entry.key (lines_for (length (words_of P.entry)))) P.places (omega (arith, lt, eight)) in
     let was = ap lines_in P.was in
-    room_again w u (omega (arith, all, was)) (ap (λ (z : Worker). free_chunk_count z.allocator) P.rest) (ap (λ (z : Worker). z.log) P.rest) (ap (λ (z : Worker). z.cleaning) P.rest) h
+    room_again w u (omega (arith, all, was)) (ap (λ (z : Worker). free_chunk_count z.allocator) P.rest) (ap (λ (z : Worker). z.log) P.rest) (inl (ap (λ (z : Worker). under_way z) P.rest)) h

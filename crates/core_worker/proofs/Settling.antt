@@ -489,7 +489,7 @@ module _ (p : Place) (m : ℕ) (v : View) (w : Worker) (H : HoldsAside p m v w) 
       layout = refl;
       core = refl;
       log = refl;
-      cleaning = refl;
+      cleaning = inl refl;
       runs = λ r. r;
       spelled = spelled_now;
       room = λ k ne. (let a = A.room k in let c = rooms k ne in omega (arith, a, c));

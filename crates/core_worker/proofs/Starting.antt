@@ -60,6 +60,7 @@ use Rattle.core_worker.proofs.Tidied.{present_of}
 use Rattle.core_worker.proofs.Settling.{same_flag}
 use Rattle.core_worker.proofs.StartNames.{Logged, counted_logged, logged_counted, logged_named, named_logged}
 use Rattle.core_worker.specs.Openings.{IsNew, IsStartAt, IsCertainAt, opened_view}
+use Rattle.core_worker.proofs.UnderWay.{none_way}
 use Rattle.core_worker.proofs.StartKeys as start_keys
 use Rattle.core_worker.proofs.StartKeys.{changed, same_block}
 use Rattle.core_worker.proofs.StartBlocks as start_blocks
@@ -102,8 +103,9 @@ told_none false h o dead none = refl
 pub kept_room : (start : CoreStart) (layout : Geometry) (w : Worker) → IsNew start layout w → HasKeptRoom w
 kept_room start layout w N =
     let lines = free_lines w.places.items N.free in
-    let copies = ap rest N.cleaning in
-    subst (λ (c : Cleaning). KeepsRule c (supply_of w)) (sym N.cleaning) (inl (omega (arith, lines, copies)))
+    let none = none_way w N.cleaning in
+    let copies = ap rest none in
+    subst (λ (c : Cleaning). KeepsRule c (supply_of w)) (sym none) (inl (omega (arith, lines, copies)))
 
 module _ (p : Place) (m : ℕ) (image : ℕ → ℕ) (start : CoreStart) (layout : Geometry) (w : Worker) (N : IsNew start layout w) (same : layout ≡ p.layout) (at : IsStartAt p m image start) where
   abbrev v : View
@@ -175,7 +177,7 @@ module _ (p : Place) (m : ℕ) (image : ℕ → ℕ) (start : CoreStart) (layout
     space = λ runs. subst (HasSpaceFor w) (sym N.leading.1) tt;
     broken = λ t. absurd (let two : false ≡ true = t in cc two);
     lost = λ t. absurd (let two : false ≡ true = sym (ap is_lost N.leading.1) ∙ t in cc two);
-    cleaning = N.cleaning;
+    cleaning = none_way w N.cleaning;
     remembers = λ runs k own idle. start_keys.remembers p image at.place at.rules m at.member start.index at.found.index k own w.index start.core core_is N.index;
     chunks = λ runs. subst (λ (a : Sets). AreChunks p.layout.chunks a w.log.chunks) (sym N.allocator) (subst (λ (g : LogState). AreChunks p.layout.chunks start.allocator g.chunks) (sym N.log) (start_heads.chunks_now p m image start at));
   }

@@ -43,6 +43,7 @@ use Rattle.core_worker.proofs.Posts.{busy_by}
 use Rattle.core_worker.proofs.RoomKept.{own_with}
 use Rattle.core_worker.proofs.PuttingBack.{put_count}
 use Rattle.core_worker.proofs.Freeing.{Frees, busy_was, idle_now, busy_still, freed_holds, freed_stands}
+use Rattle.core_worker.proofs.UnderWay.{room_less}
 use Rattle.core_worker.proofs.FreedOrder.{FreesInOrder, freed_order, waiting_few}
 use Rattle.core_worker.proofs.GivingUp.{gives_up, gives_up_order}
 use Rattle.core_worker.proofs.Settling.{settles, settles_order, replaced_used, next_here}
@@ -82,22 +83,6 @@ stood p m v w H slot e pends = ⊎_elim
     })
     (λ y. absurd (let none = y.0 in cc none))
     (H.pending e.key _ pends)
-
--- less is pledged, and nothing else differs
-fewer : (s t : Supply) → t.own_lines ≤ s.own_lines → t.rest_lines ≡ s.rest_lines → t.open_lines ≡ s.open_lines → t.free_chunks ≡ s.free_chunks → KeepsRoom s → KeepsRoom t
-fewer s t own rest lines chunks k = ⊎_elim (λ a. inl (omega (arith, a, own, rest, lines))) (λ a. inr (omega (arith, a, chunks))) k
-
-pub room_less : (w u : Worker) → own u.places.items ≤ own w.places.items → free_chunk_count u.allocator ≡ free_chunk_count w.allocator → u.log ≡ w.log → u.cleaning ≡ w.cleaning → HasKeptRoom w → HasKeptRoom u
-room_less w u less chunks log cleaning h =
-    let open_same : room_of u.log ≡ room_of w.log = ap room_of log in
-    let rest_same : rest u.cleaning ≡ rest w.cleaning = ap rest cleaning in
-    subst (λ (c : Cleaning). KeepsRule c (supply_of u)) (sym cleaning) (by w.cleaning h open_same rest_same)
-  where
-    by : (c : Cleaning) → KeepsRule c (supply_of w) → room_of u.log ≡ room_of w.log → rest u.cleaning ≡ rest w.cleaning → KeepsRule c (supply_of u)
-    by Nothing k o r = fewer (supply_of w) (supply_of u) less r o chunks k
-    by (Copying v true) k o r = ⊎_elim (λ a. inl (fewer (supply_of w) (supply_of u) less r o chunks a)) (λ a. inr ((let a0 = a.0 in omega (arith, a0, less, o)), (let a1 = a.1 in omega (arith, a1, chunks)))) k
-    by (Copying v false) k o r = fewer (supply_of w) (supply_of u) less r o chunks k
-    by (Doomed j) k o r = fewer (supply_of w) (supply_of u) less r o chunks k
 
 -- a worker with a place freed, whatever became of its change
 module _ (p : groups.Place) (m key slot : ℕ) (v u : View) (w x : Worker) (H : Holds p m v w) (O : InOrder p m v w) (lt : slot < 8) (was : key_in (place_at w.places.items slot) ≡ Some key) (mine : groups.owner p key ≡ m) (F : Frees p m key slot v u w x) (G : FreesInOrder p m key v u w x)

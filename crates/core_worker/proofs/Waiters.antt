@@ -1,5 +1,5 @@
 -- The waiting requests of a key are begun one after the other.
-use Rattle.std.proofs.Common.{◌≡◌, ℕ, ◌==◌, Bool, true, false, cond, List, [], ◌∷◌, Option, refl, sym, ◌∙◌, ap}
+use Rattle.std.proofs.Common.{◌≡◌, ℕ, ◌==◌, Bool, true, false, cond, List, [], ◌∷◌, Option, refl, sym, ◌∙◌, ap, subst}
 use Rattle.std.specs.List.{filter}
 use Rattle.std.proofs.lemmas.Bool.{eqb-true}
 use Rattle.pm_region.specs.State.{State}
@@ -8,6 +8,12 @@ use Rattle.conflict_queue.specs.declared.types.Held.{Held}
 use Rattle.conflict_queue.specs.Waiting.{waiting, TakesFirst}
 use Rattle.group_laws.specs.Places.{Place, owner}
 use Rattle.group_laws.specs.MemberViews.{View}
+use Rattle.core_log.specs.declared.types.Room.{Room}
+use Rattle.batch_leader.specs.Rounds.{words_in}
+use Rattle.batch_leader.specs.Leading.{Suits, HasSpace}
+use Rattle.core_worker.specs.declared.types.Cleaning.TheVariants.{Nothing}
+use Rattle.core_worker.specs.Supplies.{room_for, under_way}
+use Rattle.core_worker.proofs.UnderWay.{still_nothing, room_same}
 use Rattle.core_worker.specs.declared.worker.Worker.{Worker}
 use Rattle.core_worker.specs.Beginning.{HoldsAside, IsHeldAside}
 use Rattle.core_worker.specs.Ties.{Stands, HasSpaceFor, Tie, StandsBy}
@@ -26,8 +32,8 @@ pub first_key : (old new : List Held) (k : ℕ) (h : Held) → TakesFirst old ne
 first_key old new k h t = eqb-true (key_of h.request) k (first_of (λ x. key_of x.request == k) old h (waiting new k) t.key)
 
 -- with nothing waiting the ties say nothing of the queue, nor of what is in hand
-pub aside_other : (p : Place) (m : ℕ) (v : View) (w : Worker) (q : List Held) (h : Option Held) (b : Bool) → HoldsAside p m v w → HoldsAside p m v (record w { queue = q; in_hand = h; winds_down = b })
-aside_other p m v w q h b H = record {
+pub aside_other : (p : Place) (m : ℕ) (v : View) (w : Worker) (q : List Held) (h : Option Held) (b : Bool) → (b ≡ false → w.winds_down ≡ false) → HoldsAside p m v w → HoldsAside p m v (record w { queue = q; in_hand = h; winds_down = b })
+aside_other p m v w q h b works H = record {
   place = H.place;
   member = H.member;
   core = H.core;
@@ -50,14 +56,20 @@ aside_other p m v w q h b H = record {
   space = λ r. by w.leading (H.space r);
   broken = H.broken;
   lost = H.lost;
-  cleaning = H.cleaning;
+  cleaning = way;
   remembers = H.remembers;
   chunks = H.chunks;
 } where
+  way : under_way (record w { winds_down = b }) ≡ Nothing
+  way = still_nothing w.cleaning w.stopped w.winds_down w.stopped b (λ r. r) works H.cleaning
+
+  room : room_for (record w { winds_down = b }) ≡ room_for w
+  room = room_same w b (way ∙ sym H.cleaning)
+
   by : (l : Leading) → HasSpaceFor (record w { queue = [] }) l → HasSpaceFor (record w { queue = []; in_hand = h; winds_down = b }) l
   by (leads.Nothing x) h = tt
-  by (leads.Collecting c) h = h
-  by (leads.Batch x) h = h
+  by (leads.Collecting c) h = subst (λ (r : Room). Suits r c) (sym room) h
+  by (leads.Batch x) h = subst (λ (r : Room). HasSpace r x.fresh x.own_lines (words_in x.changes.taken.items)) (sym room) h
   by (leads.Persisted x) h = tt
   by (leads.Failed x) h = tt
   by leads.Between h = tt
@@ -67,7 +79,7 @@ stands_other s p m v w q h b works S = record { lies = S.lies; licensed = S.lice
 
 -- the first waiting request of a key is taken out: the ties for its key
 pub taken_aside : (w : Worker) (q : List Held) (k : ℕ) (h : Held) → TakesFirst w.queue q k h → (x : Tie) → IsHeldAside w k x → IsHeldAside (record w { queue = q }) (key_of h.request) x
-taken_aside w q k h T x a = record { holds = aside_other x.place x.number x.view w q w.in_hand w.winds_down a.holds; own = ap (owner x.place) (first_key w.queue q k h T) ∙ a.own }
+taken_aside w q k h T x a = record { holds = aside_other x.place x.number x.view w q w.in_hand w.winds_down (λ on. on) a.holds; own = ap (owner x.place) (first_key w.queue q k h T) ∙ a.own }
 
 pub taken_stands : (s : State) (x : Tie) (w : Worker) (q : List Held) → StandsBy s x w → StandsBy s x (record w { queue = q })
 taken_stands s x w q S = stands_other s x.place x.number x.view w q w.in_hand w.winds_down (λ on. on) S

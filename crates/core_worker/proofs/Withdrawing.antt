@@ -109,7 +109,7 @@ module _ (p : groups.Place) (m : ℕ) (v : View) (w : Worker) (H : Holds p m v w
       layout = refl;
       core = refl;
       log = refl;
-      cleaning = refl;
+      cleaning = inl refl;
       runs = λ r. r;
       spelled = H.spelled;
       room = λ k ne. omega arith;

@@ -11,7 +11,7 @@ use Rattle.core_room.specs.declared.types.Shortage.TheVariants as causes
 use Rattle.core_worker.specs.declared.types.Place.{Place}
 use Rattle.core_worker.specs.declared.types.Place.TheVariants.{Free, Staged, Posted}
 use Rattle.core_worker.specs.declared.worker.Worker.{Worker}
-use Rattle.core_worker.specs.Supplies.{IsSmall}
+use Rattle.core_worker.specs.Supplies.{IsSmall, under_way}
 
 -- a place pledges few lines
 abbrev pub IsCounted : Place → Type 0
@@ -26,7 +26,7 @@ AreCounted ps = AllByRecursion IsCounted ps
 pub record IsMeasured (w : Worker) : Type 0 where
   pub eight : length w.places.items ≡ SLOTS
   pub counted : AreCounted w.places.items
-  pub small : IsSmall w.cleaning
+  pub small : IsSmall (under_way w)
   pub layout : w.allocator.layout ≡ w.layout
 
 -- the reply that a cause stands for

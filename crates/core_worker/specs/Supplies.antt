@@ -1,5 +1,5 @@
 -- The room of a worker at one moment, and which requests are refused for want of it.
-use Rattle.std.specs.Prelude.{ℕ, ◌^◌, ◌<◌, ◌==◌, nat_lt, nat_le, true, false, List, length, Option, Some, None, if◌then◌else◌}
+use Rattle.std.specs.Prelude.{ℕ, ◌^◌, ◌<◌, ◌==◌, ◌||◌, nat_lt, nat_le, true, false, List, length, Option, Some, None, if◌then◌else◌}
 use Rattle.chunk_map.specs.declared.layouts.Geometry.{Geometry}
 use Rattle.chunk_map.specs.Layouts.{payload_lines, longest_value}
 use Rattle.core_log.specs.Log.{room_of}
@@ -18,6 +18,10 @@ use Rattle.core_worker.specs.declared.types.Cleaning.TheVariants.{Nothing, Copyi
 use Rattle.core_worker.specs.declared.worker.Worker.{Worker}
 use Rattle.core_worker.specs.OwnPlaces.{own}
 
+-- The cleaning that a worker goes on with: one that has stopped or winds down leaves its cleaning as it stands.
+abbrev pub under_way : Worker → Cleaning
+under_way w = if w.stopped || w.winds_down then Nothing else w.cleaning
+
 -- the lines that a cleaning under way has still to copy
 abbrev pub rest : Cleaning → ℕ
 rest Nothing = 0
@@ -35,7 +39,7 @@ supply_of w = record {
   free_chunks = free_chunk_count w.allocator;
   open_lines = room_of w.log;
   own_lines = own w.places.items;
-  rest_lines = rest w.cleaning;
+  rest_lines = rest (under_way w);
 }
 
 -- The room rule of a worker. It is the weaker one from the beginning of a cleaning to its first copy.
@@ -46,7 +50,7 @@ KeepsRule (Copying victim false) s = KeepsRoom s
 KeepsRule (Doomed chunk) s = KeepsRoom s
 
 abbrev pub HasKeptRoom : Worker → Type 0
-HasKeptRoom w = KeepsRule w.cleaning (supply_of w)
+HasKeptRoom w = KeepsRule (under_way w) (supply_of w)
 
 -- What a leader is told of the room.
 abbrev pub room_for : Worker → Room

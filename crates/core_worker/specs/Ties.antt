@@ -25,7 +25,7 @@ use Rattle.core_worker.specs.declared.types.Place.TheVariants.{Posted}
 use Rattle.core_worker.specs.declared.worker.Worker.{Worker}
 use Rattle.core_worker.specs.OwnPlaces.{place_at, is_busy, AreApart}
 use Rattle.core_worker.specs.declared.types.Cleaning.TheVariants.{Nothing}
-use Rattle.core_worker.specs.Supplies.{room_for}
+use Rattle.core_worker.specs.Supplies.{room_for, under_way}
 use Rattle.core_worker.specs.KeyTies.{KnowsKey, IsPlaced, AreBlocks}
 use Rattle.core_worker.specs.OwnChunks.{AreChunks}
 use Rattle.core_worker.specs.LogNames.{NamesStand}
@@ -103,7 +103,7 @@ pub record Holds (p : Place) (m : ℕ) (v : View) (w : Worker) : Type 0 where
   pub broken : v.broken ≡ true → w.stopped ≡ true
   pub lost : is_lost w.leading ≡ true → w.stopped ≡ true
   -- no cleaning is under way
-  pub cleaning : w.cleaning ≡ Nothing
+  pub cleaning : under_way w ≡ Nothing
   -- until the core stops, no key has a record that is to be forgotten, but while a change of it is out
   pub remembers : w.stopped ≡ false → (k : ℕ) → owner p k ≡ m → v.pending k ≡ None
       → is_forgettable (known_at w.index k) ≡ false

@@ -12,7 +12,7 @@ ghost use Rattle.log_cleaner.specs.Clearing.{IsFresh};
 ghost use Rattle.log_cleaner.specs.Copying.{IsUpToDate};
 ghost use Rattle.log_cleaner.specs.declared.types.Victim.{Victim as Chosen};
 ghost use Rattle.core_worker.specs.declared.worker.Worker.{Worker};
-ghost use Rattle.core_worker.specs.Supplies.{rest, room_for, supply_of};
+ghost use Rattle.core_worker.specs.Supplies.{rest, room_for, supply_of, under_way};
 
 use core_log::{CoreLog, Room};
 use fs_errors::Memory;
@@ -61,7 +61,7 @@ pub(crate) fn begin_cleaning<R: Region>(
 
 /// Where a victim's copies fit and no more than one chunk is free, a cleaning may begin.
 pub fn every_begin()
-    ensures { (w : Worker) (v : Chosen) → rest w.cleaning ≡ 0 → free_chunk_count w.allocator ≤ 1
+    ensures { (w : Worker) (v : Chosen) → rest (under_way w) ≡ 0 → free_chunk_count w.allocator ≤ 1
         → fits (room_for w) v ≡ true
         → MayBegin (supply_of w) (payload_lines w.log.layout) (lines_to_copy v.entries v.words) }
 {}

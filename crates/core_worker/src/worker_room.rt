@@ -3,7 +3,7 @@ ghost use Rattle.std.specs.Prelude.{◌≡◌, ◌⊎◌, ℕ, ◌+◌, ◌^◌,
 ghost use Rattle.chunk_map.specs.Layouts.{is_class};
 ghost use Rattle.core_room.specs.RoomRule.{pledged};
 ghost use Rattle.core_worker.specs.OwnPlaces.{lines_in, own};
-ghost use Rattle.core_worker.specs.Supplies.{supply_of, rest, IsSmall, free_blocks, lacks};
+ghost use Rattle.core_worker.specs.Supplies.{supply_of, under_way, rest, IsSmall, free_blocks, lacks};
 ghost use Rattle.core_worker.specs.Refusals.{IsCounted, AreCounted, IsMeasured};
 
 use crate::types::{Cleaning, Place};
@@ -53,17 +53,31 @@ fn copy_lines(cleaning: &Cleaning) -> u64
 }
 
 impl Worker {
+    // The cleaning that the core goes on with.
+    pub(crate) fn under_way(&self) -> Cleaning
+        ensures { result ≡ under_way self.now }
+    {
+        if self.stopped {
+            return Cleaning::Nothing;
+        }
+        if self.winds_down {
+            return Cleaning::Nothing;
+        }
+        self.cleaning
+    }
+
     // The room of the core at this moment.
     pub(crate) fn supply(&self) -> Supply
         requires { IsMeasured self.now }
         ensures supply { result ≡ supply_of self.now }
         ensures few { pledged result < 2 ^ 33 }
     {
+        let cleaning = self.under_way();
         Supply {
             free_chunks: self.allocator.free_chunks(),
             open_lines: self.log.room(),
             own_lines: own_lines(&self.places),
-            rest_lines: copy_lines(&self.cleaning),
+            rest_lines: copy_lines(&cleaning),
         }
     }
 

@@ -34,7 +34,8 @@ fn start_cells<R: SplitRegion + ReadRegion>(
     ensures { IfOk result (λ cells. ListsCells (cells_of (R.word region.now)) cells.items) }
 {
     let view = Snapshot::of(region);
-    pairs(alloc, &view, recovered)
+    let cells = pairs(alloc, &view, recovered)?;
+    Ok(cells)
 }
 
 /// Reads the input of an audit to its end, for a region of so many cores.

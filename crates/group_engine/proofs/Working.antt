@@ -29,7 +29,7 @@ use Rattle.core_worker.specs.Ties.{Holds, Stands}
 use Rattle.core_worker.specs.Turning.{TurnMoves, Turned, TurnedTo}
 use Rattle.core_worker.specs.Turns.{Moment}
 use Rattle.core_worker.specs.WorkerMoves.{hands_of}
-use Rattle.core_worker.proofs.Clients.{own_of}
+use Rattle.core_worker.proofs.Clients.{own_of, room_wound}
 use Rattle.group_engine.specs.Calls.{AreOwn, Accepts, BeginsByEachView, Turns, WindsDown, has_moved, is_idle, is_open}
 use Rattle.group_engine.specs.Working.{IsMember, BeginsRequest, may_take, leads, turn_of}
 
@@ -102,7 +102,7 @@ wound w x same holds stands order = record {
     holds = holds p m v M.holds;
     stands = stands s p m v M.stands;
     order = order p m v M.order;
-    rule = λ runs. subst HasKeptRoom (sym same) (M.rule (sym (ap (λ (y : Worker). y.stopped) same) ∙ runs));
+    rule = λ runs. subst HasKeptRoom (sym same) (room_wound w (M.rule (sym (ap (λ (y : Worker). y.stopped) same) ∙ runs)));
   };
   fairly = λ a m starts. subst StartsFirst (sym same) starts;
 } where

@@ -17,7 +17,8 @@ loop-alloc-preserved c =
     let room = c.in_ok-names.ensures.room in
     let shown = ap (λ (xs : List EntryName). length xs) c.names-in-loop-alloc.ensures in
     let before = c.loop-alloc.invariant.2 in
-    let more = c.min-more.ensures in
-    (subst (λ (xs : List EntryName). TakesNames c.args.home c.args.index.now c.take_names.new.index c.args.names.now.names xs) (sym c.in_ok-names.ensures.names) all,
-    omega (arith, same, room, shown),
-    omega (arith, same, room, shown, before, more))
+    let more = c.min-more.ensures in (
+      subst (λ (xs : List EntryName). TakesNames c.args.home c.args.index.now c.take_names.new.index c.args.names.now.names xs) (sym c.in_ok-names.ensures.names) all,
+      omega (arith, same, room, shown),
+      omega (arith, same, room, shown, before, more),
+    )

@@ -15,6 +15,7 @@ use Rattle.core_worker.specs.Beginning.{HasFree, HoldsAside, StandsAside, Begins
 use Rattle.core_worker.specs.Ties.{Stands}
 use Rattle.core_worker.specs.Serving.{LeadsNothingYet, KeepsLine, OthersWait}
 use Rattle.core_worker.proofs.Serving.{order_begun, order_in_hand, others_begun, all_wait}
+use Rattle.core_worker.proofs.UnderWay.{room_wound}
 use Rattle.core_worker.proofs.Waiters.{first_key, aside_other, stands_other, taken_aside, taken_stands}
 use Rattle.core_worker.proofs.worker.Worker.+begin_waiting.Goals as goal
 
@@ -55,7 +56,7 @@ returns-in-Err-clause-keeps g t c x a =
     let q = c.release.new.self in
     let same = sym c.in-Err.ensures.unchanged in
     record {
-      holds = aside_other p m v c.begin.new.self c.begin.new.self.queue _ true (subst (λ (y : Worker). HoldsAside p m v y) same (aside_other p m v w q w.in_hand w.winds_down a.holds));
+      holds = aside_other p m v c.begin.new.self c.begin.new.self.queue _ true (λ on. absurd (cc on)) (subst (λ (y : Worker). HoldsAside p m v y) same (aside_other p m v w q w.in_hand w.winds_down (λ on. on) a.holds));
       stands = λ s S. stands_other s p m v c.begin.new.self c.begin.new.self.queue _ true (λ on. absurd (cc on)) (subst (λ (y : Worker). Stands s p m v y) same (stands_other s p m v w q w.in_hand w.winds_down (λ on. on) S));
     }
 
@@ -153,7 +154,7 @@ returns-in-Ok-clause-begins g t c =
     subst (λ (hs : List Held). BeginsAll (IsTelling (g.R.Region.state c.args.region.now)) hs w z (v.cell c.args.key) c.args.key) (sym T.key) (u, b, T, refl, c.begin.ensures.rest, begun, subst (UsesRoom u b) fk c.in-Ok.ensures.uses, inr (sym c.is_busy.ensures ∙ c.if-is_busy.false, more))) c.begin_waiting.ensures.begins
 
 pub returns-in-Err-clause-rule : goal.returns-in-Err-clause-rule
-returns-in-Err-clause-rule g t c h = c.begin.ensures.rule h
+returns-in-Err-clause-rule g t c h = room_wound c.begin.new.self (c.begin.ensures.rule h)
 
 pub returns-then-is_busy-clause-rule : goal.returns-then-is_busy-clause-rule
 returns-then-is_busy-clause-rule g t c h = c.begin.ensures.rule h

@@ -1,6 +1,7 @@
 use Rattle.core_worker.proofs.StockFacts.{wrote_least}
 use Rattle.core_worker.proofs.RoomKept.{room_again}
-use Rattle.std.proofs.Common.{true, Bool, not, inl, sym, ◌∙◌, ap, subst}
+use Rattle.std.proofs.Common.{true, Bool, not, inl, inr, sym, ◌∙◌, ap, subst}
+use Rattle.core_worker.specs.Supplies.{under_way}
 use Rattle.core_worker.specs.declared.worker.Worker.{Worker}
 use Rattle.core_worker.specs.OwnPlaces.{place_at, own}
 use Rattle.core_worker.specs.Posting.{WouldStand}
@@ -28,12 +29,16 @@ returns-then-write_staged-clause-posts g c =
 pub returns-then-write_staged-clause-rule : goal.returns-then-write_staged-clause-rule
 returns-then-write_staged-clause-rule g c h =
     let e = c.write_staged.ensures.rest in
-    c.post_written.ensures.rule (room_again c.args.self.now c.write_staged.new.self (ap (λ (z : Worker). own z.places.items) e) c.write_staged.ensures.chunks (ap (λ (z : Worker). z.log) e) (ap (λ (z : Worker). z.cleaning) e) h)
+    let w = c.args.self.now in
+    let way = inl (ap (λ (z : Worker). under_way z) (e ∙ ap (λ (b : Bool). record w { allocator = c.write_staged.new.self.allocator; stopped = b }) (ap not c.if-write_staged.true ∙ sym c.requires.runs))) in
+    c.post_written.ensures.rule (room_again c.args.self.now c.write_staged.new.self (ap (λ (z : Worker). own z.places.items) e) c.write_staged.ensures.chunks (ap (λ (z : Worker). z.log) e) way h)
 
 pub returns-else-write_staged-clause-rule : goal.returns-else-write_staged-clause-rule
 returns-else-write_staged-clause-rule g c h =
     let e = c.write_staged.ensures.rest in
-    room_again c.args.self.now c.write_staged.new.self (ap (λ (z : Worker). own z.places.items) e) c.write_staged.ensures.chunks (ap (λ (z : Worker). z.log) e) (ap (λ (z : Worker). z.cleaning) e) h
+    let w = c.args.self.now in
+    let way = inr (ap (λ (z : Worker). under_way z) (e ∙ ap (λ (b : Bool). record w { allocator = c.write_staged.new.self.allocator; stopped = b }) (ap not c.if-write_staged.false))) in
+    room_again c.args.self.now c.write_staged.new.self (ap (λ (z : Worker). own z.places.items) e) c.write_staged.ensures.chunks (ap (λ (z : Worker). z.log) e) way h
 
 pub returns-then-write_staged-clause-moves : goal.returns-then-write_staged-clause-moves
 returns-then-write_staged-clause-moves g c =

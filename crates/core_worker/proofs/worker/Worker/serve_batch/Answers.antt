@@ -8,7 +8,7 @@ use Rattle.core_worker.specs.Turning.Did.{writes, marks, fails}
 use Rattle.core_worker.proofs.QuietItems.{marks_filled, fails_filled, marks_led, fails_led, fails_stops}
 use Rattle.core_worker.proofs.TurnLaws.{keeps_leading, keeps_batch}
 use Rattle.core_worker.proofs.LeftItems.{renewed_lowers}
-use Rattle.core_worker.proofs.Renewing.{renewed_holds, renewed_stands, batch_renewed}
+use Rattle.core_worker.proofs.Renewing.{renewed_holds, renewed_stands, renewed_room, batch_renewed}
 use Rattle.core_worker.proofs.worker.Worker.serve_batch.Goals as goal
 
 runs_still : (b : Bool) → (b ≡ true → ⊥) → b ≡ false
@@ -38,7 +38,7 @@ returns-in-Batch-clause-keeps g c =
     (runs_still w.stopped (λ stopped. subst MayLeadStopped c.in-Batch.is (c.requires.order.stops stopped))) n.room
     e.moments e.outside (batch_renewed seat.number (record { worker = w; view = v }) y x u n.rest n.names n.count n.winds n.still e.persists)
     (subst (λ (b : Bool). MadeOrStops b before after seat.number v u) (sym same) e.made) (λ stopped. e.cause (sym same ∙ stopped))
-    (λ runs kept. subst (λ (z : Worker). HasKeptRoom z) (sym n.rest) (e.rule (sym same ∙ runs) kept))
+    (λ runs kept. renewed_room y x n.rest n.winds (e.rule (sym same ∙ runs) kept))
 
 pub returns-in-Persisted-clause-keeps : goal.returns-in-Persisted-clause-keeps
 returns-in-Persisted-clause-keeps g c =
