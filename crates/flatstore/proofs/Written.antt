@@ -5,7 +5,7 @@ use Rattle.fs_text.specs.Output.{replies_text}
 use Rattle.fs_text.specs.Streams.{Takes, TakesPrefix}
 use Rattle.group_engine.specs.declared.run_outcome.Outcome.{Outcome}
 use Rattle.group_engine.specs.declared.run_outcome.End.TheVariants as ends
-use Rattle.flatstore.specs.Ordering.{is_whole}
+use Rattle.flatstore.specs.Ordering.{is_quiet, is_whole}
 use Rattle.flatstore.specs.Played.{HasWritten, HasAnswered, is_ended}
 use Rattle.flatstore.specs.Ends.{SinkUse, IsAllOut}
 use Rattle.flatstore.specs.declared.report.Status.{Status}
@@ -64,3 +64,12 @@ module _ (x : Outcome) (sink : SinkUse) (status : Status) where
   fault_end true (inr (inr (inl w)), any) fault here = cc (sym w.0 ∙ fault)
   fault_end true (inr (inr (inr w)), any) fault here = cc (sym w.0 ∙ fault)
   fault_end false w fault here = cc here
+
+  -- a run that was begun ends with no status that leaves the region and the sink as they were
+  pub answered_loud : (p : Bool) → HasAnswered x sink p status → is_quiet status ≡ false
+  answered_loud true (inl w, is) = ap is_quiet w.0
+  answered_loud true (inr (inl w), is) = ap is_quiet w.0
+  answered_loud true (inr (inr (inl w)), is) = ap is_quiet w.0
+  answered_loud true (inr (inr (inr w)), is) = ap is_quiet w.0
+  answered_loud false (same, inl w) = ap is_quiet w.0
+  answered_loud false (same, inr w) = ap is_quiet w.0

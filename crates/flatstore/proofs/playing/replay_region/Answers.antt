@@ -2,10 +2,13 @@
 use Rattle.std.proofs.Common.{List, ℕ, Bool, refl, sym, ap, subst}
 use Rattle.flatstore.specs.Attaching.{Asks}
 use Rattle.flatstore.specs.Ends.{sink_use, source_use}
+use Rattle.flatstore.specs.Ordering.{is_quiet}
 use Rattle.flatstore.specs.Promise.{IsInput, Replays}
 use Rattle.flatstore.proofs.Opened.{granted_by, attaches_to_run, no_more}
 use Rattle.flatstore.proofs.Replaying.{promise, replay_counts, onward}
 use Rattle.flatstore.proofs.Refused.{refused_replays}
+use Rattle.flatstore.proofs.Texts.{both}
+use Rattle.flatstore.proofs.Written.{answered_loud}
 use Rattle.flatstore.proofs.playing.replay_region.Goals as goal
 
 pub returns-in-Err-clause-attaches : goal.returns-in-Err-clause-attaches
@@ -55,3 +58,8 @@ returns-in-Ok-replay-clause-faults g c =
     (source_use g.S.Source.coming g.S.Source.fault_count c.args.source.now c.replay.new.source) c.in-Ok-replay.outcome c.in-Ok-replay.ensures.played
     (g.R.Region.state c.write_outcome.new.region) (sink_use g.O.Sink.taken g.O.Sink.flushed g.O.Sink.fault_count c.args.sink.now c.write_outcome.new.sink)
     c.write_outcome.result c.write_outcome.ensures.answered c.write_outcome.ensures.asks c.write_outcome.ensures.finishes c.write_outcome.ensures.refusals c.write_outcome.ensures.began c.write_outcome.ensures.complete
+
+pub returns-in-Ok-replay-clause-region_untouched : goal.returns-in-Ok-replay-clause-region_untouched
+returns-in-Ok-replay-clause-region_untouched g c = λ quiet attached.
+    let sink = sink_use g.O.Sink.taken g.O.Sink.flushed g.O.Sink.fault_count c.args.sink.now c.write_outcome.new.sink in
+    both (is_quiet c.write_outcome.result.status) quiet (answered_loud c.in-Ok-replay.outcome sink c.write_outcome.result.status c.write_outcome.result.in_place c.write_outcome.ensures.answered)

@@ -2,8 +2,11 @@
 use Rattle.std.proofs.Common.{refl, sym, subst, inl, inr, Bool}
 use Rattle.flatstore.specs.Attaching.{Asks}
 use Rattle.flatstore.specs.Ends.{sink_use, source_use}
+use Rattle.flatstore.specs.Ordering.{is_quiet}
 use Rattle.flatstore.proofs.Opened.{granted_by}
 use Rattle.flatstore.proofs.ThreadRunning.{attaches_then, ran_on, run_counts, not_run}
+use Rattle.flatstore.proofs.Texts.{both}
+use Rattle.flatstore.proofs.Written.{answered_loud}
 use Rattle.flatstore.proofs.run_threads.run_region.Goals as goal
 
 pub returns-in-Err-clause-attaches : goal.returns-in-Err-clause-attaches
@@ -53,3 +56,8 @@ returns-in-Ok-run_cores-clause-faults g c =
     (source_use g.S.Source.coming g.S.Source.fault_count c.args.source.now c.run_cores.new.source) c.in-Ok-run_cores.outcome c.in-Ok-run_cores.ensures.played
     (g.R.Region.state c.write_outcome.new.region) (sink_use g.O.Sink.taken g.O.Sink.flushed g.O.Sink.fault_count c.args.sink.now c.write_outcome.new.sink)
     c.write_outcome.result c.write_outcome.ensures.answered c.write_outcome.ensures.asks c.write_outcome.ensures.finishes c.write_outcome.ensures.refusals c.write_outcome.ensures.began c.write_outcome.ensures.complete
+
+pub returns-in-Ok-run_cores-clause-region_untouched : goal.returns-in-Ok-run_cores-clause-region_untouched
+returns-in-Ok-run_cores-clause-region_untouched g c = λ quiet attached.
+    let sink = sink_use g.O.Sink.taken g.O.Sink.flushed g.O.Sink.fault_count c.args.sink.now c.write_outcome.new.sink in
+    both (is_quiet c.write_outcome.result.status) quiet (answered_loud c.in-Ok-run_cores.outcome sink c.write_outcome.result.status c.write_outcome.result.in_place c.write_outcome.ensures.answered)
