@@ -285,8 +285,8 @@ module _ (old s t : State) (found word : ℕ → ℕ) (A : Attached old s s.fram
     asks_last : Asks r.complete r.in_place f.region u
     asks_last = subst (λ z. Asks r.complete r.in_place z u) (sym P.ran.region) asks
 
-    still : Stays f.region u
-    still = asks_stays r.complete r.in_place f.region u asks_last
+    stays : Stays f.region u
+    stays = asks_stays r.complete r.in_place f.region u asks_last
 
     later : (n : ℕ) → n ≤ f.region.faults → Rose n f.region.faults → Rose n u.faults
     later = asks_later r.complete r.in_place f.region u asks_last
@@ -298,7 +298,7 @@ module _ (old s t : State) (found word : ℕ → ℕ) (A : Attached old s s.fram
     unasked = asks_none r.complete r.in_place f.region u asks_last
 
     abbrev from : GoesOnBy Rejoined old f.region u.frame.bytes found
-    from = record { at = s; attached = subst (λ n. Attached old s n found) (sym (still.bytes ∙ bytes)) A; once = once; granted = granted; on = subst (λ z. Rejoined s z) (sym P.ran.region) P.ran.rejoined }
+    from = record { at = s; attached = subst (λ n. Attached old s n found) (sym (stays.bytes ∙ bytes)) A; once = once; granted = granted; on = subst (λ z. Rejoined s z) (sym P.ran.region) P.ran.rejoined }
 
     report_told : told_in r ≡ told_by (report_in x)
     report_told i = as_told (finishes i) (refusals i)
@@ -323,7 +323,7 @@ module _ (old s t : State) (found word : ℕ → ℕ) (A : Attached old s s.fram
         origin = o;
         begins = P.ran.begins;
         words = subst (λ (z : State). IsTelling z → (w : ℕ) → w < z.frame.bytes / 8 → o.found w ≡ found w) began
-            (words_found old u found source cores input o f x known still later);
+            (words_found old u found source cores input o f x known stays later);
         count = count;
       };
       lines = P.lines;
@@ -332,13 +332,13 @@ module _ (old s t : State) (found word : ℕ → ℕ) (A : Attached old s s.fram
       ran = P.ran.ran;
       inside = P.ran.inside;
       ends = asks_last;
-      next = λ telling told latest low each. subst (λ n. n ≤ counted latest) (sym (still.stamp ∙ ap (λ (z : State). z.stamp) P.ran.region)) (P.ran.next telling told latest low each);
+      next = λ telling told latest low each. subst (λ n. n ≤ counted latest) (sym (stays.stamp ∙ ap (λ (z : State). z.stamp) P.ran.region)) (P.ran.next telling told latest low each);
       kept = P.ran.kept;
       keeps = P.ran.keeps;
       finishes = finishes ∙ P.ran.report.finishes;
       refusals = refusals ∙ P.ran.report.refusals;
       told_is = report_told ∙ P.ran.reports.told_is;
-      licensed = λ telling. subst (AllLicensed f.layout f.group) (λ i w. sym (cells_still f.region u still w) i) (licensed_last (tells_still f.region u still telling));
+      licensed = λ telling. subst (AllLicensed f.layout f.group) (λ i w. sym (cells_still f.region u stays w) i) (licensed_last (tells_still f.region u stays telling));
     }
 
     ran_then : r.complete ≡ true → RanOnThreads old u found refused cores input sink r
@@ -360,7 +360,7 @@ module _ (old s t : State) (found word : ℕ → ℕ) (A : Attached old s s.fram
         ended is m = both (is_ended x.end) is (ap is_ended m)
 
     pub run_counts : CountsFaults old u source sink r.status
-    run_counts = counts_faults old u found source cores input o f x known still later P.ready.read.whole sink r W lost unasked report_told begun complete_is
+    run_counts = counts_faults old u found source cores input o f x known stays later P.ready.read.whole sink r W lost unasked report_told begun complete_is
 
     pub ran_on : (input : List ℕ) × (cores : ℕ) × IsInput source.coming input × RunsOnThreads old u found source refused cores input sink r
     ran_on = (
@@ -368,8 +368,8 @@ module _ (old s t : State) (found word : ℕ → ℕ) (A : Attached old s s.fram
       cores,
       P.ready.read.is_input,
       record {
-        serves = serves old u found source cores input o f x known still later P.ready.read.whole sink r W lost unasked report_told begun complete_is;
-        unsplit = λ failed no. both r.complete (ends_then old u found source cores input o f x known still later P.ready.read.whole sink r W lost unasked report_told begun complete_is failed) no;
+        serves = serves old u found source cores input o f x known stays later P.ready.read.whole sink r W lost unasked report_told begun complete_is;
+        unsplit = λ failed no. both r.complete (ends_then old u found source cores input o f x known stays later P.ready.read.whole sink r W lost unasked report_told begun complete_is failed) no;
         worked = λ begun_is steady. cores_ran;
         run = ran_then;
       },
