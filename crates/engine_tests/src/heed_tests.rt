@@ -57,8 +57,7 @@ fn worked<B: Board>(
     Ok((job.queue.len() as u64, job.worker.next_answer().is_some()))
 }
 
-fn worked_at_board(rt: &HostRuntime, short: bool) -> Result<(u64, bool), Fail> {
-    let alloc = rt.alloc();
+fn worked_at_board(rt: &impl Wait, alloc: Global, short: bool) -> Result<(u64, bool), Fail> {
     let region = attached(alloc)?;
     let Some((worker, mut board)) = seated(alloc, &region)? else {
         return Ok((0, false));
@@ -72,12 +71,12 @@ fn worked_at_board(rt: &HostRuntime, short: bool) -> Result<(u64, bool), Fail> {
 
 #[test]
 fn works_off(rt: HostRuntime) -> Result<(), Fail> {
-    assert_eq!(rt; worked_at_board(&rt, false)?, (0, true));
+    assert_eq!(rt; worked_at_board(&rt, rt.alloc(), false)?, (0, true));
     Ok(())
 }
 
 #[test]
 fn heeds_want_of_memory(rt: HostRuntime) -> Result<(), Fail> {
-    assert_eq!(rt; worked_at_board(&rt, true)?, (1, false));
+    assert_eq!(rt; worked_at_board(&rt, rt.alloc(), true)?, (1, false));
     Ok(())
 }

@@ -9,7 +9,6 @@ use Rattle.fs_model.specs.Cells.{key_of}
 use Rattle.fs_model.specs.Changes.{requests_of, IsPrefixCell}
 use Rattle.pm_region.specs.Cell.{Cell, certain, MayBe}
 use Rattle.pm_region.specs.State.{Frame}
-use Rattle.pm_region.specs.Words.{MayLeaveIn}
 use Rattle.log_entry.specs.declared.entry.Body.{Body}
 use Rattle.log_entry.specs.declared.entry.Body.TheVariants as bodies
 use Rattle.chunk_map.specs.declared.layouts.Geometry.{Geometry}
@@ -35,7 +34,7 @@ use Rattle.headline.proofs.Clients.{prefix_grows}
 use Rattle.engine_laws.specs.Parts.{Groups, AllLicensed, LicensedPart, HasSuperblock, ShowsGroups, group_of, member_of}
 use Rattle.engine_laws.specs.Engine as engines
 use Rattle.engine_laws.specs.Engine.{Engine, line}
-use Rattle.engine_laws.specs.WorkerMoves.{Placed, request_placed, Fixed, asked, replied, fixed_of, requests_for, line_in}
+use Rattle.engine_laws.specs.WorkerMoves.{request_placed, Fixed, asked, replied, fixed_of, requests_for, line_in}
 use Rattle.engine_laws.specs.Keys.{Served, pairs, posted_in, finished, changes_on, changes_at, KeyStands}
 use Rattle.engine_laws.specs.KeyLaw.{KeyView, KeyIs, key_view, key_in}
 use Rattle.engine_laws.specs.Reports.{told_of}
@@ -43,13 +42,11 @@ use Rattle.engine_laws.specs.Origins.{Origin, start_of}
 use Rattle.engine_laws.specs.Promises.{IsOrigin}
 use Rattle.engine_laws.specs.Stands.{StandsNow}
 use Rattle.engine_laws.proofs.Clients.{owner_low, group_low, of_member, opens, shows_groups, key_shows, changes_told, in_filter}
-use Rattle.thread_engine.specs.WorkStates.{WorkState, Works}
 use Rattle.thread_engine.specs.WorkLaws.{KeepsDoubts, WorksOff, hands_at}
 use Rattle.thread_engine.specs.CoreRuns.{HasView, view_after, CoreRun, AllRan, fixed_in, fixed_along, fixed_at}
-use Rattle.thread_engine.specs.Cuts.{Spot, steps_of, kinds_in, Cut, finished_at, MayLeaveAt}
+use Rattle.thread_engine.specs.Cuts.{Spot, kinds_in, Cut, finished_at, MayLeaveAt}
 use Rattle.thread_engine.proofs.SameViews.{like_key, key_shown, shown_licence}
 use Rattle.thread_engine.proofs.Spots.{AfterLaw, Found, found, same_front}
-use Rattle.thread_engine.proofs.Stops.{chain_frame}
 use Rattle.thread_engine.proofs.ByNumber.{requests_are}
 use Rattle.thread_engine.proofs.LastState.{ChainLaw, OpeningKeys, OpeningDoubts}
 

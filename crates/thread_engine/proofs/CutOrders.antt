@@ -1,16 +1,13 @@
 -- One order of the steps of each group's cores, by the deeds that its table showed at its end.
 use Rattle.std.proofs.Common.{◌≡◌, ℕ, zero, suc, ◌+◌, ◌*◌, ◌<◌, Bool, true, false, cond, eqb, List, [], ◌∷◌, ◌++◌, length, Option, Some, refl, sym, ◌∙◌, ap, subst, arith, append_assoc}
 use Rattle.std.specs.List.{slice_get}
-use Rattle.std.proofs.lemmas.Bool.{eqb-true, eq-eqb}
-use Rattle.group_laws.specs.declared.types.Seen.{Seen}
-use Rattle.group_laws.specs.declared.types.Seen.TheVariants as seen
-use Rattle.group_laws.specs.Places.{Place, owner}
+use Rattle.std.proofs.lemmas.Bool.{eqb-true}
+use Rattle.group_laws.specs.Places.{Place}
 use Rattle.group_laws.specs.declared.types.Slot.{Slot}
 use Rattle.group_laws.specs.State.{Group, Notices}
-use Rattle.group_laws.specs.Runs.{Kind, Runs}
+use Rattle.group_laws.specs.Runs.{Runs}
 use Rattle.group_laws.specs.MemberViews.{View, view_of}
 use Rattle.group_laws.specs.OpeningImages.{opened}
-use Rattle.group_board.specs.Journals.{kind_seen}
 use Rattle.group_board.specs.Trails.{TrailStep, step_with}
 use Rattle.batch_leader.specs.TurnSteps.{is_load}
 use Rattle.atomic_board.specs.declared.group_table.GroupTable.{GroupTable}
@@ -22,9 +19,9 @@ use Rattle.atomic_board.specs.declared.seat_data.Deed.TheVariants as deeds
 use Rattle.atomic_board.specs.declared.token.SeatToken.{SeatToken}
 use Rattle.atomic_board.specs.Deeds.{group_of, began, place_of, view_by, trail_by, kind_of, steps_in, deeds_of}
 use Rattle.atomic_board.specs.GroupTables.{origin_of}
-use Rattle.atomic_board.specs.MemberSeats.{view_at, trail_at}
+use Rattle.atomic_board.specs.MemberSeats.{trail_at}
 use Rattle.atomic_board.specs.StepTells.{done_in, trail_in}
-use Rattle.atomic_board.specs.ShownState.{IsCut, IsReached, deeds_at, views_of}
+use Rattle.atomic_board.specs.ShownState.{IsCut, IsReached, deeds_at}
 use Rattle.thread_engine.specs.CoreRuns.{HasView, view_after, LoadsLook}
 use Rattle.thread_engine.specs.Manned.{AllEnded}
 use Rattle.thread_engine.specs.Cuts.{steps_of, kinds_in, IsShown}

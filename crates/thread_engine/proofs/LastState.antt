@@ -9,34 +9,28 @@ use Rattle.fs_model.specs.declared.model.Request.{Request}
 use Rattle.fs_model.specs.Cells.{key_of}
 use Rattle.fs_model.specs.Lawful.{cell_of, stopped_of}
 use Rattle.fs_model.specs.Changes.{requests_of}
-use Rattle.pm_region.specs.Cell.{Cell}
 use Rattle.fs_text.specs.declared.line.Line.{Line}
 use Rattle.pm_region.specs.State.{State, Frame, IsTold, IsTelling, MayLeave, cell_now, counted, Rose}
 use Rattle.pm_region.specs.Split.{TakesPiece, TellsFrom}
 use Rattle.log_entry.specs.declared.entry.Entry.{Entry}
-use Rattle.log_entry.specs.declared.entry.Body.{Body}
-use Rattle.log_entry.specs.declared.entry.Body.TheVariants as bodies
 use Rattle.chunk_map.specs.declared.layouts.Geometry.{Geometry}
 use Rattle.chunk_map.specs.Layouts.{layout_of, owner, IsLayout}
 use Rattle.store_image.specs.Facts.{In}
 use Rattle.store_image.proofs.Clients.{in_front, in_back, has_layout}
 use Rattle.recover.specs.declared.types.CoreStart.{CoreStart}
 use Rattle.recover.specs.declared.types.Recovered.{Recovered}
-use Rattle.group_laws.specs.declared.types.Block.{Block}
 use Rattle.group_laws.specs.declared.types.Slot.{Slot}
 use Rattle.group_laws.specs.declared.types.Slot.TheVariants.{Empty, Posted, Taken, Done, Failed}
 use Rattle.group_laws.specs.Invariant.{Lawful, PendsAt}
 use Rattle.group_laws.specs.Runs.{Kind, Runs}
 use Rattle.group_laws.specs.Places as places
 use Rattle.group_laws.specs.State.{Group}
-use Rattle.group_laws.specs.Steps.{left_by}
 use Rattle.group_laws.specs.Regions.{key_group, groups_in, place_at}
 use Rattle.group_laws.specs.OpeningImages.{opened}
 use Rattle.group_laws.specs.MemberViews.{View, view_of}
 use Rattle.group_laws.proofs.Clients.{in_map, of_map}
 use Rattle.group_board.specs.Seats.{SeatAt}
 use Rattle.group_board.specs.Trails.{TrailStep}
-use Rattle.group_board.specs.Views.{left_in}
 use Rattle.licence.specs.Licence.{Licensed}
 use Rattle.engine_laws.specs.Parts.{Groups, AllLicensed, HasSuperblock, group_of, member_of}
 use Rattle.engine_laws.specs.Idle.{IsDrained}
@@ -76,7 +70,7 @@ use Rattle.thread_engine.specs.Pieces.{IsPieceOf, HasPart}
 use Rattle.thread_engine.specs.WorkStates.{WorkState, IsAtWork, Works, HasEnded}
 use Rattle.thread_engine.specs.WorkLaws.{KeepsDoubts, WorksOff, HasRested, hands_at}
 use Rattle.thread_engine.specs.CoreRuns.{requests_to, fixed_in, HasView, LoadsLook, CoreRun, AllRan}
-use Rattle.thread_engine.specs.Cuts.{steps_of, IsShown, Cut, finished_at, MayLeaveAt, HoldsInside}
+use Rattle.thread_engine.specs.Cuts.{steps_of, IsShown, Cut, finished_at, MayLeaveAt}
 use Rattle.thread_engine.proofs.Doubts.{none_some, one_of, clash}
 use Rattle.thread_engine.proofs.PieceStands.{joined_licence}
 use Rattle.thread_engine.proofs.Rested.{has_rested}

@@ -1,5 +1,5 @@
 -- The spots of a core's chain in their order: one for each front of its steps, and what two of them have fixed.
-use Rattle.std.proofs.Common.{◌≡◌, ◌⊎◌, inl, inr, ℕ, suc, ◌+◌, ◌≤◌, Bool, List, [], ◌∷◌, ◌++◌, length, length-append, refl, sym, ◌∙◌, ap, subst, arith, append-nil, append_assoc}
+use Rattle.std.proofs.Common.{◌≡◌, ◌⊎◌, inl, inr, Bool, List, [], ◌∷◌, ◌++◌, length, length-append, refl, sym, ◌∙◌, ap, subst, arith, append_assoc}
 use Rattle.pm_region.specs.State.{State, IsTold, IsTelling, cell_now}
 use Rattle.pm_region.specs.Words.{KeepsOutside}
 use Rattle.pm_region.proofs.Clients.{told_at_entry}
@@ -11,7 +11,7 @@ use Rattle.batch_leader.specs.TurnSteps.{Trail}
 use Rattle.thread_engine.specs.WorkStates.{WorkState, Move, Leads}
 use Rattle.thread_engine.specs.WorkStates.Move.{accepts, turns, winds_down}
 use Rattle.thread_engine.specs.CoreRuns.{fixed_by, fixed_along}
-use Rattle.thread_engine.specs.Cuts.{Spot, fixed_before, IsWithin, IsAlong}
+use Rattle.thread_engine.specs.Cuts.{Spot, fixed_before, IsAlong}
 
 -- of two ends of one list one is an end of the other
 overlap : {X : Type 0} (xs ys us vs : List X) → xs ++ us ≡ ys ++ vs → ((m : List X) × (us ≡ m ++ vs)) ⊎ ((k : X) × (ks : List X) × (vs ≡ (k ∷ ks) ++ us))

@@ -1,13 +1,12 @@
 -- Where a core is at a cut: between which two parts of its chain, and what a crash may leave of its piece there.
-use Rattle.std.proofs.Common.{◌≡◌, inl, inr, ℕ, ◌+◌, ◌≤◌, Bool, true, false, cond, List, [], ◌∷◌, ◌++◌, length, length-append, refl, sym, ◌∙◌, ap, subst, arith, append-nil, append_assoc}
-use Rattle.pm_region.specs.State.{State, Frame, IsTold, IsTelling}
+use Rattle.std.proofs.Common.{◌≡◌, inl, inr, ℕ, ◌≤◌, Bool, true, false, List, [], ◌∷◌, ◌++◌, length, length-append, refl, sym, ◌∙◌, ap, subst, arith, append-nil, append_assoc}
+use Rattle.pm_region.specs.State.{State, IsTold, IsTelling}
 use Rattle.group_laws.specs.MemberViews.{View}
 use Rattle.group_board.specs.Seats.{SeatAt}
 use Rattle.group_board.specs.Trails.{TrailStep}
 use Rattle.licence.specs.Licence.{Licensed}
 use Rattle.batch_leader.specs.Persisting.{IsLicensedNow}
 use Rattle.batch_leader.specs.TurnSteps.{Trail, AreLoads, LoadsThenStep, TurnSteps, EndsAt, is_load, since}
-use Rattle.engine_laws.specs.WorkerMoves.{Fixed}
 use Rattle.thread_engine.specs.WorkStates.{WorkState, IsAtWork, MakesTurn, Move, Leads}
 use Rattle.thread_engine.specs.WorkStates.Move.{accepts, turns, winds_down}
 use Rattle.thread_engine.specs.CoreRuns.{view_after, LoadsLook, fixed_by, fixed_along}
