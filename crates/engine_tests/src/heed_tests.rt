@@ -32,7 +32,7 @@ fn queue_of(alloc: Global, key: Key) -> Result<VecDeque<(u64, Request)>, Fail>
 
 // Works such a queue off, where the others have said so much of memory. It gives how many requests are left, and
 // whether one was answered.
-fn worked<B: Board>(
+fn worked<B: Board + Drop>(
     rt: &impl Wait,
     alloc: Global,
     seat: B,
