@@ -2,6 +2,7 @@
 use Rattle.std.proofs.Common.{sym, ◌∙◌, ap, subst}
 use Rattle.core_worker.specs.declared.worker.Worker.{Worker}
 use Rattle.core_worker.specs.Supplies.{HasKeptRoom}
+use Rattle.core_worker.proofs.Clients.{room_wound}
 use Rattle.thread_engine.specs.WorkStates.{WorkState, stands_at, sight_by}
 use Rattle.thread_engine.specs.WorkStates.Move.{winds_down}
 use Rattle.thread_engine.proofs.WorkMoves.{works_one}
@@ -18,7 +19,7 @@ returns-clause-work g c =
         holds = e.holds seat.place seat.number v M.holds;
         stands = e.stands (g.P.Region.state c.args.self.now.piece) seat.place seat.number v M.stands;
         order = e.order seat.place seat.number v M.order;
-        rule = λ runs. subst HasKeptRoom (sym e.winds) (M.rule (sym (ap (λ (w : Worker). w.stopped) e.winds) ∙ runs));
+        rule = λ runs. subst HasKeptRoom (sym e.winds) (room_wound c.args.self.now.worker (M.rule (sym (ap (λ (w : Worker). w.stopped) e.winds) ∙ runs)));
       };
       own = c.requires.own;
     }
