@@ -1,0 +1,14 @@
+//! The queue through which the cores of a run hand over the answers of a window: what is taken out in the end is what
+//! was put in, each answer once and no other.
+#![tactic(auto)]
+
+mod account;
+mod queue;
+mod queue_calls;
+mod taking;
+mod window_sizes;
+
+pub use account::{Account, Numbers};
+pub use queue::{AnswerPass, AnswerQueue};
+pub use taking::take_all;
+pub use window_sizes::{PARTS, WINDOW};

@@ -1,0 +1,73 @@
+// A tally that grows.
+ghost use Rattle.std.specs.Prelude.{◌≡◌, ◌+◌, ◌^◌, ◌<◌, List, [], ◌∷◌, ◌++◌, length};
+ghost use Rattle.fs_model.specs.declared.model.Reply as replies_of;
+ghost use Rattle.load_tally.specs.Tallied.{tally_of, bytes_of};
+
+use fs_model::{Pair, Reply};
+use fs_text::Tally;
+
+/// The tally of no requests, on a region without a live pair.
+pub fn nothing() -> Tally
+    ensures { result ≡ tally_of [] [] }
+{
+    Tally {
+        requests: 0,
+        stored: 0,
+        value: 0,
+        absent: 0,
+        deleted: 0,
+        refused: 0,
+        live: 0,
+        bytes: 0,
+    }
+}
+
+fn add_reply(tally: &mut Tally, reply: &Reply)
+    requires { (rs : List replies_of.Reply) × (tally.old ≡ tally_of rs [])
+        × (length rs + 1 < 2 ^ 64) }
+    ensures { (rs : List replies_of.Reply) → tally.old ≡ tally_of rs []
+        → tally.new ≡ tally_of (rs ++ reply.now ∷ []) [] }
+{
+    tally.requests += 1;
+    match reply {
+        Reply::Stored => tally.stored += 1,
+        Reply::Value(_) => tally.value += 1,
+        Reply::Absent => tally.absent += 1,
+        Reply::Deleted => tally.deleted += 1,
+        Reply::Full | Reply::VersionsSpent | Reply::TooLong | Reply::Stopped => tally.refused += 1,
+    }
+}
+
+/// Counts the next replies, behind those that were counted.
+pub fn add_replies(tally: &mut Tally, replies: &[Reply])
+    requires { (rs : List replies_of.Reply) × (tally.old ≡ tally_of rs [])
+        × (length rs + length replies.now < 2 ^ 64) }
+    ensures { (rs : List replies_of.Reply) → tally.old ≡ tally_of rs []
+        → tally.new ≡ tally_of (rs ++ replies.now) [] }
+{
+    for reply in replies {
+        add_reply(tally, reply);
+    }
+}
+
+// How long their values are together.
+fn bytes_together(pairs: &[Pair]) -> u64
+    ensures { result ≡ bytes_of pairs.now }
+{
+    let mut bytes: u64 = 0;
+    for pair in pairs {
+        bytes = bytes.saturating_add(pair.value.bytes().len() as u64);
+    }
+    bytes
+}
+
+/// Counts the live pairs that the region has behind the replies that were counted. The bytes of their values stand still
+/// at the type's end.
+pub fn add_pairs(tally: &mut Tally, pairs: &[Pair])
+    requires { (rs : List replies_of.Reply) × (tally.old ≡ tally_of rs []) }
+    ensures { (rs : List replies_of.Reply) → tally.old ≡ tally_of rs []
+        → tally.new ≡ tally_of rs pairs.now }
+{
+    tally.live = pairs.len() as u64;
+    tally.bytes = bytes_together(pairs);
+}
