@@ -7,7 +7,7 @@ use native.Mathlib.Decide.{ℕ_discrete}
 use Rattle.core_worker.specs.declared.types.Answer.{Answer}
 use Rattle.answer_queue.specs.Accounts.{times, numbers, numbers_from, AreDistinct}
 use Rattle.answer_queue.specs.Storing.{stored_by, HavePlaces}
-use Rattle.answer_queue.proofs.Numbering.{once_here, once_there, numbers_length, times_permutation, run_distinct, run_length}
+use Rattle.answer_queue.proofs.Numbering.{once_here, once_there, times_permutation}
 
 pub stored_length : {X : Type 0} (f : Answer → X) (xs : List Answer) (ys : List (Option X)) → length (stored_by f xs ys) ≡ length ys
 stored_length f [] ys = refl
