@@ -41,8 +41,11 @@ module _ (l : Geometry) (image : ℕ → ℕ) where
 own_name : (x : Found) → is_found x.key x.version x ≡ true
 own_name x = rw (eq-eqb x.key x.key refl, eq-eqb x.version x.version refl) refl
 
-in_first : (es xs : List Found) → AreByName es xs → (x : Found) → In x xs → In x es
+pub in_first : (es xs : List Found) → AreByName es xs → (x : Found) → In x xs → In x es
 in_first es xs is x h = filter_in (is_found x.key x.version) es x (subst (In x) (is.same x.key x.version) (in_filter (is_found x.key x.version) xs x h (own_name x)))
+
+pub in_sorted : (es xs : List Found) → AreByName es xs → (x : Found) → In x es → In x xs
+in_sorted es xs is x h = filter_in (is_found x.key x.version) xs x (subst (In x) (sym (is.same x.key x.version)) (in_filter (is_found x.key x.version) es x h (own_name x)))
 
 -- what holds of each holds of each in another order
 pub all_by_name : (P : Found → Type 0) (es xs : List Found) → AreByName es xs → AllByRecursion P es → AllByRecursion P xs

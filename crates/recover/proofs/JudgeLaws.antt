@@ -20,13 +20,16 @@ use Rattle.store_image.specs.Facts.{Agree}
 use Rattle.pm_region.specs.State.{Frame}
 use Rattle.recover.specs.declared.found_entries.Found.{Found}
 use Rattle.recover.specs.Regions.{Covers}
-use Rattle.recover.specs.FoundEntries.{found_of, entries_at, Stands, AreFound, AreByName}
+use Rattle.recover.specs.FoundEntries.{core_at, chunk_there, found_of, entries_at, Stands, AreFound, AreByName}
 use Rattle.recover.specs.declared.types.RecoverError.{RecoverError}
 use Rattle.recover.specs.declared.types.RecoverError.TheVariants as errors
 use Rattle.recover.specs.Causes.{HasCause}
 use Rattle.recover.specs.Gathering.{AllSpell, AreAgreed}
 use Rattle.recover.proofs.NameLaws.{no_clash}
-use Rattle.recover.proofs.FoundEntryLaws.{by_name_at, all_by_name}
+use Rattle.recover.proofs.FoundEntryLaws.{by_name_at, all_by_name, in_first, in_sorted}
+use Rattle.recover.specs.FirstClash.{IsFirstClash}
+use Rattle.recover.proofs.FirstClashLaws.{clash_found}
+use Rattle.recover.proofs.WordOrderLaws.{words_rise}
 use Rattle.recover.proofs.ReadBackLaws.{found_back, found_stand}
 use Rattle.recover.specs.Winning.{winners_of}
 use Rattle.recover.specs.Judging.{is_taken, rule_beside, body_beside, fault_beside, winners_fault}
@@ -124,3 +127,10 @@ module _ (f : Frame) (l : Geometry) (covers : Covers f l) (image : ℕ → ℕ) 
   -- where the sorted ones agree
   pub sorted_agree : Agree (entries_at l image xs) → AreAgreed l image (entries_at l image xs) × AllSpell l image × AreFound l image xs
   sorted_agree both = none_clash (no_clash (all_entries l image) (entries_at l image xs) by_name_all both)
+
+  -- where two of them contradict each other
+  pub first_clash : (w : ℕ) → IsFirstClash l image xs w → damage l image ≡ Some (damaged (core_at l w) (chunk_there l w) 8)
+  first_clash w first =
+      let back = found_back f l covers image spells fs is in
+      let rise = words_rise l covers.layout image spells fs is in
+      by_clash l image (entries_at l image fs) back whole (damaged (core_at l w) (chunk_there l w) 8) (clash_found l image fs xs rise w first (in_first fs xs sorted) (in_sorted fs xs sorted))

@@ -3,6 +3,7 @@ pub mod WinningLaws
 pub mod ClashLaws
 pub mod NameLaws
 pub mod FoundEntryLaws
+pub mod FirstClashLaws
 pub mod KeyLaws
 pub mod SortLaws
 pub mod StandsLaws

@@ -197,7 +197,7 @@ not_above k v j u e = elim (ltb j k) as (λ b. ltb j k ≡ b → is_lt (ordering
   ] refl q
 
 -- what stands between two equal names
-between : (ak av bk bv ck cv : ℕ) → (ak < bk) ⊎ ((ak ≡ bk) × (av ≤ bv)) → (bk < ck) ⊎ ((bk ≡ ck) × (bv ≤ cv)) → ak ≡ ck → av ≡ cv → (ak ≡ bk) × (av ≡ bv)
+pub between : (ak av bk bv ck cv : ℕ) → (ak < bk) ⊎ ((ak ≡ bk) × (av ≤ bv)) → (bk < ck) ⊎ ((bk ≡ ck) × (bv ≤ cv)) → ak ≡ ck → av ≡ cv → (ak ≡ bk) × (av ≡ bv)
 between ak av bk bv ck cv (inl p) (inl q) k v = absurd (omega (arith, p, q, k))
 between ak av bk bv ck cv (inl p) (inr q) k v = let e = q.0 in absurd (omega (arith, p, e, k))
 between ak av bk bv ck cv (inr p) (inl q) k v = let e = p.0 in absurd (omega (arith, e, q, k))
@@ -208,7 +208,7 @@ in_at x [] h = absurd h
 in_at x (y ∷ ys) (inl e) = (zero, omega arith, λ d. sym e)
 in_at x (y ∷ ys) (inr h) = let r = in_at x ys h in let l = r.1 in (suc r.0, omega (arith, l), r.2)
 
-at_in : {X : Type 0} (xs : List X) (i : ℕ) (d : X) → i < length xs → In (get_or xs i d) xs
+pub at_in : {X : Type 0} (xs : List X) (i : ℕ) (d : X) → i < length xs → In (get_or xs i d) xs
 at_in [] i d lt = absurd (omega (arith, lt))
 at_in (x ∷ xs) zero d lt = inl refl
 at_in (x ∷ xs) (suc i) d lt = inr (at_in xs i d (omega (arith, lt)))
@@ -246,20 +246,21 @@ module _ (xs : List PlacedEntry) (rising : IsInOrder xs) where
     at_most (inl less) = omega (arith, less)
     at_most (inr same) = let e = same.0 in omega (arith, e)
 
-module _ (xs : List PlacedEntry) (rising : IsInOrder xs) (near : NeighboursAgree xs (length xs)) where
-  run : (j i : ℕ) (d : PlacedEntry) → i ≤ j → j < length xs → (get_or xs i d).entry.key ≡ (get_or xs j d).entry.key → (get_or xs i d).entry.version ≡ (get_or xs j d).entry.version
+-- a run of one name agrees where its neighbours do
+module _ (xs : List PlacedEntry) (rising : IsInOrder xs) (low high : ℕ) (near : (j : ℕ) (d : PlacedEntry) → low ≤ j → j < high → contradicts (get_or xs (j + 1) d) (get_or xs j d) ≡ false) where
+  pub run_agrees : (j i : ℕ) (d : PlacedEntry) → low ≤ i → i ≤ j → j ≤ high → j < length xs → (get_or xs i d).entry.key ≡ (get_or xs j d).entry.key → (get_or xs i d).entry.version ≡ (get_or xs j d).entry.version
       → ((get_or xs i d).entry.body ≡ (get_or xs j d).entry.body) × ((get_or xs i d).core ≡ (get_or xs j d).core)
-  run zero i d le lt k v = let z : i ≡ zero = omega (arith, le) in ((λ t. (get_or xs (z t) d).entry.body), (λ t. (get_or xs (z t) d).core))
-  run (suc j) i d le lt k v = elim (ltb i (suc j)) as (λ b. ltb i (suc j) ≡ b → ((get_or xs i d).entry.body ≡ (get_or xs (suc j) d).entry.body) × ((get_or xs i d).core ≡ (get_or xs (suc j) d).core)) [
+  run_agrees zero i d from le upto lt k v = let z : i ≡ zero = omega (arith, le) in ((λ t. (get_or xs (z t) d).entry.body), (λ t. (get_or xs (z t) d).core))
+  run_agrees (suc j) i d from le upto lt k v = elim (ltb i (suc j)) as (λ b. ltb i (suc j) ≡ b → ((get_or xs i d).entry.body ≡ (get_or xs (suc j) d).entry.body) × ((get_or xs i d).core ≡ (get_or xs (suc j) d).core)) [
     | true ↦ λ e.
         let l = ltb-true i (suc j) e in
         let a = get_or xs i d in
         let b = get_or xs j d in
         let c = get_or xs (suc j) d in
         let same = between a.entry.key a.entry.version b.entry.key b.entry.version c.entry.key c.entry.version (above xs rising i j d (omega (arith, l)) (omega (arith, lt))) (above xs rising j (suc j) d (omega arith) lt) k v in
-        let first = run j i d (omega (arith, l)) (omega (arith, lt)) same.0 same.1 in
+        let first = run_agrees j i d from (omega (arith, l)) (omega (arith, upto)) (omega (arith, lt)) same.0 same.1 in
         let p : j + 1 ≡ suc j = omega arith in
-        let no = subst (λ n. contradicts (get_or xs n d) b ≡ false) p (near j d (omega (arith, lt))) in
+        let no = subst (λ n. contradicts (get_or xs n d) b ≡ false) p (near j d (omega (arith, from, l)) (omega (arith, upto))) in
         let step = agrees c b no (record { key = sym same.0 ∙ k; version = sym same.1 ∙ v }) in
         (first.0 ∙ sym step.0, first.1 ∙ sym step.1)
     | false ↦ λ e.
@@ -267,6 +268,11 @@ module _ (xs : List PlacedEntry) (rising : IsInOrder xs) (near : NeighboursAgree
         let z : i ≡ suc j = omega (arith, le, h) in
         ((λ t. (get_or xs (z t) d).entry.body), (λ t. (get_or xs (z t) d).core))
   ] refl
+
+module _ (xs : List PlacedEntry) (rising : IsInOrder xs) (near : NeighboursAgree xs (length xs)) where
+  run : (j i : ℕ) (d : PlacedEntry) → i ≤ j → j < length xs → (get_or xs i d).entry.key ≡ (get_or xs j d).entry.key → (get_or xs i d).entry.version ≡ (get_or xs j d).entry.version
+      → ((get_or xs i d).entry.body ≡ (get_or xs j d).entry.body) × ((get_or xs i d).core ≡ (get_or xs j d).core)
+  run j i d le lt = run_agrees xs rising 0 j (λ m e low high. near m e (omega (arith, high, lt))) j i d (omega arith) le (omega arith) lt
 
   pub all_agree : Agree xs
   all_agree x y h g key version =

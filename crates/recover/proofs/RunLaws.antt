@@ -18,7 +18,7 @@ use Rattle.recover.proofs.TakenLaws.{winners_from, KeysRise, from_risen}
 
 -- names rise
 module _ (fs : List Found) (rising : AreInOrder fs) where
-  found_above : (i j : ℕ) (d : Found) → i ≤ j → j < length fs → ((get_or fs i d).key < (get_or fs j d).key) ⊎ (((get_or fs i d).key ≡ (get_or fs j d).key) × ((get_or fs i d).version ≤ (get_or fs j d).version))
+  pub found_above : (i j : ℕ) (d : Found) → i ≤ j → j < length fs → ((get_or fs i d).key < (get_or fs j d).key) ⊎ (((get_or fs i d).key ≡ (get_or fs j d).key) × ((get_or fs i d).version ≤ (get_or fs j d).version))
   found_above i j d le lt =
       let a = get_or fs i d in
       let b = get_or fs j d in

@@ -14,7 +14,7 @@ use Rattle.std.proofs.lemmas.Bool.{eqb-true, eq-eqb, ne_eqb, ltb-false, le-ltb, 
 use Rattle.store_image.specs.Facts.{In}
 use Rattle.recover.specs.declared.found_entries.Found.{Found}
 use Rattle.recover.specs.Clashes.{name_cmp}
-use Rattle.recover.specs.FoundEntries.{AreInOrder, is_found, AreByName, RiseByWord}
+use Rattle.recover.specs.FoundEntries.{AreInOrder, is_found, AreByName, RiseByWord, WordsKeep}
 use Rattle.recover.proofs.NameLaws.{less_of, in_at, in_filter, filter_in, all_of, one_of}
 
 -- the name and the word
@@ -54,11 +54,11 @@ at_most a b key version e =
 keys_total : IsTotalOrder key_cmp
 keys_total = then_total (then_total (on_total (λ p. p.0) nat_cmp_total) (on_total (λ p. p.1) nat_cmp_total)) (on_total (λ p. p.2) nat_cmp_total)
 
-abbrev WordsKeep : List Found → Type 0
-WordsKeep [] = Unit {0}
-WordsKeep (f ∷ fs) = ((g : Found) → In g fs → f.key ≡ g.key → f.version ≡ g.version → f.at ≤ g.at) × WordsKeep fs
+abbrev WordsOfKeep : List Found → Type 0
+WordsOfKeep [] = Unit {0}
+WordsOfKeep (f ∷ fs) = ((g : Found) → In g fs → f.key ≡ g.key → f.version ≡ g.version → f.at ≤ g.at) × WordsOfKeep fs
 
-keep_of : (fs : List Found) → ((i j : ℕ) (d : Found) → i ≤ j → j < length fs → (get_or fs i d).key ≡ (get_or fs j d).key → (get_or fs i d).version ≡ (get_or fs j d).version → (get_or fs i d).at ≤ (get_or fs j d).at) → WordsKeep fs
+keep_of : (fs : List Found) → ((i j : ℕ) (d : Found) → i ≤ j → j < length fs → (get_or fs i d).key ≡ (get_or fs j d).key → (get_or fs i d).version ≡ (get_or fs j d).version → (get_or fs i d).at ≤ (get_or fs j d).at) → WordsOfKeep fs
 keep_of [] up = tt
 keep_of (f ∷ fs) up = (
   λ g h key version. (let r = in_at g fs h in
@@ -69,8 +69,11 @@ keep_of (f ∷ fs) up = (
   keep_of fs (λ i j d le lt. up (suc i) (suc j) d (omega (arith, le)) (omega (arith, lt))),
 )
 
-words_keep : (xs : List Found) → IsSortedByKey key_of key_cmp xs → WordsKeep xs
-words_keep xs sorted = keep_of xs (λ i j d le lt key version. at_most (get_or xs i d) (get_or xs j d) key version (sorted_far (λ x y. is_lt (key_cmp (key_of x) (key_of y))) (ranks_by keys_total key_of) xs sorted i j d le lt))
+pub words_keep_at : (xs : List Found) → IsSortedByKey key_of key_cmp xs → WordsKeep xs
+words_keep_at xs sorted = λ i j d le lt key version. at_most (get_or xs i d) (get_or xs j d) key version (sorted_far (λ x y. is_lt (key_cmp (key_of x) (key_of y))) (ranks_by keys_total key_of) xs sorted i j d le lt)
+
+words_keep : (xs : List Found) → IsSortedByKey key_of key_cmp xs → WordsOfKeep xs
+words_keep xs sorted = keep_of xs (words_keep_at xs sorted)
 
 -- of one name they rise or stay
 abbrev WordsStay : List Found → Type 0
@@ -91,7 +94,7 @@ module _ (k v : ℕ) where
   named : (xs : List Found) (f : Found) → In f (filter (is_found k v) xs) → (f.key ≡ k) × (f.version ≡ v)
   named xs f h = let both = and_parts (f.key == k) (f.version == v) (passes (is_found k v) xs f h) in (eqb-true f.key k both.0, eqb-true f.version v both.1)
 
-  stay_named : (xs : List Found) → WordsKeep xs → WordsStay (filter (is_found k v) xs)
+  stay_named : (xs : List Found) → WordsOfKeep xs → WordsStay (filter (is_found k v) xs)
   stay_named [] keep = tt
   stay_named (f ∷ fs) keep = elim (is_found k v f) as (λ b. is_found k v f ≡ b → WordsStay (cond b (f ∷ filter (is_found k v) fs) (filter (is_found k v) fs))) [
     | true ↦ λ e. (let both = and_parts (f.key == k) (f.version == v) e in

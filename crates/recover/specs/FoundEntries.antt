@@ -1,5 +1,5 @@
 -- Entries by their names and the words at which they begin.
-use Rattle.std.specs.Prelude.{◌≡◌, ℕ, ◌+◌, ◌-◌, ◌/◌, ◌%◌, ◌<◌, ◌≤◌, ◌==◌, ◌&&◌, Bool, List, [], ◌∷◌, map, filter, length, Option, Some, None, Result, Ok, Err, Vec, if◌then◌else◌}
+use Rattle.std.specs.Prelude.{◌≡◌, ℕ, ◌+◌, ◌-◌, ◌/◌, ◌%◌, ◌<◌, ◌≤◌, ◌==◌, ◌&&◌, Bool, List, [], ◌∷◌, map, filter, length, slice_index_or, Option, Some, None, Result, Ok, Err, Vec, if◌then◌else◌}
 use Rattle.std.specs.Global.{Global}
 use Rattle.std.specs.List.{AllByRecursion}
 use Rattle.std.specs.List.Sorted.{IsSortedByKey}
@@ -77,6 +77,13 @@ pub record AreByName (es xs : List Found) : Type 0 where
 abbrev pub RiseByWord : List Found → Type 0
 RiseByWord [] = Unit {0}
 RiseByWord (f ∷ fs) = AllByRecursion (λ g. f.at < g.at) fs × RiseByWord fs
+
+-- Those of one name begin in the order in which they stand.
+abbrev pub WordsKeep : List Found → Type 0
+WordsKeep fs = (i j : ℕ) (d : Found) → i ≤ j → j < length fs
+    → (slice_index_or fs i d).key ≡ (slice_index_or fs j d).key
+    → (slice_index_or fs i d).version ≡ (slice_index_or fs j d).version
+    → (slice_index_or fs i d).at ≤ (slice_index_or fs j d).at
 
 -- each begins in front of this place
 abbrev pub LieBelow : ℕ → List (ℕ × Entry) → Type 0

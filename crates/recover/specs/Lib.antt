@@ -4,6 +4,7 @@ pub mod Winning
 pub mod Clashes
 pub mod ByName
 pub mod FoundEntries
+pub mod FirstClash
 pub mod KeyRuns
 pub mod Judging
 pub mod Gathering

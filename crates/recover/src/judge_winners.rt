@@ -7,21 +7,20 @@ ghost use Rattle.pm_region.specs.Words.{lasts};
 ghost use Rattle.chunk_map.specs.Layouts.{owner};
 ghost use Rattle.store_image.specs.declared.types.PlacedEntry.{PlacedEntry};
 ghost use Rattle.store_image.specs.Parts.{all_entries, block_class};
-ghost use Rattle.store_image.specs.Soundness.{damage};
+ghost use Rattle.store_image.specs.Soundness.{damaged, damage};
 ghost use Rattle.recover.specs.Regions.{Covers};
 ghost use Rattle.recover.specs.Winning.{winners_of};
-ghost use Rattle.recover.specs.FoundEntries.{placed_at, entries_at, Stands, AreFound, AreInOrder};
+ghost use Rattle.recover.specs.FoundEntries.{core_at, chunk_there, placed_at, entries_at, Stands, AreFound, AreInOrder};
 ghost use Rattle.recover.specs.Causes.{AnswersFault};
 ghost use Rattle.recover.specs.Gathering.{AreAgreed, Agrees, Judges};
 ghost use Rattle.recover.specs.Judging.{rule_beside, fault_beside, winners_fault, HasPointers};
 
-use crate::clashes::clash_fault;
 use crate::found_entries::{Found, chunk_of, core_of};
 use crate::gather_region::gather;
 use crate::key_runs::key_run;
-use crate::reading::{gone_fault, read_at, read_entries};
+use crate::reading::{gone_fault, read_at};
 use crate::region_blocks::block_class;
-use crate::sorting::{agree, by_name};
+use crate::sorting::{by_name, first_clash};
 use crate::types::RecoverError;
 use chunk_map::Layout;
 use chunk_map::layout_sizes::UNIT_WORDS;
@@ -146,27 +145,19 @@ fn judge_winners<R: Region>(
     Ok(())
 }
 
-/// All entries of a region in the order of their names, where some contradict others: they are read and compared in
-/// the order of their places.
-fn compared_entries<R: Region>(
-    alloc: Global,
-    region: &R,
-    layout: &Layout,
-) -> Result<Vec<Found>, RecoverError>
-    requires covers { Covers (R.state region.now).frame layout.now }
-    ensures told { IsTelling (R.state region.now)
-        → Agrees layout.now (lasts (R.state region.now)) result }
-    ensures order { IfOk result (λ found. AreInOrder found.items) }
+/// The fault of an entry that contradicts one in front of it, by its first word.
+fn clash_fault(layout: &Layout, at: u32) -> Fault
+    ensures { result ≡ damaged (core_at layout.now at) (chunk_there layout.now at) 8 }
 {
-    let found = gather(alloc, region, layout)?;
-    let entries = read_entries(alloc, region, layout, &found)?;
-    match clash_fault(alloc, &entries)? {
-        Some(fault) => Err(fault.into()),
-        None => Ok(by_name(found)),
+    Fault::Damaged {
+        part: core_of(layout, at),
+        chunk: chunk_of(layout, at),
+        rule: 8,
     }
 }
 
 /// All entries of a region in the order of their names, as they are found, or the first broken one of rules 4 to 8.
+/// Of rule 8 the place is that of the first entry that contradicts an earlier one.
 fn agreed_entries<R: Region>(
     alloc: Global,
     region: &R,
@@ -179,10 +170,10 @@ fn agreed_entries<R: Region>(
 {
     let found = gather(alloc, region, layout)?;
     let sorted = by_name(found);
-    if agree(alloc, region, layout, &sorted)? {
-        return Ok(sorted);
+    match first_clash(alloc, region, layout, &sorted)? {
+        Some(at) => Err(clash_fault(layout, at).into()),
+        None => Ok(sorted),
     }
-    compared_entries(alloc, region, layout)
 }
 
 /// Judges a region whose entries break none of rules 4 to 8: the first one of rules 4 to 11 that it breaks.

@@ -9,7 +9,6 @@
 //! logs and the allocators, and the logs for the names that stand in them.
 #![tactic(auto)]
 
-mod clashes;
 mod entry_list;
 mod found_entries;
 mod gather_region;

@@ -1,11 +1,11 @@
 // Found entries in the order of their names.
-ghost use Rattle.std.specs.Prelude.{◌≡◌, true, false, IfOk};
+ghost use Rattle.std.specs.Prelude.{◌≡◌, IfOk};
 ghost use Rattle.pm_region.specs.State.{IsTelling};
 ghost use Rattle.pm_region.specs.Words.{lasts};
 ghost use Rattle.store_image.specs.Soundness.{contradicts};
-ghost use Rattle.store_image.specs.Facts.{Agree};
 ghost use Rattle.recover.specs.Regions.{Covers};
-ghost use Rattle.recover.specs.FoundEntries.{placed_at, entries_at, Stands, AreFound, AreInOrder, AreByName, RiseByWord};
+ghost use Rattle.recover.specs.FoundEntries.{placed_at, Stands, AreFound, AreInOrder, AreByName, RiseByWord, WordsKeep};
+ghost use Rattle.recover.specs.FirstClash.{lower, IsFirst};
 
 use crate::found_entries::Found;
 use crate::reading::read_placed;
@@ -20,6 +20,7 @@ use store_image::contradictions::contradicts;
 pub fn by_name(found: Vec<Found>) -> Vec<Found>
     ensures order { AreInOrder result.items }
     ensures names { RiseByWord found.items → AreByName found.items result.items }
+    ensures words { WordsKeep result.items }
 {
     let mut sorted = found;
     sorted.sort_unstable_by_key(|x| (x.key, x.version, x.at));
@@ -54,23 +55,36 @@ fn is_contradiction<R: Region>(
     Ok(contradicts(&one, &other))
 }
 
-/// Whether entries of one key and version have one body and stand in one part. Only neighbours are compared.
-pub fn agree<R: Region>(
+/// The lower of two words, where there is a first one.
+fn lower(first: Option<u32>, at: u32) -> u32
+    ensures { result ≡ lower first at }
+{
+    match first {
+        Some(first) if first < at => first,
+        _ => at,
+    }
+}
+
+/// The word of the first entry, by the order of their words, that contradicts one in front of it; none where entries of
+/// one key and version have one body and stand in one part. Only neighbours are compared.
+pub fn first_clash<R: Region>(
     alloc: Global,
     region: &R,
     layout: &Layout,
     sorted: &[Found],
-) -> Result<bool, Memory>
+) -> Result<Option<u32>, Memory>
     requires covers { Covers (R.state region.now).frame layout.now }
     requires order { AreInOrder sorted.now }
-    ensures { IfOk result (λ b. b ≡ true → IsTelling (R.state region.now)
+    requires words { WordsKeep sorted.now }
+    ensures { IfOk result (λ first. IsTelling (R.state region.now)
         → AreFound layout.now (lasts (R.state region.now)) sorted.now
-        → Agree (entries_at layout.now (lasts (R.state region.now)) sorted.now)) }
+        → IsFirst layout.now (lasts (R.state region.now)) sorted.now first) }
 {
+    let mut first = None;
     for i in 1..sorted.len() {
         if is_contradiction(alloc, region, layout, &sorted[i], &sorted[i - 1])? {
-            return Ok(false);
+            first = Some(lower(first, sorted[i].at));
         }
     }
-    Ok(true)
+    Ok(first)
 }
