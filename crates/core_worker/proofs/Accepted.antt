@@ -18,7 +18,7 @@ use Rattle.core_worker.specs.Status.{any_free, has_room, is_leading}
 use Rattle.core_worker.specs.Supplies.{HasKeptRoom}
 use Rattle.core_worker.specs.Ties.{Tie, LeadsAt, LeadsNothing}
 use Rattle.core_worker.specs.Beginning.{HasFree, IsHeldAside, KeepsTies, ByEachView, OnlyBegins, Begins, UsesRoom}
-use Rattle.core_worker.specs.Accepting.{IsAsBefore, Prepared, IsTied, StaysTied, AcceptsByEachView, wants_room, HoldsOrBeginsByEachView}
+use Rattle.core_worker.specs.Accepting.{IsAsBefore, Prepared, IsTied, StaysTied, wants_room, HoldsOrBeginsByEachView}
 use Rattle.core_worker.specs.Refusals.{HasAnswerRoom}
 use Rattle.core_worker.specs.Serving.{KeepsLine}
 use Rattle.core_worker.proofs.AcceptedOrder.{order_before, order_held, order_begun_now}

@@ -24,7 +24,7 @@ use Rattle.std.proofs.lemmas.Bool.{cases_eq}
 use Rattle.conflict_queue.specs.Waiting.{AddsLast}
 use Rattle.core_worker.specs.StandingTies.{SameNames}
 use Rattle.core_worker.proofs.NamesStood.{names_same}
-use Rattle.core_worker.specs.Accepting.{IsAsBefore, Prepared, Accepts, wants_room, HoldsOrBegins}
+use Rattle.core_worker.specs.Accepting.{IsAsBefore, Prepared, wants_room, HoldsOrBegins}
 use Rattle.group_laws.specs.Places.{Place}
 use Rattle.group_laws.specs.MemberViews.{View}
 use Rattle.core_worker.specs.declared.types.Leading.{Leading}
@@ -33,6 +33,7 @@ use Rattle.core_worker.specs.Ties.{Holds, Stands, HasSpaceFor}
 use Rattle.core_worker.specs.Supplies.{supply_of, why}
 use Rattle.core_worker.specs.Refusals.{reply_to}
 use Rattle.core_worker.specs.Answering.{IsSaid}
+use Rattle.core_worker.specs.Outbox.{as_told}
 use Rattle.core_worker.specs.Beginning.{answer_with, IsAnswered, IsStaged, BeginsBy, BeginsAs, GoesOn, OnlyAnswers, OnlyStages, OnlyBegins, Begins, UsesRoom, HoldsAside}
 
 pub begins_stopped : (Known : Type 0) (w u : Worker) (cell : Option (List ℕ)) (n : ℕ) (r : Request) → w.stopped ≡ true → IsAnswered w u (answer_with n replies.Stopped None) → Begins Known w u cell n r
@@ -73,6 +74,7 @@ answered_holds p m v w u e H = subst (λ (x : Worker). HoldsAside p m v x) (sym 
   pending = H.pending;
   admitted = H.admitted;
   keys = H.keys;
+  mail = H.mail;
   blocks = H.blocks;
   waits = H.waits;
   leads = H.leads;
@@ -133,6 +135,7 @@ aside_of p m v w H = record {
   pending = H.pending;
   admitted = λ k busy. (let a = H.admitted k busy in omega (arith, a));
   keys = H.keys;
+  mail = H.mail;
   blocks = H.blocks;
   waits = λ on k idle. refl;
   leads = H.leads;
@@ -162,6 +165,7 @@ of_aside p m v w H admitted waits = record {
   pending = H.pending;
   admitted = admitted;
   keys = H.keys;
+  mail = H.mail;
   blocks = H.blocks;
   waits = waits;
   leads = H.leads;
@@ -191,7 +195,8 @@ prepared_holds p m v w u e same more H = subst (λ (x : Worker). HoldsAside p m 
   apart = H.apart;
   pending = H.pending;
   admitted = λ k busy. (let a = H.admitted k busy in let b = more k busy in omega (arith, a, b));
-  keys = λ k own which. subst (KnowsKey p v k) (sym (same k)) (H.keys k own which);
+  keys = λ k own which. subst (KnowsKey p (as_told w v) k) (sym (same k)) (H.keys k own which);
+  mail = H.mail;
   blocks = H.blocks;
   waits = λ on k idle. refl;
   leads = H.leads;

@@ -32,6 +32,7 @@ use Rattle.core_index.specs.Index.{known_at}
 use Rattle.group_laws.specs.Places.{GetsBlock}
 use Rattle.group_board.specs.Conditions.{MayPost, IsClearIn}
 use Rattle.core_worker.proofs.Posts.{same_keys, busy_same}
+use Rattle.core_worker.proofs.MailKept.{mail_same}
 
 abbrev slot_in : Option Pending → Option ℕ
 slot_in None = None
@@ -178,6 +179,7 @@ module _ (p : Place) (m : ℕ) (v : View) (w : Worker) (H : Holds p m v w) (slot
           (cases_eq k e.key);
       admitted = λ k busy. H.admitted k (sym (busy_is k) ∙ busy);
       keys = λ k own which. let K = H.keys k own (⊎_elim (λ r. inl r) (λ b. inr (sym (busy_is k) ∙ b)) which) in record { last = K.last; cell = left_in k (known_at w.index k) K.cell; present = K.present; told = K.told };
+      mail = mail_same p m v posted w.winds_down w.notices.items refl refl refl refl refl H.mail;
       blocks = record {
         held = λ r d has. ⊎_elim (λ same. held_here r d same (sym (block_here r same) ∙ has)) (λ ne. H.blocks.held r d (sym (block_other r ne) ∙ has)) (cases_eq r q);
         staged = λ r x. let s = H.blocks.staged r (was_staged r x) in (s.0, block_other r (not_mine r x) ∙ s.1);

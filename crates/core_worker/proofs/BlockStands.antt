@@ -68,6 +68,7 @@ holds_written t p m v w b a q class value H nothing sets wrote = record {
   pending = H.pending;
   admitted = H.admitted;
   keys = H.keys;
+  mail = H.mail;
   blocks = record {
     held = λ r d e. block r (length d.bytes) (H.blocks.held r d e);
     staged = λ r x. (block r (length x.value) (H.blocks.staged r x).0, (H.blocks.staged r x).1);
@@ -111,6 +112,7 @@ holds_stopped p m v w H runs = record {
   pending = λ k x has. ⊎_elim (λ a. inl a) (λ d. absurd (let both : true ≡ false = sym d.2 ∙ runs in cc both)) (H.pending k x has);
   admitted = H.admitted;
   keys = λ k own which. H.keys k own (inl runs);
+  mail = H.mail;
   blocks = H.blocks;
   waits = H.waits;
   leads = H.leads;

@@ -38,16 +38,16 @@ unfolding clears_left
 takes a c st es ix out after fewer one = omega (arith, fewer, one)
 
 pub sends : (a : _) (c : Cleaning) (st : StandingState) (es : List (ℕ × slots.Place)) (out after : List ToSend) (n : Notices) (mail mail' : ℕ) → 0 < notices_left n
-    → box_left after + notices_left n ≡ box_left out → mail' ≡ mail + notices_left n
+    → box_left after + notices_left n ≡ box_left out → mail' ≡ mail + (1 + notices_left n)
     → clears_left a c st es after + mail' < clears_left a c st es out + mail
 unfolding clears_left
 sends a c st es out after n mail mail' some less more = omega (arith, some, less, more)
 
-pub receives : (a : _) (c : Cleaning) (st now : StandingState) (es ix : List (ℕ × slots.Place)) (out : List ToSend) (n : Notices) (mail mail' : ℕ) → 0 < notices_left n
-    → length now.entries ≡ length st.entries → all_untold ix ≤ all_untold es → mail' + notices_left n ≡ mail
+pub receives : (a : _) (c : Cleaning) (st now : StandingState) (es ix : List (ℕ × slots.Place)) (out : List ToSend) (n : Notices) (mail mail' : ℕ)
+    → length now.entries ≡ length st.entries → all_untold ix ≤ all_untold es → mail' + (1 + notices_left n) ≡ mail
     → clears_left a c now ix out + mail' < clears_left a c st es out + mail
 unfolding clears_left
-receives a c st now es ix out n mail mail' some same untold less = omega (arith, some, same, untold, less)
+receives a c st now es ix out n mail mail' same untold less = omega (arith, same, untold, less)
 
 pub commits : (a : _) (c : Cleaning) (st now : StandingState) (es : List (ℕ × slots.Place)) (out : List ToSend) (n : ℕ) → length now.entries ≤ length st.entries + n
     → clears_left a c now es out ≤ clears_left a c st es out + 3 * n
@@ -55,7 +55,7 @@ unfolding clears_left
 commits a c st now es out n more = omega (arith, more)
 
 pub finishes : (a : _) (c : Cleaning) (st : StandingState) (es ix : List (ℕ × slots.Place)) (out : List ToSend) → all_untold ix ≤ all_untold es + 1
-    → clears_left a c st ix out ≤ clears_left a c st es out + 3
+    → clears_left a c st ix out ≤ clears_left a c st es out + 4
 unfolding clears_left
 finishes a c st es ix out more = omega (arith, more)
 

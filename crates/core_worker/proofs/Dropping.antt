@@ -88,6 +88,7 @@ module _ (p : groups.Place) (m : ℕ) (v : View) (w : Worker) (H : Holds p m v w
       room = λ k ne. omega arith;
       knows = λ k own ne which. H.keys k own which;
       knows_here = λ own r. absurd (let both : true ≡ false = sym stopped ∙ r in cc both);
+      mail = H.mail;
       remembers = λ r. absurd (let both : true ≡ false = sym stopped ∙ r in cc both);
       last = λ k own ne busy. refl;
       cell = λ k ne. refl;

@@ -30,6 +30,7 @@ use Rattle.core_worker.specs.KeyTies.{IsPlaced, Offers, KnowsKey, IsStagedBlock,
 use Rattle.core_worker.specs.declared.types.Cleaning.TheVariants.{Nothing}
 use Rattle.core_worker.specs.Supplies.{under_way}
 use Rattle.core_worker.specs.LogNames.{NamesStand}
+use Rattle.core_worker.specs.Outbox.{KeepsMail, as_told}
 use Rattle.core_worker.specs.Ties.{Stands, Leads, HasSpaceFor, is_lost}
 use Rattle.core_worker.specs.Beginning.{HoldsAside}
 use Rattle.core_worker.proofs.Posts.{busy_by, busy_has}
@@ -45,8 +46,9 @@ pub record Frees (p : Place) (m key slot : ℕ) (v u : View) (w x : Worker) : Ty
   -- keys
   pub spelled : IsSpelledIndex x.index
   pub room : (k : ℕ) → k ≢ key → room_at w.index k ≤ room_at x.index k
-  pub knows : (k : ℕ) → owner p k ≡ m → k ≢ key → (w.stopped ≡ false) ⊎ (is_busy w.places.items k ≡ true) → KnowsKey p u k (known_at x.index k)
-  pub knows_here : owner p key ≡ m → x.stopped ≡ false → KnowsKey p u key (known_at x.index key)
+  pub knows : (k : ℕ) → owner p k ≡ m → k ≢ key → (w.stopped ≡ false) ⊎ (is_busy w.places.items k ≡ true) → KnowsKey p (as_told x u) k (known_at x.index k)
+  pub knows_here : owner p key ≡ m → x.stopped ≡ false → KnowsKey p (as_told x u) key (known_at x.index key)
+  pub mail : KeepsMail p m u x.winds_down x.notices.items
   pub remembers : x.stopped ≡ false → (k : ℕ) → owner p k ≡ m → u.pending k ≡ None → is_forgettable (known_at x.index k) ≡ false
   pub last : (k : ℕ) → owner p k ≡ m → k ≢ key → is_busy w.places.items k ≡ true → u.last k ≡ v.last k
   pub cell : (k : ℕ) → k ≢ key → u.cell k ≡ v.cell k
@@ -181,9 +183,10 @@ module _ (p : Place) (m key slot : ℕ) (v u : View) (w x : Worker) (H : HoldsAs
         (cases_eq k key);
     admitted = λ k busy. let b = busy_was k busy in let a = H.admitted k b.1 in let r = F.room k b.0 in omega (arith, a, r);
     keys = λ k own which. ⊎_elim
-        (λ same. subst (λ (n : ℕ). KnowsKey p u n (known_at x.index n)) (sym same) (F.knows_here (ap (owner p) (sym same) ∙ own) (⊎_elim (λ r. r) (λ busy. absurd ((busy_was k busy).0 same)) which)))
+        (λ same. subst (λ (n : ℕ). KnowsKey p (as_told x u) n (known_at x.index n)) (sym same) (F.knows_here (ap (owner p) (sym same) ∙ own) (⊎_elim (λ r. r) (λ busy. absurd ((busy_was k busy).0 same)) which)))
         (λ ne. F.knows k own ne (⊎_elim (λ r. inl (F.runs r)) (λ busy. inr (busy_was k busy).1) which))
         (cases_eq k key);
+    mail = F.mail;
     blocks = record {
       held = λ q b has. block_still q (length b.bytes) (H.blocks.held q b (F.blocks q b has)) (F.held q b has);
       staged = λ q s. let y = H.blocks.staged q (was_staged q s) in (block_still q (length s.value) y.0 (F.staged q (was_staged q s) (elsewhere s.slot s.entry.key (ap key_in s.place)).0), none_there q y.1);

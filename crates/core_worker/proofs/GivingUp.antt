@@ -1,10 +1,11 @@
 -- A change that could not be written is given up: its place is free, it is in doubt, and the core has stopped.
-use Rattle.std.proofs.Common.{◌≡◌, ◌≢◌, ◌⊎◌, inl, inr, ⊎_elim, ℕ, ◌+◌, ◌<◌, Bool, true, false, cond, Option, Some, None, refl, sym, ◌∙◌, ap, subst, arith}
+use Rattle.std.proofs.Common.{◌≡◌, ◌≢◌, ◌⊎◌, inl, inr, ⊎_elim, ℕ, ◌+◌, ◌<◌, Bool, true, false, cond, List, Option, Some, None, refl, sym, ◌∙◌, ap, subst, arith}
 use Rattle.std.specs.Prelude.{Vec}
 use Rattle.std.specs.Global.{Global}
 use Rattle.std.specs.declared.collections.VecDeque.{VecDeque}
 use Rattle.std.proofs.lemmas.Bool.{eq-eqb, ne_eqb}
 use Rattle.log_entry.specs.declared.entry.Entry.{Entry}
+use Rattle.log_entry.specs.declared.entry.EntryName.{EntryName}
 use Rattle.core_index.specs.Index.{known_at}
 use Rattle.core_index.specs.Records.{block_of}
 use Rattle.log_entry.specs.Spelling.{HasSpelling}
@@ -26,9 +27,11 @@ use Rattle.core_worker.specs.Order.{PointsAt, InOrder, MayLeadStopped}
 use Rattle.core_worker.specs.Refusals.{HasAnswerRoom}
 use Rattle.core_worker.specs.Beginning.{HoldsAside}
 use Rattle.core_worker.specs.Hearing.{HearsAll}
+use Rattle.core_worker.specs.Outbox.{waiting_dead, as_told}
 use Rattle.core_worker.proofs.Heard.{hears_none, hears_all}
 use Rattle.core_worker.proofs.Tidied.{tidied_knows, spent_last}
 use Rattle.core_worker.proofs.Freeing.{Frees}
+use Rattle.core_worker.proofs.MailKept.{told_by, mail_tidy, mail_still, still_then, still_same, still_tidied}
 use Rattle.core_worker.proofs.NamesAgreeing.{agrees_tidied}
 use Rattle.core_worker.proofs.FreedOrder.{FreesInOrder, room_let_go}
 
@@ -52,6 +55,9 @@ module _ (p : Place) (m : ℕ) (v : View) (w : Worker) (H : HoldsAside p m v w) 
     abbrev given : Worker
     given = record w { places = ps; answers = given_out; stopped = true }
 
+    abbrev all : List EntryName
+    all = waiting_dead w.notices.items
+
     here : (k : ℕ) → k ≡ key → view.pending k ≡ Some doubt
     here k same = ap (λ c. cond c (Some doubt) (v.pending k)) (eq-eqb k e.key (same ∙ sym mine))
 
@@ -61,16 +67,16 @@ module _ (p : Place) (m : ℕ) (v : View) (w : Worker) (H : HoldsAside p m v w) 
     hears : HearsAll (core_of p m) w.index w.index
     hears = hears_all (core_of p m) w.index w.index (hears_none (core_of p m) w.index) (λ n waits. O.heard n.key n.version waits)
 
-    knows_before : (k : ℕ) → owner p k ≡ m → (w.stopped ≡ false) ⊎ (is_busy w.places.items k ≡ true) → KnowsKey p (after_give_up e v) k (known_at w.index k)
+    knows_before : (k : ℕ) → owner p k ≡ m → (w.stopped ≡ false) ⊎ (is_busy w.places.items k ≡ true) → KnowsKey p (as_told w (after_give_up e v)) k (known_at w.index k)
     knows_before k own which = let K = H.keys k own which in record { last = K.last; cell = K.cell; present = K.present; told = K.told }
 
     spent : (k : ℕ) → owner p k ≡ m → k ≢ key → (w.stopped ≡ false) ⊎ (is_busy w.places.items k ≡ true) → IsSpentIn p m (after_give_up e v) k → v.last k ≡ 0
     spent k own ne which s =
         let none : v.pending k ≡ None = sym (other k ne) ∙ s.3 in
-        spent_last p m (after_give_up e v) k (known_at w.index k) (knows_before k own which) (⊎_elim (λ r. H.remembers r k own none) (λ busy. O.recalls k own busy none) which) s
+        spent_last p m (as_told w (after_give_up e v)) k (known_at w.index k) (knows_before k own which) (⊎_elim (λ r. H.remembers r k own none) (λ busy. O.recalls k own busy none) which) s
 
-    knows_after : (k : ℕ) → owner p k ≡ m → k ≢ key → (w.stopped ≡ false) ⊎ (is_busy w.places.items k ≡ true) → KnowsKey p view k (known_at w.index k)
-    knows_after k own ne which = tidied_knows p m (after_give_up e v) last told dead T w.index w.index hears k own (spent k own ne which) (knows_before k own which)
+    knows_after : (k : ℕ) → owner p k ≡ m → k ≢ key → (w.stopped ≡ false) ⊎ (is_busy w.places.items k ≡ true) → KnowsKey p (as_told w view) k (known_at w.index k)
+    knows_after k own ne which = tidied_knows p m (as_told w (after_give_up e v)) last (told_by all told) dead (mail_tidy p m (after_give_up e v) all last told dead T) w.index w.index hears k own (spent k own ne which) (knows_before k own which)
 
     not_here : (q : ℕ) (s : IsStagedBlock v w.places.items q) → s.slot ≡ slot → ⊥
     not_here q s at = (let both : Posted number key lines ≡ Staged s.number s.entry s.value = sym was ∙ ap (place_at w.places.items) (sym at) ∙ s.place in cc both)
@@ -87,6 +93,7 @@ module _ (p : Place) (m : ℕ) (v : View) (w : Worker) (H : HoldsAside p m v w) 
       room = λ k ne. omega arith;
       knows = knows_after;
       knows_here = λ own r. absurd (cc r);
+      mail = mail_still p m v view w.winds_down w.notices.items (still_then p m v (after_give_up e v) view (still_same p m v (after_give_up e v) refl refl refl refl refl) (still_tidied p m (after_give_up e v) last told dead T)) H.mail;
       remembers = λ r. absurd (cc r);
       last = λ k own ne busy. (knows_after k own ne (inr busy)).last ∙ sym (H.keys k own (inr busy)).last;
       cell = λ k ne. refl;

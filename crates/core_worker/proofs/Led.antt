@@ -10,6 +10,7 @@ use Rattle.licence.proofs.Clients.{allowed, flown}
 use Rattle.core_worker.specs.declared.types.Leading.{Leading}
 use Rattle.core_worker.specs.declared.worker.Worker.{Worker}
 use Rattle.core_worker.specs.Ties.{Leads, HasSpaceFor, is_lost, Holds, Stands}
+use Rattle.core_worker.proofs.MailKept.{mail_same}
 
 -- a view in which a leader's fields are others
 abbrev pub led_view : View → List Entry → List Entry → (ℕ → ℕ → Option Entry) → Bool → List Seen → List Entry → View
@@ -35,6 +36,7 @@ holds_led p m v w flying taken holds looked took l H leads space lost = record {
   pending = H.pending;
   admitted = H.admitted;
   keys = λ k own which. let K = H.keys k own which in record { last = K.last; cell = K.cell; present = K.present; told = K.told };
+  mail = mail_same p m v (led_view v v.kept flying taken holds looked took) w.winds_down w.notices.items refl refl refl refl refl H.mail;
   blocks = record {
     held = H.blocks.held;
     staged = λ q x. H.blocks.staged q (record { slot = x.slot; number = x.number; entry = x.entry; value = x.value; place = x.place; points = x.points });
@@ -123,6 +125,7 @@ failed_by p m v u w taken l e H leads space stopped = subst (λ (x : View). Hold
   pending = H.pending;
   admitted = H.admitted;
   keys = λ k own which. let K = H.keys k own which in record { last = K.last; cell = K.cell; present = K.present; told = K.told };
+  mail = mail_same p m v (failed_view v taken) w.winds_down w.notices.items refl refl refl refl refl H.mail;
   blocks = record {
     held = H.blocks.held;
     staged = λ q x. H.blocks.staged q (record { slot = x.slot; number = x.number; entry = x.entry; value = x.value; place = x.place; points = x.points });

@@ -35,7 +35,7 @@ use Rattle.core_worker.proofs.LeftItems.{IsLawful, lowers_step, lowers_still}
 use Rattle.core_worker.proofs.LeftRounds.{lowers_run, offered, own_member, own_slot}
 
 -- Before its place is let go: the change is settled, or the core stops.
-settled_low : (home : Option ℕ) (p : Place) (w x : Worker) (e : Entry) → MatchOption home (x ≡ record w { stopped = true }) (λ h. Settles w x e (core_of p h)) → left x ≤ left w + 3
+settled_low : (home : Option ℕ) (p : Place) (w x : Worker) (e : Entry) → MatchOption home (x ≡ record w { stopped = true }) (λ h. Settles w x e (core_of p h)) → left x ≤ left w + 4
 settled_low None p w x e stops = let same = stops_way w x stops in omega (arith, same)
 settled_low (Some h) p w x e settles = settles_way w x e (core_of p h) settles
 
@@ -43,7 +43,7 @@ settled_places : (home : Option ℕ) (p : Place) (w x : Worker) (e : Entry) → 
 settled_places None p w x e stops = ap (λ (y : Worker). length y.places.items) stops
 settled_places (Some h) p w x e settles = ap (λ (y : Worker). length y.places.items) settles.rest
 
-pub takes_back_low : (p : Place) (m slot : ℕ) (v u : View) (w x : Worker) → slot < length w.places.items → TakesBack p m slot v u w x → left x ≤ left w + 3
+pub takes_back_low : (p : Place) (m slot : ℕ) (v u : View) (w x : Worker) → slot < length w.places.items → TakesBack p m slot v u w x → left x ≤ left w + 4
 takes_back_low p m slot v u w x lt T =
     let settled = settled_low T.home p w T.mid T.entry T.settles in
     let count = settled_places T.home p w T.mid T.entry T.settles in
@@ -51,7 +51,7 @@ takes_back_low p m slot v u w x lt T =
     omega (arith, settled, gone)
 
 -- A change that was given back is finished, and what waits of its key is begun.
-pub finishes_lower : (before after : Option Group) (m slot : ℕ) (u : View) (w x : Worker) → Makes before m (Kind.Finish slot) after u → IsLawful before → left x ≤ left w + 3 → Lowers before after w x
+pub finishes_lower : (before after : Option Group) (m slot : ℕ) (u : View) (w x : Worker) → Makes before m (Kind.Finish slot) after u → IsLawful before → left x ≤ left w + 4 → Lowers before after w x
 finishes_lower before after m slot u w x made lawful low = lowers_step before after m (Kind.Finish slot) u w x made lawful (λ a b L step. ⊎_elim
     (λ done. let way = finishes_way a b m slot done.0 done.1 done.2 done.3 in omega (arith, way, low))
     (λ lost. let way = gives_up_way a b m slot lost.0 lost.1 lost.2 in omega (arith, way, low))

@@ -92,7 +92,7 @@ lets_go_way w x slot reply lt L =
     let places = places_with w.places.items x.places.items slot Free L.places lt in
     omega (arith, same, places)
 
-pub settles_way : (w x : Worker) (e : Entry) (home : ℕ) → Settles w x e home → left x ≤ left w + 3
+pub settles_way : (w x : Worker) (e : Entry) (home : ℕ) → Settles w x e home → left x ≤ left w + 4
 settles_way w x e home S =
     let same = ap serves_left S.rest in
     let kept = ap (λ (y : Worker). clears_left y.accepted y.cleaning x.standing x.index y.notices.items) S.rest in

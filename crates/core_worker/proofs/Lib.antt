@@ -5,6 +5,7 @@ mod OutboxLaws
 mod Rounds
 mod Writing
 mod ChunksKept
+mod MailKept
 mod Made
 mod Quiet
 mod Posts

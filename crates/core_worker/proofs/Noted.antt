@@ -30,6 +30,7 @@ holds_noted p m v w H = record {
   pending = H.pending;
   admitted = H.admitted;
   keys = H.keys;
+  mail = H.mail;
   blocks = H.blocks;
   waits = H.waits;
   leads = H.leads;

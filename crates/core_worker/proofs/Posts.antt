@@ -28,6 +28,7 @@ use Rattle.core_worker.specs.OwnPlaces.{place_at, key_in, is_of, is_busy, Replac
 use Rattle.core_worker.specs.KeyTies.{IsPlaced, Offers, IsStagedBlock}
 use Rattle.core_worker.specs.Posting.{PointsNowhere}
 use Rattle.core_worker.specs.Ties.{Holds, Stands, HasSpaceFor}
+use Rattle.core_worker.proofs.MailKept.{mail_same}
 
 -- a place with the key makes it busy, and a busy key has one
 pub busy_by : (ps : List places.Place) (k s : ℕ) → key_in (place_at ps s) ≡ Some k → is_busy ps k ≡ true
@@ -181,6 +182,7 @@ module _ (p : Place) (m : ℕ) (v : View) (w : Worker) (H : Holds p m v w) (slot
           (cases_eq k e.key);
       admitted = λ k busy. H.admitted k (sym (busy_is k) ∙ busy);
       keys = λ k own which. let K = H.keys k own (⊎_elim (λ r. inl r) (λ b. inr (sym (busy_is k) ∙ b)) which) in record { last = K.last; cell = K.cell; present = K.present; told = K.told };
+      mail = mail_same p m v posted w.winds_down w.notices.items refl refl refl refl refl H.mail;
       blocks = record {
         held = H.blocks.held;
         staged = λ q x. H.blocks.staged q (was_staged q x);

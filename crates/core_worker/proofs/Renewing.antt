@@ -16,6 +16,7 @@ use Rattle.core_worker.specs.declared.worker.Worker.{Worker}
 use Rattle.core_worker.specs.Ties.{Holds, Stands, HasSpaceFor}
 use Rattle.core_worker.specs.StandingTies.{SameNames}
 use Rattle.core_worker.specs.Turns.{Moment, Persists, LosesBatch, PersistsOrLoses}
+use Rattle.core_worker.proofs.MailKept.{mail_winds}
 use Rattle.core_worker.proofs.NamesKnown.{adds_same}
 use Rattle.core_worker.proofs.NamesStood.{names_same}
 
@@ -45,6 +46,7 @@ holds_renewed p m v w st winds works H = record {
   pending = H.pending;
   admitted = H.admitted;
   keys = H.keys;
+  mail = mail_winds p m v w.winds_down winds w.notices.items works H.mail;
   blocks = H.blocks;
   waits = λ on. H.waits (works on);
   leads = H.leads;

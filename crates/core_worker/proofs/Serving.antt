@@ -19,7 +19,7 @@ use Rattle.core_worker.specs.Refusals.{HasAnswerRoom}
 use Rattle.core_worker.specs.Beginning.{HoldsAside, IsStaged, OnlyAnswers}
 use Rattle.log_standing.specs.NameCounts.{StandingState}
 use Rattle.core_worker.specs.StandingTies.{KnowsDead, most_names}
-use Rattle.core_worker.specs.Order.{PointsAt, count_changes, unanswered, MayLeadStopped, InOrder}
+use Rattle.core_worker.specs.Order.{count_changes, unanswered, MayLeadStopped, InOrder}
 use Rattle.core_worker.specs.Serving.{KeepsLine, OthersWait, AllWait}
 use Rattle.core_worker.proofs.Posts.{busy_by, busy_has}
 use Rattle.core_worker.proofs.Pointers.{free_is}

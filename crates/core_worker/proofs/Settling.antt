@@ -5,6 +5,8 @@ use Rattle.std.specs.Global.{Global}
 use Rattle.std.specs.declared.collections.VecDeque.{VecDeque}
 use Rattle.std.proofs.lemmas.Bool.{cases_eq, eqb-true, eq-eqb, ne_eqb, and_from}
 use Rattle.log_entry.specs.declared.entry.Entry.{Entry}
+use Rattle.log_entry.specs.declared.entry.EntryName.{EntryName}
+use Rattle.group_laws.specs.Updates.{has}
 use Rattle.log_entry.specs.declared.entry.Body.{Body}
 use Rattle.log_entry.specs.declared.entry.Body.TheVariants as bodies
 use Rattle.log_entry.specs.Spelling.{HasSpelling}
@@ -35,6 +37,7 @@ use Rattle.core_worker.specs.Ties.{LeadsAt, HasSpaceFor}
 use Rattle.core_worker.specs.Order.{PointsAt, InOrder, MayLeadStopped}
 use Rattle.core_worker.specs.Refusals.{HasAnswerRoom}
 use Rattle.core_worker.specs.Beginning.{HoldsAside}
+use Rattle.core_worker.specs.Outbox.{mailing, waiting_dead}
 use Rattle.core_worker.specs.Hearing.{heard_at, last_change, HearsAll}
 use Rattle.core_worker.specs.StandingTies.{IsNamedIn, KnowsDead, HearsOwn}
 use Rattle.core_worker.specs.LogNames.{KnowsNames}
@@ -45,6 +48,7 @@ use Rattle.core_worker.proofs.HeardNames.{stands_by, dies_by, awaits_by}
 use Rattle.core_worker.proofs.Tidied.{member_of, present_of, stands_of, dead_is, dead_by, tidied_knows, spent_last, change_last}
 use Rattle.core_worker.proofs.PuttingBack.{put_chunks, put_less, put_gone, put_kept}
 use Rattle.core_worker.proofs.Freeing.{Frees}
+use Rattle.core_worker.proofs.MailKept.{told_by, mail_tidy, mail_still, still_then, still_finished, still_tidied, none_waits, waits_of}
 use Rattle.core_worker.proofs.NamesAgreeing.{agrees_tidied}
 use Rattle.core_worker.proofs.FreedOrder.{FreesInOrder, room_let_go}
 
@@ -149,7 +153,10 @@ module _ (p : Place) (m : ℕ) (v : View) (w : Worker) (H : HoldsAside p m v w) 
   key_was : key_in (place_at w.places.items slot) ≡ Some key
   key_was = ap key_in was
 
-  K : KnowsKey p v key (known_at w.index key)
+  abbrev all : List EntryName
+  all = waiting_dead w.notices.items
+
+  K : KnowsKey p (mailing all v) key (known_at w.index key)
   K = H.keys key own_key (inr (busy_by w.places.items key slot key_was))
 
   pub next_here : e.version ≡ last_of (known_at w.index key) + 1
@@ -221,10 +228,10 @@ module _ (p : Place) (m : ℕ) (v : View) (w : Worker) (H : HoldsAside p m v w) 
       by (bodies.Embedded y) l = l
       by bodies.Tombstone l = l
 
-    knows_other : (k : ℕ) → owner p k ≡ m → k ≢ key → (w.stopped ≡ false) ⊎ (is_busy w.places.items k ≡ true) → KnowsKey p mid_view k (known_at mid k)
+    knows_other : (k : ℕ) → owner p k ≡ m → k ≢ key → (w.stopped ≡ false) ⊎ (is_busy w.places.items k ≡ true) → KnowsKey p (mailing all mid_view) k (known_at mid k)
     knows_other k own ne which =
         let J = H.keys k own which in
-        subst (KnowsKey p mid_view k) (sym (C.others k ne)) (record {
+        subst (KnowsKey p (mailing all mid_view) k) (sym (C.others k ne)) (record {
           last = last_other k ne ∙ J.last;
           cell = subst (LeftIn mid_view k (known_at w.index k)) (sym (cell_other k ne)) (left_other k ne (known_at w.index k) (v.cell k) J.cell);
           present = λ n. ap (option_map (core_of p)) (present_other k n ne) ∙ J.present n;
@@ -254,7 +261,14 @@ module _ (p : Place) (m : ℕ) (v : View) (w : Worker) (H : HoldsAside p m v w) 
       by None is = refl
       by (Some h) is = absurd (let both : Some (core_of p h) ≡ None = sym (ap (option_map (core_of p)) is) ∙ K.present e.version ∙ ap (option_map (λ (s : Standing). s.home)) new_stands in cc both)
 
-    knows_new : KnowsKey p mid_view key (Some new_record)
+    -- the change was not told, since it stood nowhere
+    unwaited : has all key e.version ≡ false
+    unwaited = none_waits p m v w.winds_down w.notices.items H.mail key e.version (λ x. (let here = x.stands in let both : None ≡ Some x.to = sym none_present ∙ here in cc both))
+
+    none_told : cond (has all key e.version) true (v.told key e.version) ≡ false
+    none_told = ap (λ (b : Bool). cond b true (v.told key e.version)) unwaited ∙ O.told key e.version none_present
+
+    knows_new : KnowsKey p (mailing all mid_view) key (Some new_record)
     knows_new = record {
       last = ap (λ c. cond c e.version (v.last key)) (eq-eqb key e.key (sym mine));
       cell = subst (Left mid_view key e.body) (sym (ap (λ c. cond c (left_in v.blocks e.body) (v.cell key)) (eq-eqb key e.key (sym mine)))) (left_new e.body refl offers);
@@ -263,15 +277,15 @@ module _ (p : Place) (m : ℕ) (v : View) (w : Worker) (H : HoldsAside p m v w) 
           (λ ne. ap (option_map (core_of p)) (present_older n ne) ∙ K.present n ∙ sym (ap (option_map (λ (s : Standing). s.home)) (stands_old n ne)))
           (cases_eq n e.version);
       told = λ n s is. ⊎_elim
-          (λ same. ap (v.told key) same ∙ O.told key e.version none_present ∙ told_flag (sym stands_new ∙ ap (standing_at new_record.standing) (sym same) ∙ is))
+          (λ same. ap (λ (i : ℕ). cond (has all key i) true (v.told key i)) same ∙ none_told ∙ told_flag (sym stands_new ∙ ap (standing_at new_record.standing) (sym same) ∙ is))
           (λ ne. K.told n s (sym (stands_old n ne) ∙ is))
           (cases_eq n e.version);
     } where
       told_flag : {s : Standing} → Some new_standing ≡ Some s → false ≡ s.told
       told_flag {s} x = let same : new_standing ≡ s = cc x in ap (λ (y : Standing). y.told) same
 
-    knows_mid : KnowsKey p mid_view key (known_at mid key)
-    knows_mid = subst (KnowsKey p mid_view key) (sym C.here) knows_new
+    knows_mid : KnowsKey p (mailing all mid_view) key (known_at mid key)
+    knows_mid = subst (KnowsKey p (mailing all mid_view) key) (sym C.here) knows_new
 
     spent_here : IsSpentIn p m mid_view key → mid_view.last key ≡ 0
     spent_here s = absurd (let none = s.2 e.version in let both : None ≡ Some home = sym none ∙ present_here in cc both)
@@ -279,10 +293,13 @@ module _ (p : Place) (m : ℕ) (v : View) (w : Worker) (H : HoldsAside p m v w) 
     spent_other : (k : ℕ) → owner p k ≡ m → k ≢ key → (w.stopped ≡ false) ⊎ (is_busy w.places.items k ≡ true) → IsSpentIn p m mid_view k → mid_view.last k ≡ 0
     spent_other k own ne which s =
         let none : v.pending k ≡ None = sym (pending_other k ne) ∙ s.3 in
-        spent_last p m mid_view k (known_at mid k) (knows_other k own ne which) (ap is_forgettable (C.others k ne) ∙ ⊎_elim (λ r. H.remembers r k own none) (λ busy. O.recalls k own busy none) which) s
+        spent_last p m (mailing all mid_view) k (known_at mid k) (knows_other k own ne which) (ap is_forgettable (C.others k ne) ∙ ⊎_elim (λ r. H.remembers r k own none) (λ busy. O.recalls k own busy none) which) s
 
-    knows_after : (k : ℕ) → owner p k ≡ m → k ≢ key → (w.stopped ≡ false) ⊎ (is_busy w.places.items k ≡ true) → KnowsKey p view k (known_at ix k)
-    knows_after k own ne which = tidied_knows p m mid_view last told dead T mid ix A k own (spent_other k own ne which) (knows_other k own ne which)
+    mail_T : IsTidyIn p m (mailing all mid_view) last (told_by all told) dead
+    mail_T = mail_tidy p m mid_view all last told dead T
+
+    knows_after : (k : ℕ) → owner p k ≡ m → k ≢ key → (w.stopped ≡ false) ⊎ (is_busy w.places.items k ≡ true) → KnowsKey p (mailing all view) k (known_at ix k)
+    knows_after k own ne which = tidied_knows p m (mailing all mid_view) last (told_by all told) dead mail_T mid ix A k own (spent_other k own ne which) (knows_other k own ne which)
 
     block_now : (k : ℕ) → k ≢ key → block_of (known_at ix k) ≡ block_of (known_at w.index k)
     block_now k ne = change_block (known_at mid k) (known_at ix k) (A.changes k) ∙ ap block_of (C.others k ne)
@@ -388,6 +405,18 @@ module _ (p : Place) (m : ℕ) (v : View) (w : Worker) (H : HoldsAside p m v w) 
         (λ ne. inr (sym (present_other k n ne) ∙ is))
         (cases_eq k key)
 
+    -- no name that waits stands in the own log
+    own_told : (k n : ℕ) → mid_view.present k n ≡ Some m → cond (has all k n) true (v.told k n) ≡ true → v.told k n ≡ true
+    own_told k n is t = by (has all k n) refl t where
+      by : (b : Bool) → has all k n ≡ b → cond (has all k n) true (v.told k n) ≡ true → v.told k n ≡ true
+      by false e t = sym (ap (λ (b : Bool). cond b true (v.told k n)) e) ∙ t
+      by true e t = absurd (
+          let x = waits_of p m v w.winds_down w.notices.items H.mail k n e in
+          ⊎_elim
+          (λ y. (let here = x.stands in let both : Some x.to ≡ None = sym here ∙ (λ i. v.present (y.0 i) (y.1 i)) ∙ none_present in cc both))
+          (λ was. (let here = x.stands in x.other (let both : Some x.to ≡ Some m = sym here ∙ was in cc both)))
+          (was_there k n m is))
+
     -- what stands in the own log
     module _ (L : KnowsDead m v.kept v.present v.told v.dead w.standing) where
       own_now : (k n : ℕ) → mid_view.present k n ≡ Some m → IsNamedIn v.kept k n
@@ -421,9 +450,9 @@ module _ (p : Place) (m : ℕ) (v : View) (w : Worker) (H : HoldsAside p m v w) 
           awaited : (n : ℕ) → Awaits (known_at mid key) (core_of p m) n → TellsItselfIn p m mid_view key n
           awaited n a =
               let at = stands_by (known_at mid key) (core_of p m) n a in
-              let h = stands_of p m mid_view key (known_at mid key) knows_mid n (standing_with n (core_of p m) false) at in
+              let h = stands_of p m (mailing all mid_view) key (known_at mid key) knows_mid n (standing_with n (core_of p m) false) at in
               let here = member_of p h.0 m h.2 in
-              (own_key, h.1 ∙ ap Some here, dead_is p mid_view key (known_at mid key) knows_mid n (dies_by (known_at mid key) (core_of p m) n a))
+              (own_key, h.1 ∙ ap Some here, dead_is p (mailing all mid_view) key (known_at mid key) knows_mid n (dies_by (known_at mid key) (core_of p m) n a))
 
       knows_dead : KnowsDead m v.kept mid_view.present told dead st
       knows_dead = record {
@@ -448,27 +477,27 @@ module _ (p : Place) (m : ℕ) (v : View) (w : Worker) (H : HoldsAside p m v w) 
           (λ x. tells.all k n (counted k n (own_now known k n x.1)) (by_itself k n x))
           ((T.learns k n).0 dies)
         where
-          mid_knows : (k : ℕ) → owner p k ≡ m → KnowsKey p mid_view k (known_at mid k)
+          mid_knows : (k : ℕ) → owner p k ≡ m → KnowsKey p (mailing all mid_view) k (known_at mid k)
           mid_knows k own = ⊎_elim
-              (λ same. subst (λ (i : ℕ). KnowsKey p mid_view i (known_at mid i)) (sym same) knows_mid)
+              (λ same. subst (λ (i : ℕ). KnowsKey p (mailing all mid_view) i (known_at mid i)) (sym same) knows_mid)
               (λ ne. knows_other k own ne (inl runs))
               (cases_eq k key)
 
           by_itself : (k n : ℕ) → TellsItselfIn p m mid_view k n → (is_told w.standing k n ≡ true) ⊎ Awaits (known_at mid k) (core_of p m) n
-          by_itself k n x = by (present_of p m mid_view k (known_at mid k) (mid_knows k x.0) n m x.1).0.told refl where
-            by : (b : Bool) → (present_of p m mid_view k (known_at mid k) (mid_knows k x.0) n m x.1).0.told ≡ b → (is_told w.standing k n ≡ true) ⊎ Awaits (known_at mid k) (core_of p m) n
+          by_itself k n x = by (present_of p m (mailing all mid_view) k (known_at mid k) (mid_knows k x.0) n m x.1).0.told refl where
+            by : (b : Bool) → (present_of p m (mailing all mid_view) k (known_at mid k) (mid_knows k x.0) n m x.1).0.told ≡ b → (is_told w.standing k n ≡ true) ⊎ Awaits (known_at mid k) (core_of p m) n
             by true t =
                 let K = mid_knows k x.0 in
-                let s = present_of p m mid_view k (known_at mid k) K n m x.1 in
-                let before : v.told k n ≡ true = K.told n s.0 s.1 ∙ t in
+                let s = present_of p m (mailing all mid_view) k (known_at mid k) K n m x.1 in
+                let before : v.told k n ≡ true = own_told k n x.1 (K.told n s.0 s.1 ∙ t) in
                 ⊎_elim
                 (λ y. absurd (let off = O.told key e.version none_present in let both : true ≡ false = sym before ∙ (λ i. v.told (y.0 i) (y.1 i)) ∙ off in cc both))
                 (λ was. inl (L.deaths k n ∙ L.heard k n was before))
                 (was_there k n m x.1)
             by false t =
                 let K = mid_knows k x.0 in
-                let s = present_of p m mid_view k (known_at mid k) K n m x.1 in
-                let dies = dead_by p mid_view k (known_at mid k) K n s.0 s.1 x.2 in
+                let s = present_of p m (mailing all mid_view) k (known_at mid k) K n m x.1 in
+                let dies = dead_by p (mailing all mid_view) k (known_at mid k) K n s.0 s.1 x.2 in
                 let version = found_version (standing_of (known_at mid k)) n s.0 s.1 in
                 let same : s.0 ≡ standing_with n (core_of p m) false = (λ i. standing_with (version i) (s.2 i) (t i)) in
                 inr (awaits_by (known_at mid k) (core_of p m) n (s.1 ∙ ap (λ (y : Standing). Some y) same) dies)
@@ -494,7 +523,8 @@ module _ (p : Place) (m : ℕ) (v : View) (w : Worker) (H : HoldsAside p m v w) 
       spelled = spelled_now;
       room = λ k ne. (let a = A.room k in let c = rooms k ne in omega (arith, a, c));
       knows = knows_after;
-      knows_here = λ own r. tidied_knows p m mid_view last told dead T mid ix A key own spent_here knows_mid;
+      knows_here = λ own r. tidied_knows p m (mailing all mid_view) last (told_by all told) dead mail_T mid ix A key own spent_here knows_mid;
+      mail = mail_still p m v view w.winds_down w.notices.items (still_then p m v mid_view view (still_finished p m v e home (O.next key _ pends ∙ ap (λ (k : ℕ). v.last k + 1) (sym mine))) (still_tidied p m mid_view last told dead T)) H.mail;
       remembers = λ r k own none. forgets_now k ∙ ⊎_elim
           (λ same. ap (λ (i : ℕ). is_forgettable (known_at mid i)) same ∙ ap is_forgettable C.here ∙ and_no (is_tombstone e.body) (is_empty new_record.standing) (not_empty (standing_of (known_at w.index key)) new_standing))
           (λ ne. ap is_forgettable (C.others k ne) ∙ H.remembers r k own (sym (pending_other k ne) ∙ none))

@@ -111,6 +111,7 @@ module _ (p : Place) (m : ℕ) (v : View) (w : Worker) (H : HoldsAside p m v w) 
           let at = busy_has ps.items k busy in
           ⊎_elim (λ here. subst (λ (n : ℕ). 0 < room_at w.index n) (sym (key_here at.0 k here at.2)) room) (λ old. H.admitted k (busy_by w.places.items k at.0 old)) (key_there at.0 k at.2);
       keys = λ k own which. H.keys k own (inl runs);
+      mail = H.mail;
       blocks = record {
         held = λ q d has. A.still q (length d.bytes) (H.blocks.held q d has);
         staged = λ q x. ⊎_elim

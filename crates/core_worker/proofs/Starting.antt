@@ -55,6 +55,7 @@ use Rattle.core_worker.specs.OwnChunks.{AreChunks}
 use Rattle.core_worker.specs.Ties.{Holds, Stands, Leads, LeadsAt, HasSpaceFor, is_lost}
 use Rattle.core_worker.specs.Order.{InOrder, PointsAt, count_changes}
 use Rattle.core_worker.specs.Hearing.{is_dead_by, heard_at, last_change}
+use Rattle.core_worker.proofs.MailKept.{knows_none, mail_new}
 use Rattle.core_worker.proofs.HeardNames.{stands_by, dies_by, awaits_by}
 use Rattle.core_worker.proofs.Tidied.{present_of}
 use Rattle.core_worker.proofs.Settling.{same_flag}
@@ -170,7 +171,8 @@ module _ (p : Place) (m : ℕ) (image : ℕ → ℕ) (start : CoreStart) (layout
     apart = λ s t k a b. absurd (no_key (place_at w.places.items s) k (N.free s) a);
     pending = λ k q t. pends k q t;
     admitted = λ k busy. idle k busy;
-    keys = λ k own may. start_keys.knows p image at.place at.rules m at.member start.index at.found.index k own w.index start.core core_is N.index;
+    keys = λ k own may. knows_none p v w.notices.items k (known_at w.index k) N.outbox (start_keys.knows p image at.place at.rules m at.member start.index at.found.index k own w.index start.core core_is N.index);
+    mail = mail_new p m v w.winds_down w.notices.items (N.members ∙ ap (λ (g : Geometry). g.group) same) N.outbox N.spare;
     blocks = subst (λ (a : Sets). AreBlocks v a w.places.items) (sym N.allocator) blocks_now;
     waits = λ works k free. ap (λ (hs : List Held). waiting hs k) N.queue;
     leads = leads_now;

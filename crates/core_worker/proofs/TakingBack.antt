@@ -1,5 +1,5 @@
 -- A change that its leader gave back is taken out of its place.
-use Rattle.std.proofs.Common.{◌≡◌, ◌≢◌, inl, inr, ⊎_elim, ℕ, zero, suc, ◌+◌, ◌<◌, ◌≤◌, ◌==◌, Bool, true, false, List, [], ◌∷◌, length, Option, Some, None, refl, sym, ◌∙◌, ap, subst, arith}
+use Rattle.std.proofs.Common.{◌≡◌, ◌≢◌, ⊎_elim, ℕ, zero, suc, ◌+◌, ◌<◌, ◌≤◌, ◌==◌, Bool, true, false, List, [], ◌∷◌, length, Option, Some, None, refl, sym, ◌∙◌, ap, subst, arith}
 use Rattle.std.specs.Prelude.{Vec, IfSome, MatchOption}
 use Rattle.std.specs.Global.{Global}
 use Rattle.fs_model.specs.declared.model.Reply.{Reply}
@@ -8,11 +8,8 @@ use Rattle.fs_model.specs.Cells.{key_of}
 use Rattle.log_entry.specs.declared.entry.Entry.{Entry}
 use Rattle.conflict_queue.specs.declared.types.Held.{Held}
 use Rattle.conflict_queue.specs.Waiting.{waiting}
-use Rattle.core_log.specs.Log.{room_of}
 use Rattle.core_index.specs.Index.{known_at, room_at}
 use Rattle.core_index.specs.Records.{block_of, last_of}
-use Rattle.core_room.specs.declared.supply.Supply.{Supply}
-use Rattle.core_room.specs.RoomRule.{KeepsRoom}
 use Rattle.lazy_alloc.specs.Sets.{free_chunk_count, block_is_used}
 use Rattle.group_laws.specs.declared.types.Pending.{Pending}
 use Rattle.store_image.specs.Facts.{In}
@@ -22,14 +19,11 @@ use Rattle.group_laws.specs.Places as groups
 use Rattle.group_laws.specs.MemberViews.{View}
 use Rattle.group_board.specs.Assurances.{IsHome}
 use Rattle.group_board.specs.Views.{after_finish, after_give_up, TidiedIn}
-use Rattle.core_worker.specs.declared.types.Cleaning.{Cleaning}
-use Rattle.core_worker.specs.declared.types.Cleaning.TheVariants.{Nothing, Copying, Doomed}
 use Rattle.core_worker.specs.declared.types.Place.{Place}
 use Rattle.core_worker.specs.declared.types.Place.TheVariants.{Free, Staged, Posted}
 use Rattle.core_worker.specs.declared.worker.Worker.{Worker}
 use Rattle.core_worker.specs.OwnPlaces.{place_at, key_in, is_free, is_busy, own, Replaces}
 use Rattle.core_worker.specs.KeyTies.{IsPlaced, Offers}
-use Rattle.core_worker.specs.Supplies.{supply_of, rest, KeepsRule, HasKeptRoom}
 use Rattle.core_worker.specs.Ties.{Holds, LeadsNothing}
 use Rattle.core_worker.specs.Order.{InOrder, count_changes}
 use Rattle.core_worker.specs.Refusals.{HasAnswerRoom}

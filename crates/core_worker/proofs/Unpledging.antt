@@ -365,6 +365,7 @@ module _ (p : group.Place) (m : ℕ) (v : View) (w : Worker) (H : Holds p m v w)
         (λ y. inr (y.0, busy k ∙ y.1, y.2)) (H.pending k q e);
     admitted = λ k b. H.admitted k (sym (busy k) ∙ b);
     keys = λ k mine which. H.keys k mine (⊎_elim (λ r. inl r) (λ b. inr (sym (busy k) ∙ b)) which);
+    mail = H.mail;
     blocks = record {
       held = H.blocks.held;
       staged = λ q x. H.blocks.staged q (block_was q x);

@@ -17,6 +17,7 @@ use Rattle.core_worker.proofs.UnderWay.{still_nothing, room_same}
 use Rattle.core_worker.specs.declared.worker.Worker.{Worker}
 use Rattle.core_worker.specs.Beginning.{HoldsAside, IsHeldAside}
 use Rattle.core_worker.specs.Ties.{Stands, HasSpaceFor, Tie, StandsBy}
+use Rattle.core_worker.proofs.MailKept.{mail_winds}
 use Rattle.core_worker.specs.declared.types.Leading.{Leading}
 use Rattle.core_worker.specs.declared.types.Leading.TheVariants as leads
 
@@ -50,6 +51,7 @@ aside_other p m v w q h b works H = record {
   pending = H.pending;
   admitted = H.admitted;
   keys = H.keys;
+  mail = mail_winds p m v w.winds_down b w.notices.items works H.mail;
   blocks = H.blocks;
   waits = λ on k idle. refl;
   leads = H.leads;

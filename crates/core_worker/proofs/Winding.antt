@@ -15,6 +15,7 @@ use Rattle.core_worker.specs.Supplies.{room_for}
 use Rattle.core_worker.proofs.UnderWay.{wound_way, room_same}
 use Rattle.core_worker.specs.declared.worker.Worker.{Worker}
 use Rattle.core_worker.specs.Ties.{Holds, Stands, HasSpaceFor}
+use Rattle.core_worker.proofs.MailKept.{mail_winds}
 use Rattle.core_worker.proofs.Beginnings.{with_answers, answered_holds, answered_stands, aside_of, of_aside}
 
 pub given_holds : (p : Place) (m : ℕ) (v : View) (w : Worker) (a : VecDeque Answer Global) → Holds p m v w → Holds p m v (with_answers w a)
@@ -49,6 +50,7 @@ wound_holds p m v w H = record {
   pending = H.pending;
   admitted = H.admitted;
   keys = H.keys;
+  mail = mail_winds p m v w.winds_down true w.notices.items (λ on. absurd (cc on)) H.mail;
   blocks = H.blocks;
   waits = λ on. absurd (cc on);
   leads = H.leads;

@@ -28,6 +28,8 @@ use Rattle.core_worker.proofs.Posts.{busy_by}
 use Rattle.core_worker.proofs.PuttingBack.{put_chunks, put_count, put_less, put_gone, put_kept}
 use Rattle.core_worker.proofs.Settling.{block_key, points_is, points_has}
 use Rattle.core_worker.proofs.Dropping.{pointed, pointer_is}
+use Rattle.core_worker.specs.Outbox.{as_told}
+use Rattle.core_worker.proofs.MailKept.{mail_same}
 use Rattle.core_worker.proofs.Freeing.{Frees}
 use Rattle.core_worker.proofs.FreedOrder.{FreesInOrder, room_let_go}
 use Rattle.core_worker.proofs.TakingBack.{Stood, stood, is_freed}
@@ -97,7 +99,7 @@ module _ (p : groups.Place) (m : ℕ) (v : View) (w : Worker) (H : Holds p m v w
       by (bodies.Embedded y) lf = lf
       by bodies.Tombstone lf = lf
 
-    knows_other : (k : ℕ) → groups.owner p k ≡ m → k ≢ e.key → (w.stopped ≡ false) ⊎ (is_busy w.places.items k ≡ true) → KnowsKey p view k (known_at w.index k)
+    knows_other : (k : ℕ) → groups.owner p k ≡ m → k ≢ e.key → (w.stopped ≡ false) ⊎ (is_busy w.places.items k ≡ true) → KnowsKey p (as_told w view) k (known_at w.index k)
     knows_other k own ne which = let J = H.keys k own which in record { last = J.last; cell = left_other k ne (known_at w.index k) (v.cell k) J.cell; present = J.present; told = J.told }
 
     not_here : (q : ℕ) (s : IsStagedBlock v w.places.items q) → s.slot ≡ slot → ⊥
@@ -115,6 +117,7 @@ module _ (p : groups.Place) (m : ℕ) (v : View) (w : Worker) (H : Holds p m v w
       room = λ k ne. omega arith;
       knows = knows_other;
       knows_here = λ own r. clash w.stopped stopped r;
+      mail = mail_same p m v view w.winds_down w.notices.items refl refl refl refl refl H.mail;
       remembers = λ r. clash w.stopped stopped r;
       last = λ k own ne busy. refl;
       cell = λ k ne. refl;

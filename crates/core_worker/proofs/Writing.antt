@@ -39,6 +39,7 @@ use Rattle.core_worker.proofs.UnderWay.{still_nothing}
 use Rattle.core_worker.specs.Ties.{Leads, HasSpaceFor, is_lost, Holds, Stands}
 use Rattle.core_worker.specs.Turns.{TakesFor}
 use Rattle.core_worker.proofs.Led.{led_view}
+use Rattle.core_worker.proofs.MailKept.{mail_same}
 
 pub none_counted : (f : ℕ → Bool) (xs : List ℕ) → ((j : ℕ) → f j ≡ false) → count_by f xs ≡ 0
 none_counted f [] none = refl
@@ -134,6 +135,7 @@ holds_wrote p m v u w a log l stopped kept flying taken holds looked took e more
       pending = λ k q e. ⊎_elim (λ x. inl x) (λ y. inr (y.0, y.1, stays y.2)) (H.pending k q e);
       admitted = H.admitted;
       keys = λ k own which. let K = H.keys k own (⊎_elim (λ r. inl (running r)) (λ b. inr b) which) in record { last = K.last; cell = K.cell; present = K.present; told = K.told };
+      mail = mail_same p m v (led_view v kept flying taken holds looked took) w.winds_down w.notices.items refl refl refl refl refl H.mail;
       blocks = (let B = blocks_stay v w.allocator a w.places.items same H.blocks in record {
         held = B.held;
         staged = λ q x. B.staged q (record { slot = x.slot; number = x.number; entry = x.entry; value = x.value; place = x.place; points = x.points });

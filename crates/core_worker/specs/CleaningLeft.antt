@@ -29,7 +29,7 @@ cleaning_left cleanings.Nothing = 0
 cleaning_left (cleanings.Copying victim first) = victim.entries + 2
 cleaning_left (cleanings.Doomed chunk) = 1
 
--- How many names these notices have. A core's own ones that wait to be sent count twice, and those in a mailbox once.
+-- how many names these notices have
 abbrev pub notices_left : Notices → ℕ
 notices_left n = length n.dead + length n.gone
 
@@ -37,16 +37,17 @@ abbrev pub box_left : List ToSend → ℕ
 box_left [] = 0
 box_left (n ∷ ns) = notices_left (notices_of n) + box_left ns
 
+-- a mailbox is to be emptied, whether it has a name or not
 abbrev pub mailbox_left : Option Notices → ℕ
 mailbox_left None = 0
-mailbox_left (Some n) = notices_left n
+mailbox_left (Some n) = 1 + notices_left n
 
 -- all mailboxes of so many members, by who sends and who receives
 unfoldable pub mail_left : ℕ → (ℕ → ℕ → Option Notices) → ℕ
 mail_left members mail = sum_below members (λ a. sum_below members (λ h. mailbox_left (mail a h)))
 
--- A core's part. A name that stands in its log, and an own one that was not told, count three each: it is told, it waits to be sent, and it is in a mailbox once as dead, and once as gone.
+-- A core's part. An own name that was not told counts four, and three once it waits to be sent: then it is in a mailbox, which counts one more than its names. A name that stands in its log counts three, since it may wait to be sent once it is gone.
 unfoldable pub clears_left : Bool → Cleaning → StandingState → List (ℕ × slots.Place)
     → List ToSend → ℕ
 clears_left accepted cleaning st es out = may_begin_left accepted + (cleaning_left cleaning
-    + (3 * length st.entries + (3 * all_untold es + 2 * box_left out)))
+    + (3 * length st.entries + (4 * all_untold es + 3 * box_left out)))

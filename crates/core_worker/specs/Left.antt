@@ -19,7 +19,7 @@ use Rattle.core_worker.specs.declared.types.Turn.TheVariants.{Moved, Idle}
 use Rattle.core_worker.specs.declared.worker.Worker.{Worker}
 use Rattle.core_worker.specs.CleaningLeft.{cleaning_most, clears_left, mail_left}
 
--- What one request counts, by how far it is. Each step takes more than what the core that makes it, or the one that holds the lock, has to do besides rises by: a take costs 6 for the change that is released, written and given back, and 2 for the lock; a change that is finished costs 3 for the own entry that is to be told.
+-- What one request counts, by how far it is. Each step takes more than what the core that makes it, or the one that holds the lock, has to do besides rises by: a take costs 6 for the change that is released, written and given back, and 2 for the lock; a change that is finished costs 4 for the own entry that is to be told.
 abbrev pub waits_left : ℕ
 waits_left = 36
 

@@ -21,7 +21,7 @@ use Rattle.core_worker.specs.declared.types.Cleaning.TheVariants.{Nothing}
 use Rattle.core_worker.specs.declared.types.Place.TheVariants.{Free}
 use Rattle.core_worker.specs.declared.worker.Worker.{Worker}
 use Rattle.core_worker.specs.OwnPlaces.{place_at}
-use Rattle.core_worker.specs.Outbox.{TellsNothing}
+use Rattle.core_worker.specs.Outbox.{HasSpare, TellsNothing}
 use Rattle.core_worker.specs.Hearing.{HearsAll}
 use Rattle.core_worker.specs.StandingTies.{HasCopies, HearsOwn, most_names}
 use Rattle.core_worker.specs.Ties.{LeadsNothing}
@@ -47,6 +47,7 @@ pub record IsNew (start : CoreStart) (layout : Geometry) (w : Worker) : Type 0 w
   pub buffer : MOST_BATCH_WORDS ≤ w.copies.room
   pub members : length w.notices.items ≡ layout.group
   pub outbox : AllByRecursion TellsNothing w.notices.items
+  pub spare : AllByRecursion HasSpare w.notices.items
   pub own_gone : w.own_gone.items ≡ []
   pub answers : (w.answers.items ≡ []) × (deque_len w.answers ≡ 0)
   pub runs : w.stopped ≡ false

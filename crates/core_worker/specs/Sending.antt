@@ -1,5 +1,5 @@
 -- Dead names of own keys are taken from the index for the member where they stand, and sent to it.
-use Rattle.std.specs.Prelude.{◌≡◌, ℕ, ◌+◌, ◌<◌, Bool, true, false, List, [], ◌∷◌, ◌++◌, length, Option}
+use Rattle.std.specs.Prelude.{◌≡◌, ℕ, ◌+◌, Bool, true, false, List, [], ◌∷◌, ◌++◌, length, Option}
 use Rattle.log_entry.specs.declared.entry.EntryName.{EntryName}
 use Rattle.core_index.specs.Index.{known_at, all_untold, Tells}
 use Rattle.core_index.specs.Records.{Awaits}
@@ -29,10 +29,6 @@ pub record TakesNames (home : ℕ) (es ix : List (ℕ × slots.Place)) (old new 
 -- nothing awaits to be told to this home
 abbrev pub NoneAwaits : ℕ → List (ℕ × slots.Place) → Type 0
 NoneAwaits home es = (n : EntryName) → Awaits (known_at es n.key) home n.version → ⊥
-
--- there is a place for one dead name more
-abbrev pub HasSpare : Notices → Type 0
-HasSpare n = length n.dead.names < n.dead.room
 
 -- What waited for another member was sent, and nothing waits for it; or its mailbox was found full, and all waits as before.
 abbrev pub Sends : Bool → ℕ → ℕ → Notices → Notices → Option Group → Option Group → View → View → Type 0

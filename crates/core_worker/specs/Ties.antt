@@ -28,6 +28,7 @@ use Rattle.core_worker.specs.declared.types.Cleaning.TheVariants.{Nothing}
 use Rattle.core_worker.specs.Supplies.{room_for, under_way}
 use Rattle.core_worker.specs.KeyTies.{KnowsKey, IsPlaced, AreBlocks}
 use Rattle.core_worker.specs.OwnChunks.{AreChunks}
+use Rattle.core_worker.specs.Outbox.{KeepsMail, as_told}
 use Rattle.core_worker.specs.LogNames.{NamesStand}
 
 -- What the core leads. Only a collecting one has the lock; who leads nothing gave all back, and has nothing in flight but after a fault.
@@ -92,7 +93,9 @@ pub record Holds (p : Place) (m : ℕ) (v : View) (w : Worker) : Type 0 where
       → length (waiting w.queue k) < room_at w.index k
   -- no record is asked of a stopped core but of keys with a change in a place
   pub keys : (k : ℕ) → owner p k ≡ m → (w.stopped ≡ false) ⊎ (is_busy w.places.items k ≡ true)
-      → KnowsKey p v k (known_at w.index k)
+      → KnowsKey p (as_told w v) k (known_at w.index k)
+  -- what was taken out of the index and not sent yet
+  pub mail : KeepsMail p m v w.winds_down w.notices.items
   pub blocks : AreBlocks v w.allocator w.places.items
   -- only requests for busy keys wait, until the core winds down
   pub waits : w.winds_down ≡ false → (k : ℕ) → is_busy w.places.items k ≡ false

@@ -36,12 +36,12 @@ pub fn every_lowering()
     ensures sends { (a : Bool) (c : Cleaning) (st : StandingState)
         (es : List (ℕ × slots.Place)) (out after : List ToSend) (n : Notices) (mail mail' : ℕ)
         → 0 < notices_left n → box_left after + notices_left n ≡ box_left out
-        → mail' ≡ mail + notices_left n
+        → mail' ≡ mail + (1 + notices_left n)
         → clears_left a c st es after + mail' < clears_left a c st es out + mail }
     ensures receives { (a : Bool) (c : Cleaning) (st now : StandingState)
         (es ix : List (ℕ × slots.Place)) (out : List ToSend) (n : Notices) (mail mail' : ℕ)
-        → 0 < notices_left n → length now.entries ≡ length st.entries
-        → all_untold ix ≤ all_untold es → mail' + notices_left n ≡ mail
+        → length now.entries ≡ length st.entries
+        → all_untold ix ≤ all_untold es → mail' + (1 + notices_left n) ≡ mail
         → clears_left a c now ix out + mail' < clears_left a c st es out + mail }
     ensures commits { (a : Bool) (c : Cleaning) (st now : StandingState)
         (es : List (ℕ × slots.Place)) (out : List ToSend) (n : ℕ)
@@ -50,7 +50,7 @@ pub fn every_lowering()
     ensures finishes { (a : Bool) (c : Cleaning) (st : StandingState)
         (es ix : List (ℕ × slots.Place)) (out : List ToSend)
         → all_untold ix ≤ all_untold es + 1
-        → clears_left a c st ix out ≤ clears_left a c st es out + 3 }
+        → clears_left a c st ix out ≤ clears_left a c st es out + 4 }
     ensures accepts { (a : Bool) (c : Cleaning) (st : StandingState)
         (es : List (ℕ × slots.Place)) (out : List ToSend)
         → clears_left true c st es out ≤ clears_left a c st es out + cleaning_most }

@@ -9,7 +9,7 @@ ghost use Rattle.core_worker.specs.Supplies.{HasKeptRoom};
 ghost use Rattle.core_worker.specs.IndexRoom.{HasJustRoom};
 ghost use Rattle.core_worker.specs.Ties.{Holds, Stands};
 ghost use Rattle.core_worker.specs.Order.{InOrder};
-ghost use Rattle.core_worker.specs.Outbox.{TellsNothing};
+ghost use Rattle.core_worker.specs.Outbox.{HasSpare, TellsNothing};
 ghost use Rattle.core_worker.specs.Openings.{IsNew, IsCertainAt, ByEachImage, opened_view};
 
 use crate::batch_names::MOST_NAMES;
@@ -39,14 +39,15 @@ fn free_places(alloc: Global) -> Result<Vec<Place>, Memory>
     Ok(places)
 }
 
-// Nothing to tell any member.
+// Nothing to tell any member, with a place for one dead name of each.
 fn no_notices(alloc: Global, members: u32) -> Result<Vec<Notices>, Memory>
     ensures count { IfOk result (λ notices. length notices.items ≡ members) }
     ensures none { IfOk result (λ notices. AllByRecursion TellsNothing notices.items) }
+    ensures spare { IfOk result (λ notices. AllByRecursion HasSpare notices.items) }
 {
     let mut notices = Vec::new(alloc);
     for _ in 0..members {
-        let dead = Names::with_room(alloc, 0)?;
+        let dead = Names::with_room(alloc, 1)?;
         let gone = Names::with_room(alloc, 0)?;
         notices.push(Notices { dead, gone })?;
     }

@@ -8,8 +8,8 @@ ghost use Rattle.group_laws.specs.Places as groups;
 ghost use Rattle.group_laws.specs.MemberViews.{View};
 ghost use Rattle.group_board.specs.Conditions.{MaySend};
 ghost use Rattle.core_worker.specs.KeyTies.{KnowsKey};
-ghost use Rattle.core_worker.specs.Outbox.{mailing, AreToSend, TellsNothing};
-ghost use Rattle.core_worker.specs.Sending.{HasSpare, NoneAwaits, Sends, TakesNames};
+ghost use Rattle.core_worker.specs.Outbox.{mailing, AreToSend, HasSpare, TellsNothing};
+ghost use Rattle.core_worker.specs.Sending.{NoneAwaits, Sends, TakesNames};
 
 use core_index::CoreIndex;
 use fs_errors::Memory;

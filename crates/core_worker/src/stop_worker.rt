@@ -7,6 +7,7 @@ ghost use Rattle.core_worker.specs.Ties.{Holds, Stands};
 ghost use Rattle.core_worker.specs.Order.{InOrder};
 ghost use Rattle.core_worker.specs.Status.{is_leading, is_pending};
 ghost use Rattle.core_worker.specs.GivenBack.{GivesBack, IsGivenBack, NamesGiven};
+ghost use Rattle.core_worker.specs.Outbox.{as_told};
 
 use crate::worker::Worker;
 use recover::CoreStart;
@@ -14,13 +15,15 @@ use recover::CoreStart;
 impl Worker {
     /// Ends a worker of which nothing is pending and that isn't leading. It gives back what a worker of its core may
     /// begin with: its log, its free room, its keys, and what stands in its log. Until it stopped or wound down these
-    /// are what its view has, the names where its region tells; answers that were not given out are dropped.
+    /// are what its view has, the names where its region tells; answers that were not given out are dropped, and dead
+    /// names that wait to be sent to other members count as told.
     pub fn stop(self) -> CoreStart
         requires idle { is_pending self ≡ false }
         requires free { is_leading self.leading ≡ false }
         ensures parts { GivesBack self result }
         ensures view { (p : PlaceOf) (m : ℕ) (v : View) → Holds p m v self → InOrder p m v self
-            → self.stopped ≡ false → self.winds_down ≡ false → IsGivenBack p m v result }
+            → self.stopped ≡ false → self.winds_down ≡ false
+            → IsGivenBack p m (as_told self v) result }
         ensures names { (s : State) (p : PlaceOf) (m : ℕ) (v : View) → Stands s p m v self
             → self.stopped ≡ false → self.winds_down ≡ false → NamesGiven s m v result }
     {

@@ -1,4 +1,4 @@
-use Rattle.std.proofs.Common.{◌≡◌, ◌≤◌, ◌+◌, length, take}
+use Rattle.std.proofs.Common.{◌≡◌, ◌+◌, length, take}
 use Rattle.core_worker.proofs.sending.roomier.Given as goal
 
 abbrev pub invariant-loop-name : goal.invariant-loop-name

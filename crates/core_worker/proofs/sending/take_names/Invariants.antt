@@ -1,4 +1,4 @@
-use Rattle.std.proofs.Common.{◌≡◌, ◌≤◌, ◌-◌, length}
+use Rattle.std.proofs.Common.{◌≡◌, ◌-◌, length}
 use Rattle.core_worker.specs.Sending.{TakesNames}
 use Rattle.core_worker.proofs.sending.take_names.Given as goal
 

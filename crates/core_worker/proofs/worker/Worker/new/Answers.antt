@@ -27,6 +27,7 @@ returns c =
       buffer = (let room = c.in_ok-copies.ensures.room in omega (arith, room));
       members = c.in_ok-notices.ensures.count ∙ c.group.ensures;
       outbox = c.in_ok-notices.ensures.none;
+      spare = c.in_ok-notices.ensures.spare;
       own_gone = c.new.ensures.items;
       answers = (c.new-2.ensures.items, c.new-2.ensures.len);
       runs = refl;

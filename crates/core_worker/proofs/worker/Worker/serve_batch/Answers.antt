@@ -1,7 +1,6 @@
 -- Items 2 and 3 of a turn.
 use Rattle.std.proofs.Common.{◌≡◌, Bool, true, false, Result, Ok, Err, OnOk, OnErr, refl, sym, ◌∙◌, ap, subst}
 use Rattle.core_worker.specs.declared.worker.Worker.{Worker}
-use Rattle.core_worker.specs.Supplies.{HasKeptRoom}
 use Rattle.core_worker.specs.Turns.{MadeOrStops}
 use Rattle.core_worker.specs.Order.{MayLeadStopped}
 use Rattle.core_worker.specs.Turning.Did.{writes, marks, fails}
