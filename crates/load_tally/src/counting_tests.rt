@@ -1,6 +1,22 @@
+ghost use Rattle.std.specs.Prelude.{◌≡◌, ◌+◌, ◌^◌, ◌<◌, ◌++◌, length};
+ghost use Rattle.load_tally.specs.Tallied.{tally_of};
+
 use super::*;
 use fs_model::{Pair, Reply, Value};
+use fs_text::Tally;
 use std::test::*;
+
+// The tally of replies that come in two parts, and of the pairs behind them.
+fn tallied(front: &[Reply], back: &[Reply], pairs: &[Pair]) -> Tally
+    requires { length front.now + length back.now < 2 ^ 64 }
+    ensures { result ≡ tally_of (front.now ++ back.now) pairs.now }
+{
+    let mut tally = nothing();
+    add_replies(&mut tally, front);
+    add_replies(&mut tally, back);
+    add_pairs(&mut tally, pairs);
+    tally
+}
 
 #[test]
 fn each_reply_is_counted_once(rt: HostRuntime) -> Result<(), Fail> {
@@ -27,10 +43,7 @@ fn each_reply_is_counted_once(rt: HostRuntime) -> Result<(), Fail> {
             value: Value::of(Vec::new(alloc))
         },
     ]?;
-    let mut tally = nothing();
-    add_replies(&mut tally, &replies[..4]);
-    add_replies(&mut tally, &replies[4..]);
-    add_pairs(&mut tally, &pairs);
+    let tally = tallied(&replies[..4], &replies[4..], &pairs);
     assert_eq!(rt; (tally.requests, tally.stored, tally.value), (9, 1, 1));
     assert_eq!(rt; (tally.absent, tally.deleted, tally.refused), (2, 1, 4));
     assert_eq!(rt; (tally.live, tally.bytes), (2, 3));
