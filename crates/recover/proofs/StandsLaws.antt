@@ -1,11 +1,14 @@
 -- What is read where an entry was found.
-use Rattle.std.proofs.Common.{◌≡◌, ℕ, ◌+◌, ◌/◌, ◌==◌, Bool, true, false, cond, List, [], length, drop, get_or, Option, Some, None, refl, sym, ◌∙◌, ap, arith, append-nil}
+use Rattle.std.proofs.Common.{◌≡◌, ℕ, suc, ◌+◌, ◌/◌, ◌<◌, ◌≤◌,  ◌==◌, Bool, true, false, cond, List, [], ◌∷◌, length, drop, get_or, Option, Some, None, refl, sym, ◌∙◌, ap, arith, append-nil}
 use Rattle.std.proofs.lemmas.Bool.{eq-eqb}
 use Rattle.log_entry.specs.declared.entry.Entry.{Entry}
 use Rattle.log_entry.specs.declared.entry.Read.{Read}
 use Rattle.log_entry.specs.declared.entry.Read.TheVariants as reads
 use Rattle.log_entry.specs.Words.{words_from}
-use Rattle.log_entry.specs.Spelling.{words_of, HasSpelling}
+use Rattle.log_entry.specs.declared.entry.Body.{Body}
+use Rattle.log_entry.specs.declared.entry.Body.TheVariants.{Pointer, Embedded, Tombstone}
+use Rattle.core_index.specs.Records.{pointer_of}
+use Rattle.log_entry.specs.Spelling.{words_of, body_words, HasSpelling}
 use Rattle.log_entry.specs.Reading.{size_of, entry_rule, entry_of, body_of, read_by, read}
 use Rattle.log_entry.proofs.Clients.{read_spelled}
 use Rattle.chunk_map.specs.declared.layouts.Geometry.{Geometry}
@@ -56,3 +59,24 @@ module _ (l : Geometry) (image : ℕ → ℕ) (f : Found) (stands : Stands l ima
 
   pub body_found : (r : Read) → r ≡ reads.Entry (entry_at image f) (length (words_of (entry_at image f))) → body_named r f ≡ Some (body_at image f.at)
   body_found r is = ap (λ r. body_named r f) is ∙ rw (eq-eqb f.key f.key refl, eq-eqb f.version f.version refl) refl
+
+  -- one of two words is read from these
+  pub two_read : (one two : ℕ) → one ≡ image f.at → two ≡ image (f.at + 1) → size_of (image f.at) ≡ 2 → read (one ∷ two ∷ []) ≡ reads.Entry (entry_at image f) (length (words_of (entry_at image f)))
+  two_read one two first second size =
+      let next : f.at + 1 ≡ suc f.at = omega arith in
+      let words : one ∷ two ∷ [] ≡ words_from image f.at 2 = λ i. first i ∷ (second ∙ ap image next) i ∷ [] in
+      stands_read (one ∷ two ∷ []) (words ∙ ap (words_from image f.at) (sym size))
+
+  -- one with a value beside it has no pointer, and each has two words
+  pub none_beside : 2 < size_of (image f.at) → None ≡ pointer_of (body_at image f.at)
+  none_beside more = by_body (body_at image f.at) (size_there image f.at (entry_at image f) stands.spelling stands.words) where
+    by_body : (b : Body) → length (body_words f.key f.version b) ≡ size_of (image f.at) → None ≡ pointer_of b
+    by_body (Pointer p) size = let two : length (body_words f.key f.version (Pointer p)) ≡ 2 = refl in absurd (omega (arith, size, two, more))
+    by_body (Embedded v) size = refl
+    by_body Tombstone size = refl
+
+  pub words_left : f.at + 2 ≤ total_bytes l / 8
+  words_left = let low = (first_is (entry_at image f)).0 in let within = stands.within in omega (arith, low, within)
+
+  pub pointer_read : (r : Read) → r ≡ reads.Entry (entry_at image f) (length (words_of (entry_at image f))) → (e : Entry) (n : ℕ) → r ≡ reads.Entry e n → pointer_of e.body ≡ pointer_of (body_at image f.at)
+  pointer_read r is e n read_is = let same : e ≡ entry_at image f = cc (sym read_is ∙ is) in ap (λ (x : Entry). pointer_of x.body) same

@@ -10,7 +10,8 @@ ghost use Rattle.store_image.specs.Parts.{all_entries, block_class};
 ghost use Rattle.store_image.specs.Soundness.{damaged, damage};
 ghost use Rattle.recover.specs.Regions.{Covers};
 ghost use Rattle.recover.specs.Winning.{winners_of};
-ghost use Rattle.recover.specs.FoundEntries.{core_at, chunk_there, placed_at, entries_at, Stands, AreFound, AreInOrder};
+ghost use Rattle.recover.specs.FoundEntries.{body_at, core_at, chunk_there, placed_at, entries_at, Stands, AreFound, AreInOrder};
+ghost use Rattle.core_index.specs.Records.{pointer_of};
 ghost use Rattle.recover.specs.Causes.{AnswersFault};
 ghost use Rattle.recover.specs.Gathering.{AreAgreed, Agrees, Judges};
 ghost use Rattle.recover.specs.Judging.{rule_beside, fault_beside, winners_fault, HasPointers};
@@ -18,13 +19,12 @@ ghost use Rattle.recover.specs.Judging.{rule_beside, fault_beside, winners_fault
 use crate::found_entries::{Found, chunk_of, core_of};
 use crate::gather_region::gather;
 use crate::key_runs::key_run;
-use crate::reading::{gone_fault, read_at};
+use crate::reading::pointer_at;
 use crate::region_blocks::block_class;
 use crate::sorting::{by_name, first_clash};
 use crate::types::RecoverError;
 use chunk_map::Layout;
 use chunk_map::layout_sizes::UNIT_WORDS;
-use log_entry::Body;
 use pm_region::Region;
 use std::alloc::Global;
 use std::collections::BTreeSet;
@@ -64,38 +64,38 @@ fn pointer_rule<R: Region>(
     }
 }
 
-/// Judges a winner's body by rules 9 to 11, at its place. One that breaks none leaves its pointer in the set.
-fn judge_body<R: Region>(
+/// Judges a winner with this pointer, if it has one, by rules 9 to 11. One that breaks none leaves its pointer in the set.
+fn judge_pointer<R: Region>(
     region: &R,
     layout: &Layout,
     taken: &mut BTreeSet<u64>,
     winner: &Found,
-    body: &Body,
+    pointer: Option<u64>,
 ) -> Result<(), RecoverError>
     requires covers { Covers (R.state region.now).frame layout.now }
     ensures fault { (before : List PlacedEntry) → HasPointers taken.old before
         → IsTelling (R.state region.now)
-        → body.now ≡ (placed_at layout.now (lasts (R.state region.now)) winner.now).entry.body
+        → pointer ≡ pointer_of (body_at (lasts (R.state region.now)) winner.now.at)
         → AnswersFault (fault_beside layout.now (lasts (R.state region.now)) before
         (placed_at layout.now (lasts (R.state region.now)) winner.now)) result }
     ensures taken { OnOk result ((before : List PlacedEntry) (x : PlacedEntry)
-        → HasPointers taken.old before → body.now ≡ x.entry.body
+        → HasPointers taken.old before → pointer ≡ pointer_of x.entry.body
         → HasPointers taken.new (before ++ x ∷ [])) }
 {
-    if let Body::Pointer(pointer) = body {
-        if let Some(rule) = pointer_rule(region, layout, taken, winner.key, *pointer) {
+    if let Some(pointer) = pointer {
+        if let Some(rule) = pointer_rule(region, layout, taken, winner.key, pointer) {
             return Err(RecoverError::Fault(Fault::Damaged {
                 part: core_of(layout, winner.at),
                 chunk: chunk_of(layout, winner.at),
                 rule,
             }));
         }
-        taken.insert(*pointer)?;
+        taken.insert(pointer)?;
     }
     Ok(())
 }
 
-/// Judges a winner by rules 9 to 11. One that stands there no more is answered as damage.
+/// Judges a winner by rules 9 to 11. Its value is not read.
 fn judge_winner<R: Region>(
     alloc: Global,
     region: &R,
@@ -115,10 +115,8 @@ fn judge_winner<R: Region>(
         → HasPointers taken.new (before
         ++ placed_at layout.now (lasts (R.state region.now)) winner.now ∷ [])) }
 {
-    let Some(body) = read_at(alloc, region, layout, winner)? else {
-        return Err(gone_fault(layout, winner).into());
-    };
-    judge_body(region, layout, taken, winner, &body)
+    let pointer = pointer_at(alloc, region, layout, winner)?;
+    judge_pointer(region, layout, taken, winner, pointer)
 }
 
 /// Judges the winners by rules 9 to 11, by rising key, up to the first that breaks one.

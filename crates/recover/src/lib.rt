@@ -17,6 +17,7 @@ mod key_runs;
 mod key_standees;
 mod live;
 mod logs;
+mod look_ahead;
 mod pair_list;
 mod reading;
 mod recover_region;

@@ -13,6 +13,7 @@ ghost use Rattle.recover.specs.Live.{pairs_by, HasLeft, Lists, ListsLive};
 use crate::found_entries::Found;
 use crate::judge_winners::sound_entries;
 use crate::key_runs::key_run;
+use crate::look_ahead::look_ahead;
 use crate::reading::{gone_fault, read_at};
 use crate::region_blocks::value_in_block;
 use crate::types::RecoverError;
@@ -91,7 +92,9 @@ fn pairs_left<R: Region>(
 {
     let mut pairs = Vec::new(alloc);
     let mut at = 0;
+    let mut looked = 0;
     while at < sorted.len() {
+        looked = look_ahead(region, layout, sorted, at, looked)?;
         let run = key_run(sorted, at);
         push_left(alloc, region, layout, &mut pairs, &sorted[run.winner])?;
         at = run.end;

@@ -3,6 +3,7 @@ ghost use Rattle.std.specs.Prelude.{◌≡◌, ℕ, ◌/◌, ◌<◌, map, lengt
 ghost use Rattle.pm_region.specs.State.{IsTelling};
 ghost use Rattle.pm_region.specs.Words.{lasts};
 ghost use Rattle.log_entry.specs.Spelling.{HasSpelling};
+ghost use Rattle.core_index.specs.Records.{pointer_of};
 ghost use Rattle.chunk_map.specs.Layouts.{total_bytes, total_words};
 ghost use Rattle.store_image.specs.Soundness.{damaged};
 ghost use Rattle.recover.specs.Regions.{Covers};
@@ -15,6 +16,7 @@ use crate::types::RecoverError;
 use chunk_map::Layout;
 use chunk_map::words::load_words;
 use fs_errors::Memory;
+use log_entry::entry_limits::SHORTEST_ENTRY;
 use log_entry::{Body, Entry, Read, read_entry, size_of};
 use pm_region::{Region, WORD_BYTES};
 use std::alloc::Global;
@@ -81,6 +83,44 @@ pub fn read_at<R: Region>(
             let read = read_entry(alloc, &words, 0)?;
             Ok(body_named(read, found))
         }
+    }
+}
+
+/// The block that a body points to.
+fn pointer_of(body: &Body) -> Option<u64>
+    ensures { result ≡ pointer_of body.now }
+{
+    match body {
+        Body::Pointer(pointer) => Some(*pointer),
+        _ => None,
+    }
+}
+
+/// The pointer of an entry that was found, where it has one. Where a value stands beside it, only its first word is read.
+pub fn pointer_at<R: Region>(
+    alloc: Global,
+    region: &R,
+    layout: &Layout,
+    found: &Found,
+) -> Result<Option<u64>, Memory>
+    requires covers { Covers (R.state region.now).frame layout.now }
+    ensures { IfOk result (λ p. IsTelling (R.state region.now)
+        → Stands layout.now (lasts (R.state region.now)) found.now
+        → p ≡ pointer_of (body_at (lasts (R.state region.now)) found.now.at)) }
+{
+    let at = found.at as u64;
+    let words = layout.total_bytes() / WORD_BYTES;
+    if at >= words || words - at < SHORTEST_ENTRY {
+        return Ok(None);
+    }
+    let first = region.load(at);
+    if size_of(first) > SHORTEST_ENTRY {
+        return Ok(None);
+    }
+    let words = [first, region.load(at + 1)];
+    match read_entry(alloc, &words, 0)? {
+        Read::Entry { entry, length: _ } => Ok(pointer_of(&entry.body)),
+        _ => Ok(None),
     }
 }
 

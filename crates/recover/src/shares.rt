@@ -16,6 +16,7 @@ ghost use Rattle.recover.specs.Shares.{AreSpelledShares, AreEmpty, Gives, GivesS
 use crate::found_entries::Found;
 use crate::key_runs::key_run;
 use crate::key_standees::list_standees;
+use crate::look_ahead::look_ahead;
 use crate::reading::{gone_fault, read_at};
 use crate::types::RecoverError;
 use chunk_map::Layout;
@@ -145,7 +146,9 @@ pub fn shares<R: Region>(
     let mut shares = no_shares(alloc, layout)?;
     let mut standing = Vec::new(alloc);
     let mut at = 0;
+    let mut looked = 0;
     while at < sorted.len() {
+        looked = look_ahead(region, layout, sorted, at, looked)?;
         let run = key_run(sorted, at);
         let winner = &sorted[run.winner];
         let entries = &sorted[at..run.end];

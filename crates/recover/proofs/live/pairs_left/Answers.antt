@@ -40,7 +40,7 @@ returns-in_err-push_left g c = λ telling all.
     let high = c.key_run-run.ensures.high in
     let end = c.key_run-run.ensures.end in
     let stands = all_at (Stands l image) fs run.winner no_found all (omega (arith, high, end)) in
-    handed_on (HasLeft l image (entries_at l image fs)) c.from_residual.result c.in_err-push_left.field-0.0 c.from_residual.ensures.1 (c.in_err-push_left.ensures.stands telling stands)
+    handed_on (HasLeft l image (entries_at l image fs)) c.from_residual-in_err-push_left.result c.in_err-push_left.field-0.0 c.from_residual-in_err-push_left.ensures.1 (c.in_err-push_left.ensures.stands telling stands)
 
 pub returns : goal.returns
 returns g c = λ telling all.
