@@ -9,7 +9,7 @@ use Rattle.core_log.specs.Log.{LogState, Spelled}
 use Rattle.core_log.specs.Walking.{entries_in, words_in, behind, IsFound}
 use Rattle.log_standing.specs.NameCounts.{StandingState, name_eq, copies_at, count_of, times_in, one_more, Changes, bit}
 use Rattle.log_standing.specs.ChunkCounts.{is_named, has_name}
-use Rattle.log_cleaner.specs.Clearing.{ClearingState, IsFresh, is_doomed, AreLone, HasNames, HasDoomed, IsGathered, NotesNew}
+use Rattle.log_cleaner.specs.Clearing.{ClearingState, IsFresh, is_doomed, AreLone, AreNoted, HasNames, HasDoomed, IsGathered, NotesNew}
 use Rattle.log_standing.proofs.Clients.{same_name, count_added, has_push, again_named, new_named}
 use Rattle.core_log.proofs.Clients.{ordered, all_behind}
 
@@ -178,3 +178,29 @@ lone_on st old new n lone again first full = by_times (times_in old.names n.key 
   by_times : (t : ℕ) → times_in old.names n.key n.version ≡ t → AreLone st new.doomed
   by_times zero e = by_room e old.room refl
   by_times (suc t) e = stays (again (omega (arith, e)))
+
+-- and each of these was noted
+pub noted_first : (c : ClearingState) → IsFresh c → AreNoted c
+noted_first c fresh k v some = absurd (let none = ap (λ (ns : List EntryName). times_in ns k v) fresh.1 in omega (arith, none, some))
+
+noted_more : (names ns : List EntryName) (n : EntryName) (b : Bool) → ((k v : ℕ) → 0 < times_in ns k v → 0 < times_in names k v) → (k v : ℕ) → 0 < times_in (cond b (ns ++ n ∷ []) ns) k v → 0 < times_in (names ++ n ∷ []) k v
+noted_more names ns n false noted k v some = let more = times_push names n k v in let had = noted k v some in omega (arith, more, had)
+noted_more names ns n true noted k v some = by (times_in ns k v) refl where
+  by : (i : ℕ) → times_in ns k v ≡ i → 0 < times_in (names ++ n ∷ []) k v
+  by zero none = (let more = times_push names n k v in let all = times_push ns n k v in omega (arith, more, all, none, some))
+  by (suc i) is = (let more = times_push names n k v in let had = noted k v (omega (arith, is)) in omega (arith, more, had))
+
+pub noted_on : (st : StandingState) (old new : ClearingState) (n : EntryName) → AreNoted old → (0 < times_in old.names n.key n.version → new ≡ old) → (times_in old.names n.key n.version ≡ 0 → 0 < old.room → NotesNew st old new n) → (old.room ≡ 0 → new ≡ old) → AreNoted new
+noted_on st old new n noted again first full = by_times (times_in old.names n.key n.version) refl where
+  stays : new ≡ old → AreNoted new
+  stays e = subst AreNoted (sym e) noted
+
+  by_room : times_in old.names n.key n.version ≡ 0 → (r : ℕ) → old.room ≡ r → AreNoted new
+  by_room none zero e = stays (full e)
+  by_room none (suc r) e =
+      let N = first none (omega (arith, e)) in
+      λ k v some. subst (λ (ns : List EntryName). 0 < times_in ns k v) (sym N.names) (noted_more old.names old.doomed n (is_doomed st n.key n.version) noted k v (subst (λ (ns : List EntryName). 0 < times_in ns k v) N.doomed some))
+
+  by_times : (i : ℕ) → times_in old.names n.key n.version ≡ i → AreNoted new
+  by_times zero e = by_room e old.room refl
+  by_times (suc i) e = stays (again (omega (arith, e)))

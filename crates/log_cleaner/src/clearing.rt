@@ -1,5 +1,5 @@
 // A chunk of the log is given up: what vanishes with it.
-ghost use Rattle.std.specs.Prelude.{◌≡◌, ◌≢◌, ℕ, ◌+◌, ◌-◌, ◌==◌, ◌≤◌, ◌<◌, true, Some, OnOk, OnErr, is_some, [], ◌∷◌, ◌++◌, length, IfOk, vec_len, vec_capacity, if◌then◌else◌};
+ghost use Rattle.std.specs.Prelude.{◌≡◌, ◌≢◌, ℕ, ◌+◌, ◌-◌, ◌==◌, ◌≤◌, ◌<◌, true, Some, None, OnOk, OnErr, is_some, [], ◌∷◌, ◌++◌, length, IfOk, vec_len, vec_capacity, if◌then◌else◌};
 ghost use Rattle.pm_region.specs.State.{IsTelling, Faulted};
 ghost use Rattle.core_log.specs.Log.{StandsIn, tail_of};
 ghost use Rattle.core_log.specs.Walking.{entries_in};
@@ -7,7 +7,7 @@ ghost use Rattle.log_standing.specs.NameCounts.{is_told, count_of, times_in, cop
 ghost use Rattle.log_cleaner.specs.Dropping.{lowered, Drops};
 ghost use Rattle.log_cleaner.specs.Copying.{IsUpToDate};
 ghost use Rattle.log_cleaner.specs.ImagesBeside.{AgreesIn, GivesUp};
-ghost use Rattle.log_cleaner.specs.Clearing.{ClearingState, IsFresh, is_doomed, AreLone, IsGathered, IsReady, HasCleared, NotesNew};
+ghost use Rattle.log_cleaner.specs.Clearing.{ClearingState, IsFresh, is_doomed, AreLone, AreNoted, IsGathered, IsReady, HasCleared, NotesNew};
 
 use crate::types::{Cleared, Victim};
 use core_log::CoreLog;
@@ -48,8 +48,10 @@ fn push_if(names: &mut Vec<EntryName>, name: EntryName, yes: bool)
 
 // Takes out a copy of a name, where it stands.
 fn drop_one(standing: &mut Standing, name: EntryName)
-    ensures { Changes standing.old standing.new name.key name.version
+    ensures lowered { Changes standing.old standing.new name.key name.version
         (lowered (copies_at standing.old name.key name.version)) }
+    ensures count { length standing.new.entries ≤ length standing.old.entries }
+    ensures room { standing.new.room ≡ standing.old.room }
 {
     if standing.copies(name) > 0 {
         let _ = standing.drop_copy(name);
@@ -59,7 +61,9 @@ fn drop_one(standing: &mut Standing, name: EntryName)
 // The same for each name of a list that has each once.
 fn drop_all(standing: &mut Standing, names: &[EntryName])
     requires { (k v : ℕ) → times_in names.now k v ≤ 1 }
-    ensures { Drops standing.old standing.new names.now }
+    ensures drops { Drops standing.old standing.new names.now }
+    ensures count { length standing.new.entries ≤ length standing.old.entries }
+    ensures room { standing.new.room ≡ standing.old.room }
 {
     for name in names {
         drop_one(standing, *name);
@@ -155,6 +159,7 @@ impl Clearing {
         ensures gathered { IsTelling (R.state region.now)
             → IsGathered standing.now (entries_in (R.state region.now) log.now chunk) self.new }
         ensures lone { AreLone standing.now self.new.doomed }
+        ensures noted { AreNoted self.new }
         ensures chunk { self.new.chunk ≡ self.old.chunk }
     {
         let mut place = 0;
@@ -177,6 +182,7 @@ impl Clearing {
             self.new }
         // Whatever the region tells.
         ensures lone { AreLone standing.now self.new.doomed }
+        ensures noted { AreNoted self.new }
         ensures chunk { self.new.chunk ≡ self.old.chunk }
     {
         let chunk = self.chunk();
@@ -211,6 +217,9 @@ impl Clearing {
         ensures ok { OnOk result (HasCleared (R.state region.old) (R.state region.new) log.old
             log.new
             standing.old standing.new self) }
+        ensures read { OnOk result (standing.new.settled ≡ None) }
+        ensures count { OnOk result (length standing.new.entries ≤ length standing.old.entries) }
+        ensures room { OnOk result (standing.new.room ≡ standing.old.room) }
         ensures chunk { IfOk result (λ cleared. cleared.chunk ≡ self.chunk) }
         ensures gone { IfOk result (λ cleared. cleared.gone.items ≡ self.doomed) }
         ensures cause { OnErr result (Faulted (R.state region.old) (R.state region.new)) }

@@ -1,4 +1,4 @@
-use Rattle.std.proofs.Common.{◌≡◌, ◌≤◌, ◌+◌, ℕ, List, None, subst, sym, ◌∙◌, ap}
+use Rattle.std.proofs.Common.{◌≡◌, ◌≤◌, ◌+◌, ℕ, List, length, None, subst, sym, ◌∙◌, ap, arith}
 use Rattle.pm_region.specs.State.{State, During, IsTelling, cell_now}
 use Rattle.pm_region.specs.Words.{KeepsOutside}
 use Rattle.log_entry.specs.declared.entry.EntryName.{EntryName}
@@ -81,7 +81,7 @@ returns-clause-ok g c =
     let retired = subst (RetiredChunk t log c.retire.new.self) e c.in_ok-retire.ensures.ok in
     let outside = outside_at s t log c.self.inside.chunk c.args.self.chunk e c.retire.ensures.outside in
     let dropped : Drops c.args.standing.now c.settle.new.self c.args.self.names = dropped_at c.args.standing.now c.drop_all.new.standing c.settle.new.self c.args.self.names c.settle.ensures.copies
-    (subst (Drops c.args.standing.now c.drop_all.new.standing) (c.deref.ensures.value ∙ ap (λ (x : ClearingState). x.names) c.self.view_is) c.drop_all.ensures) in
+    (subst (Drops c.args.standing.now c.drop_all.new.standing) (c.deref.ensures.value ∙ ap (λ (x : ClearingState). x.names) c.self.view_is) c.drop_all.ensures.drops) in
     record {
       retired = retired;
       dropped = dropped;
@@ -91,3 +91,9 @@ returns-clause-ok g c =
       };
       vanish = λ telling. clear_vanish s log st c.args.self c.requires.stands c.requires.has gathered copied counts c.requires.agrees t c.retire.new.self c.settle.new.self retired outside dropped telling;
     }
+
+pub returns-clause-count : goal.returns-clause-count
+returns-clause-count g c = (let less = c.drop_all.ensures.count in let same = ap length c.settle.ensures.count in omega (arith, less, same))
+
+pub returns-clause-room : goal.returns-clause-room
+returns-clause-room g c = c.settle.ensures.room ∙ c.drop_all.ensures.room

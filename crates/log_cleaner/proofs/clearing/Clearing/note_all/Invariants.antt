@@ -3,7 +3,7 @@ use Rattle.pm_region.specs.State.{State, IsTelling}
 use Rattle.core_log.specs.Log.{LogState, tail_in}
 use Rattle.core_log.specs.Walking.{IsReadable, entries_in}
 use Rattle.log_standing.specs.NameCounts.{StandingState}
-use Rattle.log_cleaner.specs.Clearing.{ClearingState, AreLone}
+use Rattle.log_cleaner.specs.Clearing.{ClearingState, AreLone, AreNoted}
 use Rattle.log_cleaner.proofs.GatherLaws.{Gathering}
 use Rattle.log_cleaner.proofs.clearing.Clearing.note_all.Given as goal
 
@@ -11,6 +11,7 @@ pub record SoFar (s : State) (log : LogState) (st : StandingState) (j place : �
   pub readable : IsReadable s log j place
   pub chunk : c.chunk ≡ old.chunk
   pub lone : AreLone st c.doomed
+  pub noted : AreNoted c
   pub told : IsTelling s → Gathering st (entries_in s log j) place c
 
 abbrev pub invariant-loop-found : goal.invariant-loop-found
