@@ -80,5 +80,5 @@ module _ (s t : State) (p : Place) (m : ℕ) (v : View) (w : Worker) (H : Holds 
     free = λ runs j is telling. let was = S.free runs j is (before telling) in (was.0, kind runs telling j (H.sets.free_in j is).0 0 was.1);
     due = λ runs j is telling. let was = S.due runs j is (before telling) in (was.0, kind runs telling j (in_chunks w.allocator H.sets j (H.sets.due_in j is)) 0 was.1);
     cut = λ runs j c is un telling. let was = S.cut runs j c is un (before telling) in (was.0, kind runs telling j (H.sets.cut_in j c is).0 (2 + 256 * c) was.1);
-    names = λ runs on telling. names_kept s t m v.kept v.present v.told v.dead w.log w.standing (λ j u is. words_kept s t (first_of w.log j) u (log_word runs telling j u is)) (S.names runs on (before telling));
+    names = λ runs on telling. names_kept s t m v.kept v.present v.told v.dead w.log w.standing w.clearing w.cleaning (λ j u is. words_kept s t (first_of w.log j) u (log_word runs telling j u is)) (S.names runs on (before telling));
   }

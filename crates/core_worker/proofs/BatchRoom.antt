@@ -20,6 +20,7 @@ use Rattle.batch_leader.specs.Rounds.{space, left_free}
 use Rattle.batch_leader.specs.Leading.{IsKept, HasSpace}
 use Rattle.batch_leader.specs.Persisting.{opened_for}
 use Rattle.core_worker.specs.declared.types.Cleaning.{Cleaning}
+use Rattle.core_worker.specs.declared.types.Cleaning.TheVariants.{Nothing}
 use Rattle.core_worker.specs.declared.types.Place.{Place}
 use Rattle.core_worker.specs.declared.types.Place.TheVariants.{Free, Staged, Posted}
 use Rattle.core_worker.specs.declared.worker.Worker.{Worker}
@@ -50,13 +51,13 @@ own_few (Staged n e u ∷ ps) each = let rest = own_few ps each.1 in let few = f
 own_few (Posted n k lines ∷ ps) each = let rest = own_few ps each.1 in let few = each.0 in omega (arith, rest, few)
 
 -- What a leader is told of the room of a worker that keeps the rule.
-module _ (p : group.Place) (m : ℕ) (v : View) (w : Worker) (H : Holds p m v w) where
+module _ (p : group.Place) (m : ℕ) (v : View) (w : Worker) (H : Holds p m v w) (clean : under_way w ≡ Nothing) where
   pub nothing_rests : rest (under_way w) ≡ 0
-  nothing_rests = ap rest H.cleaning
+  nothing_rests = ap rest clean
 
   pub kept_room : HasKeptRoom w → IsKept (room_for w)
   kept_room h = record {
-    rule = subst (λ (c : Cleaning). KeepsRule c (supply_of w)) H.cleaning h;
+    rule = subst (λ (c : Cleaning). KeepsRule c (supply_of w)) clean h;
     fresh =
         let M = measured p m v w (aside_of p m v w H) in
         let few = own_few w.places.items M.counted in
@@ -101,15 +102,15 @@ space_is w a false (Some j) lines n had takes = absurd (cc takes.0)
 
 -- After the batch, once its own entries pledge nothing any more.
 module _ (p : group.Place) (m : ℕ) (v : View) (w u : Worker) (H : Holds p m v w) (f : Bool) (o : Option ℕ) (lines : ℕ) (ws : List ℕ) (had : HasSpace (room_for w) f lines (length ws)) (takes : TakesFor f w.allocator u.allocator o)
-    (opened : o ≡ None → is_some w.log.opened ≡ true) (log : u.log ≡ appended_to (opened_for w.log o) (padded ws)) (less : own u.places.items + lines ≡ own w.places.items) (cleaning : under_way u ≡ under_way w) where
+    (opened : o ≡ None → is_some w.log.opened ≡ true) (log : u.log ≡ appended_to (opened_for w.log o) (padded ws)) (less : own u.places.items + lines ≡ own w.places.items) (cleaning : under_way u ≡ under_way w) (clean : under_way w ≡ Nothing) where
   pub room_wrote : HasKeptRoom w → HasKeptRoom u
   room_wrote h =
-      let none = nothing_rests p m v w H in
+      let none = nothing_rests p m v w H clean in
       let still : rest (under_way u) ≡ 0 = ap rest cleaning ∙ none in
       let at = opened_some w.log o opened in
       let room = ap room_of log ∙ room_appended (opened_for w.log o) ws at.0 at.1 in
       let is = space_is w u.allocator f o lines (length ws) had takes in
       let where_to = is.0 in
-      let left = had.2 (kept_room p m v w H h) in
-      subst (λ (c : Cleaning). KeepsRule c (supply_of u)) (sym (cleaning ∙ H.cleaning))
+      let left = had.2 (kept_room p m v w H clean h) in
+      subst (λ (c : Cleaning). KeepsRule c (supply_of u)) (sym (cleaning ∙ clean))
       (⊎_elim (λ r. inl (omega (arith, r, none, still, room, where_to, less))) (λ two. inr (is.1 two)) left)

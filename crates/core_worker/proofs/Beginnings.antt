@@ -18,6 +18,8 @@ use Rattle.core_index.specs.Index.{all_untold, room_at, LessRoom}
 use Rattle.core_index.specs.Records.{is_forgettable}
 use Rattle.core_worker.specs.OwnPlaces.{place_at, is_busy, key_in}
 use Rattle.core_worker.specs.KeyTies.{KnowsKey}
+use Rattle.log_standing.specs.NameCounts.{count_in, count_of}
+use Rattle.core_worker.proofs.CleaningKept.{keeps_counts}
 use Rattle.core_worker.proofs.Posts.{busy_by, busy_has}
 use Rattle.core_worker.proofs.Pointers.{free_is}
 use Rattle.std.proofs.lemmas.Bool.{cases_eq}
@@ -178,8 +180,8 @@ of_aside p m v w H admitted waits = record {
 }
 
 -- more room for records and answers
-pub prepared_holds : (p : Place) (m : ℕ) (v : View) (w u : Worker) → u ≡ record w { answers = u.answers; index = u.index; standing = u.standing } → ((k : ℕ) → known_at u.index k ≡ known_at w.index k) → ((k : ℕ) → is_busy w.places.items k ≡ true → room_at w.index k ≤ room_at u.index k) → HoldsAside p m v w → HoldsAside p m v u
-prepared_holds p m v w u e same more H = subst (λ (x : Worker). HoldsAside p m v x) (sym e) (record {
+pub prepared_holds : (p : Place) (m : ℕ) (v : View) (w u : Worker) → u ≡ record w { answers = u.answers; index = u.index; standing = u.standing } → ((k : ℕ) → known_at u.index k ≡ known_at w.index k) → ((k : ℕ) → is_busy w.places.items k ≡ true → room_at w.index k ≤ room_at u.index k) → ((k n : ℕ) → count_of u.standing k n ≡ count_of w.standing k n) → HoldsAside p m v w → HoldsAside p m v u
+prepared_holds p m v w u e same more counts H = subst (λ (x : Worker). HoldsAside p m v x) (sym e) (record {
   place = H.place;
   member = H.member;
   core = H.core;
@@ -203,7 +205,7 @@ prepared_holds p m v w u e same more H = subst (λ (x : Worker). HoldsAside p m 
   space = λ r. by w.leading (H.space r);
   broken = H.broken;
   lost = H.lost;
-  cleaning = H.cleaning;
+  cleaning = keeps_counts p m v (record w { queue = [] }) u.standing counts H.cleaning;
   remembers = λ r k own idle. ap is_forgettable (same k) ∙ H.remembers r k own idle;
   chunks = H.chunks;
 }) where
@@ -216,7 +218,7 @@ prepared_holds p m v w u e same more H = subst (λ (x : Worker). HoldsAside p m 
   by leads.Between h = tt
 
 pub prepared_stands : (s : State) (p : Place) (m : ℕ) (v : View) (w u : Worker) → u ≡ record w { answers = u.answers; index = u.index; standing = u.standing } → SameNames w.standing u.standing → Stands s p m v w → Stands s p m v u
-prepared_stands s p m v w u e same S = subst (λ (x : Worker). Stands s p m v x) (sym e) (record { lies = S.lies; licensed = S.licensed; landed = S.landed; log = S.log; free = S.free; due = S.due; cut = S.cut; names = λ r on telling. names_same s m v.kept v.present v.told v.dead w.log w.standing u.standing same (S.names r on telling) })
+prepared_stands s p m v w u e same S = subst (λ (x : Worker). Stands s p m v x) (sym e) (record { lies = S.lies; licensed = S.licensed; landed = S.landed; log = S.log; free = S.free; due = S.due; cut = S.cut; names = λ r on telling. names_same s m v.kept v.present v.told v.dead w.log w.standing u.standing w.clearing w.cleaning same (S.names r on telling) })
 
 pub staged_keeps : (w u : Worker) (n : ℕ) (r : Request) → IsStaged w u n r → (k : ℕ) → is_busy w.places.items k ≡ true → is_busy u.places.items k ≡ true
 staged_keeps w u n r s k busy =
@@ -233,7 +235,7 @@ with_standing w u e = e ∙ (λ i. record w { answers = u.answers; index = u.ind
 
 pub answered_aside : (p : Place) (m : ℕ) (v : View) (w u : Worker) (k : ℕ) → OnlyAnswers w u → LessRoom w.index u.index k → is_busy w.places.items k ≡ false → HoldsAside p m v w → HoldsAside p m v u
 answered_aside p m v w u k e less idle H = prepared_holds p m v w u (with_standing w u e) less.records
-    (λ j busy. ⊎_elim (λ same. absurd (let both : true ≡ false = sym busy ∙ ap (is_busy w.places.items) same ∙ idle in cc both)) (λ ne. (let r = less.others j ne in omega (arith, r))) (cases_eq j k)) H
+    (λ j busy. ⊎_elim (λ same. absurd (let both : true ≡ false = sym busy ∙ ap (is_busy w.places.items) same ∙ idle in cc both)) (λ ne. (let r = less.others j ne in omega (arith, r))) (cases_eq j k)) (λ i n. ap (λ (x : Worker). count_of x.standing i n) e) H
 
 pub answered_standing : (s : State) (p : Place) (m : ℕ) (v : View) (w u : Worker) → OnlyAnswers w u → Stands s p m v w → Stands s p m v u
 answered_standing s p m v w u e S = subst (λ (x : Worker). Stands s p m v x) (sym e) (record { lies = S.lies; licensed = S.licensed; landed = S.landed; log = S.log; free = S.free; due = S.due; cut = S.cut; names = S.names })
@@ -261,7 +263,7 @@ staged_uses w u n k r only S is = record {
 pub before_holds : (p : Place) (m : ℕ) (v : View) (w u : Worker) → IsAsBefore w u → Holds p m v w → Holds p m v u
 before_holds p m v w u B H =
     let x = record w { answers = u.answers; index = u.index; standing = u.standing } in
-    subst (λ (y : Worker). Holds p m v y) (sym B.rest) (of_aside p m v (record w { answers = u.answers; index = u.index; standing = u.standing }) (prepared_holds p m v w (record w { answers = u.answers; index = u.index; standing = u.standing }) refl B.records (λ k busy. B.room k) (aside_of p m v w H))
+    subst (λ (y : Worker). Holds p m v y) (sym B.rest) (of_aside p m v (record w { answers = u.answers; index = u.index; standing = u.standing }) (prepared_holds p m v w (record w { answers = u.answers; index = u.index; standing = u.standing }) refl B.records (λ k busy. B.room k) (λ k n. ap count_in (B.names.copies k n)) (aside_of p m v w H))
     (λ k busy. (let a = H.admitted k busy in let b = B.room k in omega (arith, a, b))) H.waits)
 
 -- after a request is held
@@ -269,7 +271,7 @@ pub held_holds : (p : Place) (m : ℕ) (v : View) (w u : Worker) (q : List Held)
 held_holds p m v w u q h B more busy adds H =
     let x = record w { answers = u.answers; index = u.index; standing = u.standing } in
     let A : AddsLast w.queue q h = subst (λ (y : Worker). AddsLast y.queue q h) B.rest adds in
-    subst (λ (y : Worker). Holds p m v (record y { queue = q })) (sym B.rest) (of_aside p m v (record w { answers = u.answers; index = u.index; standing = u.standing; queue = q }) (prepared_holds p m v w (record w { answers = u.answers; index = u.index; standing = u.standing }) refl B.records (λ k busy. B.room k) (aside_of p m v w H))
+    subst (λ (y : Worker). Holds p m v (record y { queue = q })) (sym B.rest) (of_aside p m v (record w { answers = u.answers; index = u.index; standing = u.standing; queue = q }) (prepared_holds p m v w (record w { answers = u.answers; index = u.index; standing = u.standing }) refl B.records (λ k busy. B.room k) (λ k n. ap count_in (B.names.copies k n)) (aside_of p m v w H))
     (λ k is. ⊎_elim
     (λ same. (let a = H.admitted k is in let r = more in let key = A.key in
     let grown : length (waiting q k) ≡ length (waiting w.queue k) + 1 = ap (λ n. length (waiting q n)) same ∙ ap length key ∙ length-append (waiting w.queue (key_of h.request)) (h ∷ []) ∙ ap (λ n. length (waiting w.queue n) + 1) (sym same) in

@@ -13,7 +13,7 @@ use Rattle.store_image.proofs.Clients.{layout_numbers, chunk_of as block_chunk_o
 use Rattle.core_log.specs.Log.{tail_of, first_of, chunk_with}
 use Rattle.lazy_alloc.specs.Sets.{Sets, AreSets, chunk_of, class_at, chunk_class, chunk_is_due}
 use Rattle.lazy_alloc.specs.Written.{KeepsOthers, HeadTurnsTo, HasHead, WroteValue, head_of}
-use Rattle.lazy_alloc.proofs.Clients.{lies_at, class_same}
+use Rattle.lazy_alloc.proofs.Clients.{chunks_same, lies_at, class_same}
 use Rattle.group_laws.specs.Places.{Place, core_of}
 use Rattle.group_laws.specs.MemberViews.{View}
 use Rattle.group_board.specs.Views.{after_post}
@@ -21,6 +21,7 @@ use Rattle.licence.specs.Licence.{Licensed, grounded}
 use Rattle.core_log.proofs.Clients.{outside_chunk, log_beside, words_kept, own_chunk, tail_fits}
 use Rattle.core_log.specs.Chunk.{words_now}
 use Rattle.chunk_map.proofs.Clients.{chunks_apart}
+use Rattle.core_worker.proofs.CleaningKept.{keeps_few}
 use Rattle.core_worker.proofs.NamesStood.{names_kept}
 use Rattle.core_worker.specs.declared.worker.Worker.{Worker}
 use Rattle.core_worker.specs.declared.types.Leading.TheVariants as leads
@@ -79,7 +80,7 @@ holds_written t p m v w b a q class value H nothing sets wrote = record {
   leads = H.leads;
   space = λ r. subst (HasSpaceFor (record w { allocator = a })) (sym nothing) tt;
   broken = H.broken;
-  cleaning = H.cleaning;
+  cleaning = keeps_few p m v w a (let same = chunks_same w.allocator a (record { layout_is = wrote.layout_is; part_is = wrote.part_is }) wrote.free in omega (arith, same)) H.cleaning;
   remembers = H.remembers;
   chunks = λ r j lt. ⊎_elim (λ x. inl (⊎_elim (λ e. inl (wrote.free j ∙ e)) (λ e. inr (ap is_some (wrote.classes j) ∙ e)) x)) (λ e. inr e) (H.chunks r j lt);
   lost = H.lost;
@@ -118,7 +119,7 @@ holds_stopped p m v w H runs = record {
   leads = H.leads;
   space = λ r. absurd (cc r);
   broken = λ b. refl;
-  cleaning = refl;
+  cleaning = inl refl;
   remembers = λ r. absurd (cc r);
   chunks = λ r. absurd (cc r);
   lost = λ l. refl;
@@ -233,7 +234,7 @@ module _ (s t : State) (p : Place) (m : ℕ) (v : View) (w : Worker) (H : Holds 
           let was = S.cut runs k c (sym (wrote.classes k) ∙ is) (undue k ne un) (before telling) in
           (was.0, kind_stays telling k (H.sets.cut_in k c (sym (wrote.classes k) ∙ is)).0 ne (2 + 256 * c) was.1))
           (cases_eq k j);
-      names = λ r on telling. names_kept s t m v.kept v.present v.told v.dead w.log w.standing (words_stay telling) (S.names r on (before telling));
+      names = λ r on telling. names_kept s t m v.kept v.present v.told v.dead w.log w.standing w.clearing w.cleaning (words_stay telling) (S.names r on (before telling));
     }
 
   pub stands_stopped : Stands t p m v (record w { stopped = true })

@@ -1,7 +1,7 @@
 -- Each turn of a cleaning lowers what is left to do.
 use Rattle.std.proofs.Common.{◌≡◌, ℕ, ◌+◌, ◌*◌, ◌≤◌, ◌<◌, true, false, List, length, arith}
 use Rattle.log_standing.specs.NameCounts.{StandingState}
-use Rattle.core_worker.specs.declared.types.Victim.{Victim}
+use Rattle.log_cleaner.specs.declared.types.Victim.{Victim}
 use Rattle.core_index.specs.Index.{all_untold}
 use Rattle.core_index.specs.Slots as slots
 use Rattle.crash_core.specs.declared.names.Notices.{Notices as ToSend}

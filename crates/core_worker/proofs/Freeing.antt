@@ -29,6 +29,7 @@ use Rattle.core_worker.specs.OwnPlaces.{place_at, key_in, is_busy, Replaces}
 use Rattle.core_worker.specs.KeyTies.{IsPlaced, Offers, KnowsKey, IsStagedBlock, IsBlockFor}
 use Rattle.core_worker.specs.declared.types.Cleaning.TheVariants.{Nothing}
 use Rattle.core_worker.specs.Supplies.{under_way}
+use Rattle.core_worker.specs.KeepsCleaning.{KeepsCleaning}
 use Rattle.core_worker.specs.LogNames.{NamesStand}
 use Rattle.core_worker.specs.Outbox.{KeepsMail, as_told}
 use Rattle.core_worker.specs.Ties.{Stands, Leads, HasSpaceFor, is_lost}
@@ -42,6 +43,7 @@ pub record Frees (p : Place) (m key slot : ℕ) (v u : View) (w x : Worker) : Ty
   pub core : x.core ≡ w.core
   pub log : x.log ≡ w.log
   pub cleaning : (under_way x ≡ under_way w) ⊎ (under_way x ≡ Nothing)
+  pub cleans : KeepsCleaning p m v w → KeepsCleaning p m u x
   pub runs : x.stopped ≡ false → w.stopped ≡ false
   -- keys
   pub spelled : IsSpelledIndex x.index
@@ -74,8 +76,8 @@ pub record Frees (p : Place) (m key slot : ℕ) (v u : View) (w x : Worker) : Ty
   pub found : is_lost x.leading ≡ false → is_lost w.leading ≡ false
   -- the names in the log
   pub names : (s : State) → x.stopped ≡ false → x.winds_down ≡ false → IsTelling s
-      → (w.stopped ≡ false → w.winds_down ≡ false → IsTelling s → NamesStand s m v.kept v.present v.told v.dead w.log w.standing)
-      → NamesStand s m u.kept u.present u.told u.dead x.log x.standing
+      → (w.stopped ≡ false → w.winds_down ≡ false → IsTelling s → NamesStand s m v.kept v.present v.told v.dead w.log w.standing w.clearing w.cleaning)
+      → NamesStand s m u.kept u.present u.told u.dead x.log x.standing x.clearing x.cleaning
 
 abbrev slot_of : Option Pending → Option ℕ
 slot_of None = None
@@ -201,7 +203,7 @@ module _ (p : Place) (m key slot : ℕ) (v u : View) (w x : Worker) (H : HoldsAs
     space = F.space;
     broken = F.broken;
     lost = F.lost;
-    cleaning = ⊎_elim (λ same. same ∙ H.cleaning) (λ none. none) F.cleaning;
+    cleaning = F.cleans H.cleaning;
     remembers = F.remembers;
     chunks = λ r j low. ⊎_elim
         (λ y. inl (⊎_elim (λ e. inl (F.chunks.free j ∙ e)) (λ e. inr (ap is_some (F.chunks.classes j) ∙ e)) y))

@@ -1,5 +1,5 @@
 -- What a block that was taken changes of an allocator.
-use Rattle.std.proofs.Common.{◌≡◌, ◌⊎◌, inl, inr, ⊎_elim, ℕ, ◌+◌, ◌%◌, ◌^◌, ◌==◌, ◌||◌, not, Bool, true, false, cond, Some, None, refl, sym, ◌∙◌, ap, subst, arith}
+use Rattle.std.proofs.Common.{◌≡◌, ◌⊎◌, inl, inr, ⊎_elim, ℕ, ◌+◌, ◌%◌, ◌^◌, ◌≤◌, ◌==◌, ◌||◌, not, Bool, true, false, cond, Some, None, refl, sym, ◌∙◌, ap, subst, arith}
 use Rattle.std.specs.Prelude.{is_some}
 use Rattle.std.specs.Option.{option_and_then}
 use Rattle.std.proofs.lemmas.Nat.{pow_pos}
@@ -8,7 +8,7 @@ use Rattle.log_entry.specs.declared.entry.Body.{Body}
 use Rattle.log_entry.specs.declared.entry.Body.TheVariants as bodies
 use Rattle.chunk_map.specs.Layouts.{is_class, has_class}
 use Rattle.store_image.specs.Parts.{chunk_units, is_start}
-use Rattle.lazy_alloc.specs.Sets.{Sets, AreSets, Takes, TakesBlock, Cuts, start_in, chunk_of, chunk_is_free, chunk_class, chunk_is_due, class_at, block_is_used}
+use Rattle.lazy_alloc.specs.Sets.{Sets, AreSets, free_chunk_count, Takes, TakesBlock, Cuts, start_in, chunk_of, chunk_is_free, chunk_class, chunk_is_due, class_at, block_is_used}
 use Rattle.lazy_alloc.specs.Form.{class_by}
 use Rattle.lazy_alloc.proofs.Clients.{SamePart, same_part, class_same, free_block, lies_at, class_point, class_fits, placed_class}
 use Rattle.core_worker.specs.KeyTies.{IsBlockFor}
@@ -27,6 +27,7 @@ pub record Allots (old new : Sets) (b : Body) (n : ℕ) : Type 0 where
   pub due : (j : ℕ) → chunk_is_due new j ≡ true → (chunk_is_due old j ≡ true) ⊎ (chunk_is_free old j ≡ true)
   pub cut : (j c : ℕ) → chunk_class new j ≡ Some c → chunk_is_due new j ≡ false → (chunk_class old j ≡ Some c) × (chunk_is_due old j ≡ false)
   pub chunk : (j : ℕ) → IsFreeOrData old j → IsFreeOrData new j
+  pub few : free_chunk_count new ≤ free_chunk_count old
 
 pub allots_none : (a : Sets) (b : Body) (n : ℕ) → AreSets a → PointsNowhere b → Allots a a b n
 allots_none a b n sets none = record {
@@ -40,6 +41,7 @@ allots_none a b n sets none = record {
   due = λ j e. inl e;
   cut = λ j c e d. (e, d);
   chunk = λ j e. e;
+  few = omega arith;
 }
 
 or_false : (x y : Bool) → (x || y) ≡ false → (x ≡ false) × (y ≡ false)
@@ -83,6 +85,7 @@ module _ (old new : Sets) (sets : AreSets old) (sets' : AreSets new) (class q n 
         due = λ j e. inl (sym (t.chunks.due j) ∙ e);
         cut = λ j c e d. (sym (t.chunks.classes j) ∙ e, sym (t.chunks.due j) ∙ d);
         chunk = λ j. ⊎_elim (λ e. inl (t.chunks.free j ∙ e)) (λ e. inr (ap is_some (t.chunks.classes j) ∙ e));
+        few = (let same = t.chunk_count in omega (arith, same));
       }
 
   first_start : is_start old.layout class 1 ≡ true
@@ -115,6 +118,7 @@ module _ (old new : Sets) (sets : AreSets old) (sets' : AreSets new) (class q n 
             (λ same. inr (ap is_some (ap (chunk_class new) same ∙ t.cut)))
             (λ ne. ⊎_elim (λ e. inl (t.free i ∙ and_from (chunk_is_free old i) (not (i == j)) e (ap not (ne_eqb i j ne)))) (λ e. inr (ap is_some (t.classes i ne) ∙ e)) had)
             (cases_eq i j);
+        few = (let less = t.chunk_count in omega (arith, less));
       }
 
   pub allots : (may : Bool) → Takes old new class may (Some q) → Allots old new (bodies.Pointer q) n

@@ -88,6 +88,7 @@ module _ (p : Place) (m : ℕ) (v : View) (w : Worker) (H : HoldsAside p m v w) 
       core = refl;
       log = refl;
       cleaning = inr refl;
+      cleans = λ had. inl refl;
       runs = λ r. absurd (cc r);
       spelled = H.spelled;
       room = λ k ne. omega arith;

@@ -9,17 +9,19 @@ use Rattle.licence.specs.Licence.{grounded}
 use Rattle.licence.proofs.Clients.{allowed, flown}
 use Rattle.core_worker.specs.declared.types.Leading.{Leading}
 use Rattle.core_worker.specs.declared.worker.Worker.{Worker}
+use Rattle.core_worker.specs.KeepsCleaning.{KeepsCleaning}
 use Rattle.core_worker.specs.Ties.{Leads, HasSpaceFor, is_lost, Holds, Stands}
 use Rattle.core_worker.proofs.MailKept.{mail_same}
+use Rattle.core_worker.proofs.CleaningKept.{stopped_none}
 
 -- a view in which a leader's fields are others
 abbrev pub led_view : View → List Entry → List Entry → (ℕ → ℕ → Option Entry) → Bool → List Seen → List Entry → View
 led_view v kept flying taken holds looked took = record v { kept = kept; flying = flying; taken = taken; holds = holds; looked = looked; took = took }
 
 pub holds_led : (p : Place) (m : ℕ) (v : View) (w : Worker) (flying : List Entry) (taken : ℕ → ℕ → Option Entry) (holds : Bool) (looked : List Seen) (took : List Entry) (l : Leading) → Holds p m v w
-    → Leads p m (led_view v v.kept flying taken holds looked took) l → (w.stopped ≡ false → HasSpaceFor w l) → (is_lost l ≡ true → w.stopped ≡ true)
+    → Leads p m (led_view v v.kept flying taken holds looked took) l → KeepsCleaning p m v (record w { leading = l }) → (w.stopped ≡ false → HasSpaceFor w l) → (is_lost l ≡ true → w.stopped ≡ true)
     → Holds p m (led_view v v.kept flying taken holds looked took) (record w { leading = l })
-holds_led p m v w flying taken holds looked took l H leads space lost = record {
+holds_led p m v w flying taken holds looked took l H leads cleaning space lost = record {
   place = H.place;
   member = H.member;
   core = H.core;
@@ -47,7 +49,7 @@ holds_led p m v w flying taken holds looked took l H leads space lost = record {
   leads = leads;
   space = space;
   broken = H.broken;
-  cleaning = H.cleaning;
+  cleaning = cleaning;
   remembers = H.remembers;
   chunks = H.chunks;
   lost = lost;
@@ -71,10 +73,10 @@ stands_quiet s p m v w taken holds looked took l landed S =
 
 -- the same of a view that is known to be such a one
 pub holds_by : (p : Place) (m : ℕ) (v u : View) (w : Worker) (flying : List Entry) (taken : ℕ → ℕ → Option Entry) (holds : Bool) (looked : List Seen) (took : List Entry) (l : Leading) → u ≡ led_view v v.kept flying taken holds looked took → Holds p m v w
-    → Leads p m u l → (w.stopped ≡ false → HasSpaceFor w l) → (is_lost l ≡ true → w.stopped ≡ true)
+    → Leads p m u l → KeepsCleaning p m v (record w { leading = l }) → (w.stopped ≡ false → HasSpaceFor w l) → (is_lost l ≡ true → w.stopped ≡ true)
     → Holds p m u (record w { leading = l })
-holds_by p m v u w flying taken holds looked took l e H leads space lost =
-    subst (λ (x : View). Holds p m x (record w { leading = l })) (sym e) (holds_led p m v w flying taken holds looked took l H (subst (λ (x : View). Leads p m x l) e leads) space lost)
+holds_by p m v u w flying taken holds looked took l e H leads cleaning space lost =
+    subst (λ (x : View). Holds p m x (record w { leading = l })) (sym e) (holds_led p m v w flying taken holds looked took l H (subst (λ (x : View). Leads p m x l) e leads) cleaning space lost)
 
 pub stands_by : (s : State) (p : Place) (m : ℕ) (v u : View) (w : Worker) (taken : ℕ → ℕ → Option Entry) (holds : Bool) (looked : List Seen) (took : List Entry) (l : Leading) → u ≡ led_view v v.kept v.flying taken holds looked took → (is_lost l ≡ false → is_lost w.leading ≡ false) → Stands s p m v w
     → Stands s p m u (record w { leading = l })
@@ -136,7 +138,7 @@ failed_by p m v u w taken l e H leads space stopped = subst (λ (x : View). Hold
   leads = subst (λ (x : View). Leads p m x l) e leads;
   space = λ runs. space;
   broken = λ b. stopped;
-  cleaning = H.cleaning;
+  cleaning = inl (stopped_none w stopped);
   remembers = H.remembers;
   chunks = H.chunks;
   lost = λ b. stopped;

@@ -23,8 +23,9 @@ use Rattle.core_worker.specs.declared.types.Place.TheVariants.{Posted}
 use Rattle.core_worker.specs.declared.worker.Worker.{Worker}
 use Rattle.core_worker.specs.OwnPlaces.{place_at, lines_in, own}
 use Rattle.core_worker.specs.KeyTies.{IsPlaced}
-use Rattle.core_worker.specs.Supplies.{HasKeptRoom, room_for}
+use Rattle.core_worker.specs.Supplies.{HasKeptRoom, room_for, under_way}
 use Rattle.core_worker.specs.Ties.{Holds}
+use Rattle.core_worker.specs.declared.types.Cleaning.TheVariants.{Nothing}
 use Rattle.core_worker.proofs.BatchRoom.{kept_room}
 
 -- no entry has more than 34 words
@@ -86,7 +87,7 @@ module _ (g : Group) (L : Lawful g) (m : ℕ) (w : Worker) (H : Holds g.place m 
       (λ doubt. absurd (cc doubt.0))
       (H.pending e.key (record { entry = e; slot = Some s }) pends)
 
-  pub own_fits : HasKeptRoom w → (lines : ℕ) (fresh : Bool) → fits (room_for w) lines [] fresh true (length (words_of e)) ≡ true
-  own_fits rule lines fresh =
+  pub own_fits : under_way w ≡ Nothing → HasKeptRoom w → (lines : ℕ) (fresh : Bool) → fits (room_for w) lines [] fresh true (length (words_of e)) ≡ true
+  own_fits clean rule lines fresh =
       let few = pledged_lines in
-      first_fits (room_for w) lines fresh (length (words_of e)) (few_words e spelled) (kept_room g.place m (view_of g m) w H rule) (omega (arith, few))
+      first_fits (room_for w) lines fresh (length (words_of e)) (few_words e spelled) (kept_room g.place m (view_of g m) w H clean rule) (omega (arith, few))

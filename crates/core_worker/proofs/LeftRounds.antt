@@ -29,6 +29,10 @@ use Rattle.core_worker.specs.Supplies.{HasKeptRoom, room_for}
 use Rattle.core_worker.specs.Ties.{Holds}
 use Rattle.core_worker.specs.Turns.{Moment, Collects, Releases, led_by}
 use Rattle.core_worker.specs.Left.{taken_left, leading_left, left, offers, any_offers, under_way, Lowers, StartsFirst}
+use Rattle.core_worker.specs.declared.types.Cleaning.TheVariants.{Nothing}
+use Rattle.core_worker.specs.Status.{is_leading}
+use Rattle.core_worker.specs.Supplies.{under_way as worker_way}
+use Rattle.core_worker.proofs.CleaningKept.{leads_none}
 use Rattle.core_worker.proofs.LeftSums.{offers_has}
 use Rattle.core_worker.proofs.LeftSteps.{takes_way, unlocks_way, unlocks_none}
 use Rattle.core_worker.proofs.LeftWorkers.{leading_way, taken_more}
@@ -74,7 +78,7 @@ some_taken [] some = absurd (some refl)
 some_taken (t ∷ ts) some = omega arith
 
 -- A round that is over, of a core that has taken nothing, found none of its own slots Posted.
-module _ (g : Group) (L : Lawful g) (m : ℕ) (w : Worker) (H : Holds g.place m (view_of g m) w) (rule : HasKeptRoom w) (old last : Collecting) (first : old.at ≡ 0) (none : taken_by old ≡ []) (whole : 8 ≤ last.at) (passed : Passed (Some g) (room_for w) m old last.at) where
+module _ (g : Group) (L : Lawful g) (m : ℕ) (w : Worker) (H : Holds g.place m (view_of g m) w) (clean : worker_way w ≡ Nothing) (rule : HasKeptRoom w) (old last : Collecting) (first : old.at ≡ 0) (none : taken_by old ≡ []) (whole : 8 ≤ last.at) (passed : Passed (Some g) (room_for w) m old last.at) where
   not_here : (s : ℕ) → s < 8 → (e : Entry) → g.slot m s ≡ slots.Posted e → ⊥
   not_here s lt e is =
       let at = passed s (omega (arith, first)) (omega (arith, lt, whole)) in
@@ -87,7 +91,7 @@ module _ (g : Group) (L : Lawful g) (m : ℕ) (w : Worker) (H : Holds g.place m 
       let here : fits (room_for w) (own_lines m (taken_by old)) [] old.fresh true (length (words_of e)) ≡ false =
       subst (λ (ts : List Taken). fits (room_for w) (own_lines m (taken_by old)) ts old.fresh true (length (words_of e)) ≡ false) none
       (subst (λ (b : Bool). fits (room_for w) (own_lines m (taken_by old)) (taken_by old) old.fresh b (length (words_of e)) ≡ false) mine passes) in
-      let both : true ≡ false = sym (own_fits g L m w H s e is rule (own_lines m (taken_by old)) old.fresh) ∙ here in
+      let both : true ≡ false = sym (own_fits g L m w H s e is clean rule (own_lines m (taken_by old)) old.fresh) ∙ here in
       cc both
 
   pub none_offers : any_offers (g.slot m) 8 ≡ false
@@ -135,7 +139,7 @@ module _ (before after : Option Group) (seat : SeatAt) (a b : Moment) (R : Relea
       let H_here : Holds g.place seat.number (view_of g seat.number) a.worker = subst (λ (v : View). Holds g.place seat.number v a.worker) is.1 (subst (λ (p : Place). Holds p seat.number a.view a.worker) is.0 H) in
       let passed : Passed (Some g) (room_for a.worker) seat.number R.old R.last.at = subst (λ (o : Option Group). Passed o (room_for a.worker) seat.number R.old R.last.at) told R.went.1 in
       let before_none = sym items ∙ none in
-      let clear = none_offers g L seat.number a.worker H_here rule R.old R.last (starts R.runs R.old R.led before_none) before_none (whole none) passed in
+      let clear = none_offers g L seat.number a.worker H_here (leads_none seat.place seat.number a.view a.worker H.cleaning (ap is_leading R.led)) rule R.old R.last (starts R.runs R.old R.led before_none) before_none (whole none) passed in
       let holds : g.holds seat.number ≡ true = sym (ap (λ (x : Group). x.holds seat.number) on.1) ∙ last.2.0.holds in
       let mine : last.0.holder ≡ Some seat.number = ap (λ (x : Group). x.holder) on.1 ∙ (L.looks.holds_is seat.number).0 holds in
       let clear_here : any_offers (last.0.slot seat.number) 8 ≡ false = ap (λ (x : Group). any_offers (x.slot seat.number) 8) on.1 ∙ clear in

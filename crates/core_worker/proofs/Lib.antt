@@ -34,6 +34,7 @@ mod Staging
 mod Finding
 mod Beginnings
 pub mod UnderWay
+pub mod CleaningKept
 mod RoomKept
 mod AcceptedOrder
 mod Accepted

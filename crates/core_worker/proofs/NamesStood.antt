@@ -1,5 +1,5 @@
 -- What stands in the own log by its region stays so, where places were reserved, names were told dead, and words of the log are kept.
-use Rattle.std.proofs.Common.{◌≡◌, inl, ℕ, ◌==◌, not, Bool, true, false, cond, List, [], ◌∷◌, Option, Some, is_some, refl, sym, ◌∙◌, ap, subst, arith}
+use Rattle.std.proofs.Common.{◌≡◌, inl, ℕ, ◌≤◌, ◌==◌, ◌&&◌, ◌||◌, eqb, length, not, Bool, true, false, cond, List, [], ◌∷◌, Option, Some, is_some, refl, sym, ◌∙◌, ap, subst, arith}
 use Rattle.std.specs.List.{filter}
 use Rattle.std.proofs.lemmas.Bool.{and_parts, and_from, eqb-true, eq-eqb}
 use Rattle.pm_region.specs.State.{State}
@@ -11,24 +11,79 @@ use Rattle.core_log.specs.Walking.{IsBetween, entries_in, behind}
 use Rattle.core_log.proofs.Clients.{is_tail}
 use Rattle.core_index.specs.Slots as slots
 use Rattle.log_standing.specs.declared.types.Settled.{Settled}
-use Rattle.log_standing.specs.NameCounts.{StandingState, count_in, count_of, is_told}
-use Rattle.log_standing.specs.ChunkCounts.{has_name}
-use Rattle.log_cleaner.specs.Copying.{awaits, left_to_copy, IsSettled}
+use Rattle.log_entry.specs.Spelling.{words_of}
+use Rattle.log_standing.specs.declared.types.Copies.{Copies}
+use Rattle.log_standing.specs.NameCounts.{StandingState, SameCopies, bit, count_in, told_in, count_of, is_told, wants}
+use Rattle.log_standing.specs.ChunkCounts.{is_named, has_name}
+use Rattle.log_standing.proofs.Clients.{same_name}
+use Rattle.log_cleaner.specs.Clearing.{ClearingState, IsGathered, is_doomed}
+use Rattle.log_cleaner.specs.Copying.{awaits, left_to_copy, words_sum, IsSettled}
+use Rattle.log_cleaner.specs.CopyBatch.{Bounds}
+use Rattle.log_cleaner.proofs.LessLaws.{filter_same_in, sum_filter, sum_ones}
 use Rattle.log_cleaner.proofs.Parts.{count_same}
 use Rattle.log_cleaner.proofs.SettledLaws.{settled_same}
+use Rattle.core_worker.specs.declared.types.Cleaning.{Cleaning}
+use Rattle.core_worker.specs.declared.types.Cleaning.TheVariants.{Nothing, Copying, Doomed}
 use Rattle.core_worker.specs.StandingTies.{SameNames, HearsOwn}
-use Rattle.core_worker.specs.LogNames.{KnowsNames, NamesStand}
+use Rattle.core_worker.specs.LogNames.{KnowsNames, NamesStand, ClearsIn, IsCleanedBy}
 use Rattle.core_worker.proofs.NamesKnown.{knows_same}
 
+left_by : (old new : StandingState) → SameCopies old new → (es : List (ℕ × Entry)) → left_to_copy new es ≡ left_to_copy old es
+left_by old new same es = filter_same_in (awaits new) (awaits old) es (λ y is. ap (λ (p : Option Copies). (count_in p == 1) && not (told_in p)) (same y.1.key y.1.version))
+
+-- what stands in no list of those that are still to be copied isn't
+none_named : (st : StandingState) (xs : List (ℕ × Entry)) → left_to_copy st xs ≡ [] → (k n : ℕ) → has_name xs k n ≡ true → wants st k n ≡ true → ⊥
+none_named st [] none k n has waits = cc has
+none_named st (x ∷ xs) none k n has waits = by (awaits st x) refl none (λ rest others. none_named st xs rest k n others waits) where
+  named : (b : Bool) → is_named k n x ≡ b → awaits st x ≡ false → (has_name xs k n ≡ true → ⊥) → ⊥
+  named true is off later =
+      let same = same_name x.1.key x.1.version k n is in
+      let both : true ≡ false = sym waits ∙ (λ i. wants st (sym same.0 i) (sym same.1 i)) ∙ off in
+      cc both
+  named false isnt off later = later (sym (ap (λ (b : Bool). b || has_name xs k n) isnt) ∙ has)
+
+  by : (b : Bool) → awaits st x ≡ b → cond b (x ∷ left_to_copy st xs) (left_to_copy st xs) ≡ [] → (left_to_copy st xs ≡ [] → has_name xs k n ≡ true → ⊥) → ⊥
+  by true is rest later = cc rest
+  by false off rest later = named (is_named k n x) refl off (later rest)
+
+-- what is counted of names alone is so by equal counts
+cleaned_same : (s : State) (log : LogState) (old new : StandingState) (o : Option ClearingState) (c : Cleaning) → SameCopies old new → IsCleanedBy s log old o c → IsCleanedBy s log new o c
+cleaned_same s log old new o Nothing same C = tt
+cleaned_same s log old new o (Copying victim first) same C =
+    let es = entries_in s log victim.chunk in
+    let left = left_by old new same es in
+    record {
+      chunk = C.chunk;
+      bounds = record {
+        entries = (let a = ap length left in let b = C.bounds.entries in omega (arith, a, b));
+        words = (let a = ap words_sum left in let b = C.bounds.words in omega (arith, a, b));
+      };
+      room = C.room;
+    }
+cleaned_same s log old new o (Doomed chunk) same C = λ x is.
+    let had = C x is in
+    let es = entries_in s log x.chunk in
+    record {
+      chunk = had.chunk;
+      ready = record {
+        gathered = record {
+          names = had.ready.gathered.names;
+          doomed = λ k n. had.ready.gathered.doomed k n ∙ ap (λ (p : Option Copies). bit (has_name es k n && (told_in p && (count_in p == 1)))) (sym (same k n));
+        };
+        copied = left_by old new same es ∙ had.ready.copied;
+      };
+    }
+
 -- nothing but places was reserved
-pub names_same : (s : State) (m : ℕ) (kept : List Entry) (present : ℕ → ℕ → Option ℕ) (told dead : ℕ → ℕ → Bool) (log : LogState) (old new : StandingState) → SameNames old new → NamesStand s m kept present told dead log old → NamesStand s m kept present told dead log new
-names_same s m kept present told dead log old new same N = record {
+pub names_same : (s : State) (m : ℕ) (kept : List Entry) (present : ℕ → ℕ → Option ℕ) (told dead : ℕ → ℕ → Bool) (log : LogState) (old new : StandingState) (o : Option ClearingState) (c : Cleaning) → SameNames old new → NamesStand s m kept present told dead log old o c → NamesStand s m kept present told dead log new o c
+names_same s m kept present told dead log old new o c same N = record {
   counted = record {
     counts = λ k n. ap count_in (same.copies k n) ∙ N.counted.counts k n;
     settled = λ h at. settled_same s log old new h same.copies (N.counted.settled h (sym same.settled ∙ at));
   };
   read = λ h at. N.read h (sym same.settled ∙ at);
   knows = knows_same m kept present told dead old new same N.knows;
+  cleaned = cleaned_same s log old new o c same.copies N.cleaned;
 }
 
 -- fewer are filtered out of fewer
@@ -44,7 +99,7 @@ narrow f g less (x ∷ xs) = by (g x) refl (narrow f g less xs) where
   by false e again = ap (λ (b : Bool). cond b (x ∷ filter f xs) (filter f xs)) (off (f x) refl e) ∙ again ∙ sym (ap (λ (b : Bool). filter f (cond b (x ∷ filter g xs) (filter g xs))) e)
 
 -- own names were told dead
-module _ (s : State) (m home : ℕ) (index : List (ℕ × slots.Place)) (kept kept' : List Entry) (present present' : ℕ → ℕ → Option ℕ) (told told' dead dead' : ℕ → ℕ → Bool) (log : LogState) (old new : StandingState) (tells : HearsOwn home index old new) (N : NamesStand s m kept present told dead log old) where
+module _ (s : State) (m home : ℕ) (index : List (ℕ × slots.Place)) (kept kept' : List Entry) (present present' : ℕ → ℕ → Option ℕ) (told told' dead dead' : ℕ → ℕ → Bool) (log : LogState) (old new : StandingState) (o : Option ClearingState) (c : Cleaning) (tells : HearsOwn home index old new) (N : NamesStand s m kept present told dead log old o c) where
   fewer : (x : ℕ × Entry) → awaits new x ≡ true → awaits old x ≡ true
   fewer x is =
       let k = x.1.key in
@@ -66,7 +121,55 @@ module _ (s : State) (m home : ℕ) (index : List (ℕ × slots.Place)) (kept ke
     none = left_narrow (entries_in s log h.chunk) ∙ ap (filter (awaits new)) was.none ∙ sym (left_narrow (behind h.place (entries_in s log h.chunk)));
   }
 
-  pub names_heard : KnowsNames m kept' present' told' dead' new → NamesStand s m kept' present' told' dead' log new
+  -- a name of the chunk that wasn't told before is one of which there is another copy
+  doomed_same : (xs : List (ℕ × Entry)) → left_to_copy old xs ≡ [] → (k n : ℕ) → has_name xs k n ≡ true → is_doomed new k n ≡ is_doomed old k n
+  doomed_same xs none k n has = by (count_of old k n == 1) refl where
+    still : (a : Bool) → is_told old k n ≡ a → count_of old k n ≡ 1 → is_told new k n ≡ a
+    still true is one = tells.all k n (omega (arith, one)) (inl is)
+    still false is one = absurd (let waits : wants old k n ≡ true = (λ i. eqb (one i) 1 && not (is i)) in none_named old xs none k n has waits)
+
+    by : (b : Bool) → (count_of old k n == 1) ≡ b → is_doomed new k n ≡ is_doomed old k n
+    by true is = (λ i. still (is_told old k n) refl (eqb-true (count_of old k n) 1 is) i && (tells.counts k n i == 1))
+    by false is = ap (λ (b : Bool). is_told new k n && b) (ap (λ (x : ℕ). x == 1) (tells.counts k n) ∙ is) ∙ no (is_told new k n) ∙ sym (no (is_told old k n)) ∙ ap (λ (b : Bool). is_told old k n && b) (sym is) where
+      no : (b : Bool) → (b && false) ≡ false
+      no true = refl
+      no false = refl
+
+  clears_heard : (x : ClearingState) → ClearsIn s log old x → ClearsIn s log new x
+  clears_heard x C = record {
+    chunk = C.chunk;
+    ready = record {
+      gathered = record {
+        names = C.ready.gathered.names;
+        doomed = λ k n. C.ready.gathered.doomed k n ∙ by k n (has_name (entries_in s log x.chunk) k n) refl;
+      };
+      copied = left_narrow (entries_in s log x.chunk) ∙ ap (filter (awaits new)) C.ready.copied;
+    };
+  } where
+    by : (k n : ℕ) (b : Bool) → has_name (entries_in s log x.chunk) k n ≡ b → bit (has_name (entries_in s log x.chunk) k n && is_doomed old k n) ≡ bit (has_name (entries_in s log x.chunk) k n && is_doomed new k n)
+    by k n true is = ap (λ (d : Bool). bit (has_name (entries_in s log x.chunk) k n && d)) (sym (doomed_same (entries_in s log x.chunk) C.ready.copied k n is))
+    by k n false is = ap (λ (b : Bool). bit (b && is_doomed old k n)) is ∙ sym (ap (λ (b : Bool). bit (b && is_doomed new k n)) is)
+
+  cleaned_heard : (d : Cleaning) → IsCleanedBy s log old o d → IsCleanedBy s log new o d
+  cleaned_heard Nothing C = tt
+  cleaned_heard (Copying victim first) C = record {
+    chunk = C.chunk;
+    bounds =
+        let es = entries_in s log victim.chunk in
+        let fewer_entries = sum_filter (λ (y : ℕ × Entry). 1) (awaits new) (left_to_copy old es) in
+        let fewer_words = sum_filter (λ (y : ℕ × Entry). length (words_of y.1)) (awaits new) (left_to_copy old es) in
+        let entries = C.bounds.entries in
+        let words = C.bounds.words in
+        let one = sum_ones (filter (awaits new) (left_to_copy old es)) in
+        let two = sum_ones (left_to_copy old es) in
+        let same = ap length (left_narrow es) in
+        let same_words = ap words_sum (left_narrow es) in
+        record { entries = omega (arith, fewer_entries, entries, one, two, same); words = omega (arith, fewer_words, words, same_words) };
+    room = C.room;
+  }
+  cleaned_heard (Doomed chunk) C = λ x is. clears_heard x (C x is)
+
+  pub names_heard : KnowsNames m kept' present' told' dead' new → NamesStand s m kept' present' told' dead' log new o c
   names_heard knows = record {
     counted = record {
       counts = λ k n. tells.counts k n ∙ N.counted.counts k n;
@@ -74,14 +177,31 @@ module _ (s : State) (m home : ℕ) (index : List (ℕ × slots.Place)) (kept ke
     };
     read = λ h at. N.read h (sym tells.settled ∙ at);
     knows = knows;
+    cleaned = cleaned_heard c N.cleaned;
   }
 
 -- the words of the log are what they were
-module _ (s t : State) (m : ℕ) (kept : List Entry) (present : ℕ → ℕ → Option ℕ) (told dead : ℕ → ℕ → Bool) (log : LogState) (st : StandingState) (words : (j u : ℕ) → tail_of log.chunks j ≡ Some u → words_now t (first_of log j) u ≡ words_now s (first_of log j) u) where
+module _ (s t : State) (m : ℕ) (kept : List Entry) (present : ℕ → ℕ → Option ℕ) (told dead : ℕ → ℕ → Bool) (log : LogState) (st : StandingState) (o : Option ClearingState) (c : Cleaning) (words : (j u : ℕ) → tail_of log.chunks j ≡ Some u → words_now t (first_of log j) u ≡ words_now s (first_of log j) u) where
   entries_kept : (j : ℕ) → is_some (tail_of log.chunks j) ≡ true → entries_in t log j ≡ entries_in s log j
   entries_kept j has = ap (λ (ws : List ℕ). (scan_of ws).entries) (words j (tail_in log j) (is_tail (tail_of log.chunks j) has))
 
-  pub names_kept : NamesStand s m kept present told dead log st → NamesStand t m kept present told dead log st
+  cleaned_kept : (d : Cleaning) → IsCleanedBy s log st o d → IsCleanedBy t log st o d
+  cleaned_kept Nothing C = tt
+  cleaned_kept (Copying victim first) C =
+      let there = sym (entries_kept victim.chunk C.chunk) in
+      record { chunk = C.chunk; bounds = subst (λ (es : List (ℕ × Entry)). Bounds victim st es) there C.bounds; room = λ x is. subst (λ (es : List (ℕ × Entry)). length es ≤ x.room) there (C.room x is) }
+  cleaned_kept (Doomed chunk) C = λ x is.
+      let had = C x is in
+      let there = sym (entries_kept x.chunk had.chunk) in
+      record {
+        chunk = had.chunk;
+        ready = record {
+          gathered = subst (λ (es : List (ℕ × Entry)). IsGathered st es x) there had.ready.gathered;
+          copied = subst (λ (es : List (ℕ × Entry)). left_to_copy st es ≡ []) there had.ready.copied;
+        };
+      }
+
+  pub names_kept : NamesStand s m kept present told dead log st o c → NamesStand t m kept present told dead log st o c
   names_kept N = record {
     counted = record {
       counts = λ k n. N.counted.counts k n ∙ sym (count_same (λ (i : ℕ). has_name (entries_in t log i) k n) (λ (i : ℕ). has_name (entries_in s log i) k n) log.chunks (λ i has. ap (λ (xs : List (ℕ × Entry)). has_name xs k n) (entries_kept i has)));
@@ -95,4 +215,5 @@ module _ (s t : State) (m : ℕ) (kept : List Entry) (present : ℕ → ℕ → 
     };
     read = N.read;
     knows = N.knows;
+    cleaned = cleaned_kept c N.cleaned;
   }

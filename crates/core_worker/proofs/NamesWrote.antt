@@ -31,9 +31,14 @@ use Rattle.batch_leader.specs.Persisting.{opened_for}
 use Rattle.core_worker.specs.declared.worker.Worker.{Worker}
 use Rattle.core_worker.specs.StandingTies.{named_in, AddsNames}
 use Rattle.core_worker.specs.Counted.{MayOpen}
-use Rattle.core_worker.specs.LogNames.{NamesStand}
+use Rattle.log_cleaner.specs.Clearing.{ClearingState}
+use Rattle.core_worker.specs.declared.types.Cleaning.{Cleaning}
+use Rattle.core_worker.specs.declared.types.Cleaning.TheVariants.{Nothing}
+use Rattle.core_worker.specs.Supplies.{under_way}
+use Rattle.core_worker.specs.LogNames.{NamesStand, IsCleanedBy}
 use Rattle.core_worker.specs.Ties.{Holds, Stands}
 use Rattle.core_worker.specs.Turns.{TakesFor}
+use Rattle.core_worker.proofs.CleaningKept.{runs_way}
 use Rattle.core_worker.proofs.NamesAdded.{one_if}
 use Rattle.core_worker.proofs.NamesKnown.{knows_added}
 use Rattle.core_worker.proofs.Counted.{counted, once, fresh, other_open, still_has, still_closed, else_same}
@@ -63,11 +68,11 @@ module _ (es : List Entry) (old new : StandingState) (apart : AreNamedApart es) 
 
 module _ (m : ℕ) (present : ℕ → ℕ → Option ℕ) (told dead : ℕ → ℕ → Bool) (s t : State) (log log' : LogState) (o : Option ℕ) (es kept : List Entry) (old new : StandingState) (stands : StandsIn s log) (may : MayOpen log o) (batch : IsBatch es)
     (appended : AppendedBatch s t (opened_for log o) log' (padded (flat_map words_of es))) (outside : During s t (KeepsOutside (cell_now s) (open_first (opened_for log o)) (open_first (opened_for log o) + chunk_words log.layout)))
-    (N : NamesStand s m kept present told dead log old) (each : AllByRecursion (LacksName kept) es) (apart : AreNamedApart es) (adds : AddsNames old new es) (telling_s : IsTelling s) (telling : IsTelling t) where
+    (o' : Option ClearingState) (c : Cleaning) (N : NamesStand s m kept present told dead log old o' c) (none : c ≡ Nothing) (each : AllByRecursion (LacksName kept) es) (apart : AreNamedApart es) (adds : AddsNames old new es) (telling_s : IsTelling s) (telling : IsTelling t) where
   lacking : (i : ℕ) → is_some (tail_of log.chunks i) ≡ true → Lacks (entries_in s log i) es
   lacking = new_lacks s log old es N.counted.counts (fresh s t log log' o es kept old new stands may batch appended outside N.counted.counts N.knows.stands each apart adds telling_s telling)
 
-  pub names_wrote : NamesStand t m (kept ++ es) present told dead log' new
+  pub names_wrote : NamesStand t m (kept ++ es) present told dead log' new o' c
   names_wrote = record {
     counted = record {
       counts = counted s t log log' o es kept old new stands may batch appended outside N.counted.counts N.knows.stands each apart adds telling_s telling;
@@ -91,12 +96,13 @@ module _ (m : ℕ) (present : ℕ → ℕ → Option ℕ) (told dead : ℕ → �
           closed = λ same. still_closed log o h.chunk ne was.closed (sym (ap (λ (l : LogState). l.opened) appended.log_is) ∙ same);
         };
     knows = knows_added m kept es present told dead old new adds N.knows;
+    cleaned = subst (λ (d : Cleaning). IsCleanedBy t log' new o' d) (sym none) tt;
   }
 
 -- the same by a worker's ties
 module _ (s t : State) (p : Place) (m : ℕ) (v : View) (w : Worker) (a : Sets) (log' : LogState) (f : Bool) (o : Option ℕ) (es : List Entry) (H : Holds p m v w) (S : Stands s p m v w) (runs : w.stopped ≡ false) (takes : TakesFor f w.allocator a o)
     (chunk : During s t (KeepsOutside (cell_now s) (open_first (opened_for w.log o)) (open_first (opened_for w.log o) + chunk_words w.log.layout)))
-    (wrote : AppendedBatch s t (opened_for w.log o) log' (padded (flat_map words_of es))) (opened : o ≡ None → is_some w.log.opened ≡ true) (st : StandingState) (batch : IsBatch es) (flying : v.flying ≡ es) (each : AllByRecursion (LacksName v.kept) es) (apart : AreNamedApart es) where
+    (wrote : AppendedBatch s t (opened_for w.log o) log' (padded (flat_map words_of es))) (opened : o ≡ None → is_some w.log.opened ≡ true) (st : StandingState) (batch : IsBatch es) (flying : v.flying ≡ es) (each : AllByRecursion (LacksName v.kept) es) (apart : AreNamedApart es) (clean : under_way w ≡ Nothing) where
   may_open : IsTelling s → MayOpen w.log o
   may_open telling = by o takes opened where
     by : (o : Option ℕ) → TakesFor f w.allocator a o → (o ≡ None → is_some w.log.opened ≡ true) → MayOpen w.log o
@@ -105,8 +111,8 @@ module _ (s t : State) (p : Place) (m : ℕ) (v : View) (w : Worker) (a : Sets) 
         let free = taken_free f w.allocator a j t in
         (subst (λ (l : Geometry). j < l.chunks) (H.allocator_layout ∙ sym H.log_layout) (H.sets.free_in j free).0, (S.free runs j free telling).0)
 
-  pub batch_stood : (w.winds_down ≡ false → AddsNames w.standing st es) → w.winds_down ≡ false → IsTelling t → NamesStand t m (v.kept ++ v.flying) v.present v.told v.dead log' st
+  pub batch_stood : (w.winds_down ≡ false → AddsNames w.standing st es) → w.winds_down ≡ false → IsTelling t → NamesStand t m (v.kept ++ v.flying) v.present v.told v.dead log' st w.clearing w.cleaning
   batch_stood adds on telling =
       let before = told_at_entry s t (KeepsOutside (cell_now s) (open_first (opened_for w.log o)) (open_first (opened_for w.log o) + chunk_words w.log.layout)) chunk telling in
-      subst (λ (xs : List Entry). NamesStand t m (v.kept ++ xs) v.present v.told v.dead log' st) (sym flying)
-      (names_wrote m v.present v.told v.dead s t w.log log' o es v.kept w.standing st (S.log runs) (may_open before) batch wrote chunk (S.names runs on before) each apart (adds on) before telling)
+      subst (λ (xs : List Entry). NamesStand t m (v.kept ++ xs) v.present v.told v.dead log' st w.clearing w.cleaning) (sym flying)
+      (names_wrote m v.present v.told v.dead s t w.log log' o es v.kept w.standing st (S.log runs) (may_open before) batch wrote chunk w.clearing w.cleaning (S.names runs on before) (sym (runs_way w runs on) ∙ clean) each apart (adds on) before telling)

@@ -33,6 +33,7 @@ use Rattle.core_worker.specs.Supplies.{IsSmall, supply_of, why_put, free_blocks}
 use Rattle.core_room.specs.RoomRule.{pledged, lacks_block, lacks_room, may_cut}
 use Rattle.core_room.specs.Lengths.{lines_needed, class_for}
 use Rattle.core_worker.specs.Plans.{last_version, PutsInBlock}
+use Rattle.core_worker.proofs.CleaningKept.{small_way}
 use Rattle.core_worker.specs.Beginning.{HoldsAside}
 
 each : (ps : List Place) → ((s : ℕ) → s < length ps → IsCounted (place_at ps s)) → AllByRecursion IsCounted ps
@@ -48,7 +49,7 @@ pub measured : (p : group.Place) (m : ℕ) (v : View) (w : Worker) → HoldsAsid
 measured p m v w H = record {
   eight = H.eight;
   counted = each w.places.items (λ s lt. let eight = H.eight in let low : s < 8 = omega (arith, lt, eight) in counted p m v s (place_at w.places.items s) (H.placed s low));
-  small = subst IsSmall (sym H.cleaning) tt;
+  small = small_way p m v (record w { queue = [] }) H.cleaning;
   layout = H.allocator_layout ∙ sym H.layout;
 }
 

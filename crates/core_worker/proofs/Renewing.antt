@@ -1,7 +1,7 @@
 -- The ties say nothing of the names in the log, and a worker that winds down is tied by less.
 use Rattle.std.proofs.Common.{◌≡◌, ℕ, Bool, true, false, refl, sym, ◌∙◌, ap, subst, length, arith}
 use Rattle.pm_region.specs.State.{State}
-use Rattle.log_standing.specs.NameCounts.{StandingState}
+use Rattle.log_standing.specs.NameCounts.{StandingState, count_in}
 use Rattle.group_laws.specs.Places.{Place}
 use Rattle.group_laws.specs.MemberViews.{View}
 use Rattle.core_worker.specs.declared.types.Leading.{Leading}
@@ -9,27 +9,29 @@ use Rattle.core_worker.specs.declared.types.Leading.TheVariants as leads
 use Rattle.core_log.specs.declared.types.Room.{Room}
 use Rattle.batch_leader.specs.Rounds.{words_in}
 use Rattle.batch_leader.specs.Leading.{Suits, HasSpace}
-use Rattle.core_worker.specs.declared.types.Cleaning.TheVariants.{Nothing}
-use Rattle.core_worker.specs.Supplies.{room_for, under_way, HasKeptRoom}
-use Rattle.core_worker.proofs.UnderWay.{still_nothing, room_same, room_winds}
+use Rattle.core_worker.specs.Status.{is_leading}
+use Rattle.core_worker.specs.Supplies.{room_for, HasKeptRoom}
+use Rattle.core_worker.proofs.UnderWay.{room_winds}
+use Rattle.core_worker.proofs.CleaningKept.{keeps_counts, keeps_winds, led_room}
 use Rattle.core_worker.specs.declared.worker.Worker.{Worker}
 use Rattle.core_worker.specs.Ties.{Holds, Stands, HasSpaceFor}
 use Rattle.core_worker.specs.StandingTies.{SameNames}
+use Rattle.core_worker.specs.KeepsCleaning.{KeepsCleaning}
 use Rattle.core_worker.specs.Turns.{Moment, Persists, LosesBatch, PersistsOrLoses}
 use Rattle.core_worker.proofs.MailKept.{mail_winds}
 use Rattle.core_worker.proofs.NamesKnown.{adds_same}
 use Rattle.core_worker.proofs.NamesStood.{names_same}
 
-space : (w : Worker) (st : StandingState) (winds : Bool) → room_for (record w { winds_down = winds }) ≡ room_for w → (l : Leading) → HasSpaceFor w l → HasSpaceFor (record w { standing = st; winds_down = winds }) l
-space w st winds room (leads.Nothing b) h = tt
-space w st winds room (leads.Collecting c) h = subst (λ (r : Room). Suits r c) (sym room) h
-space w st winds room (leads.Batch b) h = subst (λ (r : Room). HasSpace r b.fresh b.own_lines (words_in b.changes.taken.items)) (sym room) h
-space w st winds room (leads.Persisted x) h = tt
-space w st winds room (leads.Failed x) h = tt
-space w st winds room leads.Between h = tt
+space : (w : Worker) (st : StandingState) (winds : Bool) → (is_leading w.leading ≡ true → room_for (record w { winds_down = winds }) ≡ room_for w) → (l : Leading) → w.leading ≡ l → HasSpaceFor w l → HasSpaceFor (record w { standing = st; winds_down = winds }) l
+space w st winds room (leads.Nothing b) e h = tt
+space w st winds room (leads.Collecting c) e h = subst (λ (r : Room). Suits r c) (sym (room (ap is_leading e))) h
+space w st winds room (leads.Batch b) e h = subst (λ (r : Room). HasSpace r b.fresh b.own_lines (words_in b.changes.taken.items)) (sym (room (ap is_leading e))) h
+space w st winds room (leads.Persisted x) e h = tt
+space w st winds room (leads.Failed x) e h = tt
+space w st winds room leads.Between e h = tt
 
-pub holds_renewed : (p : Place) (m : ℕ) (v : View) (w : Worker) (st : StandingState) (winds : Bool) → (winds ≡ false → w.winds_down ≡ false) → Holds p m v w → Holds p m v (record w { standing = st; winds_down = winds })
-holds_renewed p m v w st winds works H = record {
+pub holds_renewed : (p : Place) (m : ℕ) (v : View) (w : Worker) (st : StandingState) (winds : Bool) → (winds ≡ false → w.winds_down ≡ false) → KeepsCleaning p m v (record w { standing = st; winds_down = winds }) → Holds p m v w → Holds p m v (record w { standing = st; winds_down = winds })
+holds_renewed p m v w st winds works cleaning H = record {
   place = H.place;
   member = H.member;
   core = H.core;
@@ -50,18 +52,16 @@ holds_renewed p m v w st winds works H = record {
   blocks = H.blocks;
   waits = λ on. H.waits (works on);
   leads = H.leads;
-  space = λ r. space w st winds (room_same w winds (way ∙ sym H.cleaning)) w.leading (H.space r);
+  space = λ r. space w st winds (led_room p m v w winds works H.cleaning) w.leading refl (H.space r);
   broken = H.broken;
   lost = H.lost;
-  cleaning = way;
+  cleaning = cleaning;
   remembers = H.remembers;
   chunks = H.chunks;
-} where
-  way : under_way (record w { winds_down = winds }) ≡ Nothing
-  way = still_nothing w.cleaning w.stopped w.winds_down w.stopped winds (λ r. r) works H.cleaning
+}
 
 pub stands_renewed : (s : State) (p : Place) (m : ℕ) (v : View) (w : Worker) (st : StandingState) (winds : Bool) → (winds ≡ false → w.winds_down ≡ false) → SameNames w.standing st → Stands s p m v w → Stands s p m v (record w { standing = st; winds_down = winds })
-stands_renewed s p m v w st winds works same S = record { lies = S.lies; licensed = S.licensed; landed = S.landed; log = S.log; free = S.free; due = S.due; cut = S.cut; names = λ r on telling. names_same s m v.kept v.present v.told v.dead w.log w.standing st same (S.names r (works on) telling) }
+stands_renewed s p m v w st winds works same S = record { lies = S.lies; licensed = S.licensed; landed = S.landed; log = S.log; free = S.free; due = S.due; cut = S.cut; names = λ r on telling. names_same s m v.kept v.present v.told v.dead w.log w.standing st w.clearing w.cleaning same (S.names r (works on) telling) }
 
 still_works : (y x : Worker) → (y.winds_down ≡ true → x.winds_down ≡ true) → x.winds_down ≡ false → y.winds_down ≡ false
 still_works y x up on = by y.winds_down refl where
@@ -69,8 +69,8 @@ still_works y x up on = by y.winds_down refl where
   by false e = e
   by true e = absurd (let both : true ≡ false = sym (up e) ∙ on in cc both)
 
-pub renewed_holds : (p : Place) (m : ℕ) (v : View) (y x : Worker) → x ≡ record y { standing = x.standing; winds_down = x.winds_down } → (y.winds_down ≡ true → x.winds_down ≡ true) → Holds p m v y → Holds p m v x
-renewed_holds p m v y x rest up H = subst (λ (z : Worker). Holds p m v z) (sym rest) (holds_renewed p m v y x.standing x.winds_down (still_works y x up) H)
+pub renewed_holds : (p : Place) (m : ℕ) (v : View) (y x : Worker) → x ≡ record y { standing = x.standing; winds_down = x.winds_down } → (y.winds_down ≡ true → x.winds_down ≡ true) → SameNames y.standing x.standing → Holds p m v y → Holds p m v x
+renewed_holds p m v y x rest up same H = subst (λ (z : Worker). Holds p m v z) (sym rest) (holds_renewed p m v y x.standing x.winds_down (still_works y x up) (keeps_winds p m v (record y { standing = x.standing }) x.winds_down (still_works y x up) (keeps_counts p m v y x.standing (λ k n. ap count_in (same.copies k n)) H.cleaning)) H)
 
 pub renewed_stands : (s : State) (p : Place) (m : ℕ) (v : View) (y x : Worker) → x ≡ record y { standing = x.standing; winds_down = x.winds_down } → (y.winds_down ≡ true → x.winds_down ≡ true) → SameNames y.standing x.standing → Stands s p m v y → Stands s p m v x
 renewed_stands s p m v y x rest up same S = subst (λ (z : Worker). Stands s p m v z) (sym rest) (stands_renewed s p m v y x.standing x.winds_down (still_works y x up) same S)

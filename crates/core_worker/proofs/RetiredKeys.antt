@@ -10,7 +10,7 @@ use Rattle.group_board.specs.Views.{after_receive, after_retire, TidiedIn}
 use Rattle.group_board.specs.Assurances.{IsHeard}
 use Rattle.group_laws.specs.State.{Notices}
 use Rattle.core_worker.specs.declared.types.Place as places
-use Rattle.core_worker.specs.GoneNames.{LosesIn, LosesNames, KnowsAll}
+use Rattle.core_worker.specs.GoneNames.{LosesIn, LosesNames, KnowsAll, LetsNamesGo}
 use Rattle.core_worker.specs.Hearing.{HearsAll}
 use Rattle.core_worker.specs.LogNames.{AreOwnOf}
 use Rattle.core_worker.proofs.GoneKeys.{knows_after}
@@ -19,9 +19,9 @@ was_some : (b : Bool) (o : Option ℕ) (h : ℕ) → cond b None o ≡ Some h �
 was_some true o h e = absurd (cc e)
 was_some false o h e = e
 
-pub retires_keys : (p : Place) (m : ℕ) (doomed own : List EntryName) (v u : View) (ps qs : List places.Place) (es mid ix : List (ℕ × slots.Place)) → KnowsAll p m v ps es → AreOwnOf p m doomed own
-    → TidiedIn p m (after_retire p m doomed v) u → LosesNames own ps qs es mid → HearsAll (core_of p m) mid ix → KnowsAll p m u qs ix
-retires_keys p m doomed own v u ps qs es mid ix Q A T X H =
+pub lets_retired : (p : Place) (m : ℕ) (doomed own : List EntryName) (v u : View) (ps qs : List places.Place) (es mid ix : List (ℕ × slots.Place)) → AreOwnOf p m doomed own
+    → TidiedIn p m (after_retire p m doomed v) u → LosesNames own ps qs es mid → HearsAll (core_of p m) mid ix → LetsNamesGo p m own v (after_retire p m doomed v) u ps qs es ix
+lets_retired p m doomed own v u ps qs es mid ix A T X H =
     let left = after_retire p m doomed v in
     let loses : LosesIn p m own v left = record {
       last = λ k. refl;
@@ -33,7 +33,12 @@ retires_keys p m doomed own v u ps qs es mid ix Q A T X H =
       was = λ k n h is. was_some (eqb (owner p k) m && has doomed k n) (v.present k n) h is;
       own = A.own;
     } in
-    knows_after p m own v left u ps qs es ix Q (record { loses = loses; tidied = T; mid = mid; names = X; heard = H })
+    record { loses = loses; tidied = T; mid = mid; names = X; heard = H }
+
+pub retires_keys : (p : Place) (m : ℕ) (doomed own : List EntryName) (v u : View) (ps qs : List places.Place) (es mid ix : List (ℕ × slots.Place)) → KnowsAll p m v ps es → AreOwnOf p m doomed own
+    → TidiedIn p m (after_retire p m doomed v) u → LosesNames own ps qs es mid → HearsAll (core_of p m) mid ix → KnowsAll p m u qs ix
+retires_keys p m doomed own v u ps qs es mid ix Q A T X H =
+    knows_after p m own v (after_retire p m doomed v) u ps qs es ix Q (lets_retired p m doomed own v u ps qs es mid ix A T X H)
 
 pub receives_keys : (p : Place) (m from : ℕ) (n : Notices) (v u : View) (ps qs : List places.Place) (es mid ix : List (ℕ × slots.Place)) → KnowsAll p m v ps es → IsHeard p m from v n
     → TidiedIn p m (after_receive p m n v) u → LosesNames n.gone ps qs es mid → HearsAll (core_of p m) mid ix → KnowsAll p m u qs ix

@@ -26,6 +26,7 @@ use Rattle.group_laws.specs.MemberViews.{View}
 use Rattle.group_board.specs.Views.{after_finish, left_in, IsSpentIn, TellsItselfIn, IsTidyIn}
 use Rattle.batch_leader.specs.declared.batch_buffer.BatchBuffer.{BatchBuffer}
 use Rattle.lazy_alloc.specs.Sets.{Sets, AreSets, block_is_used}
+use Rattle.lazy_alloc.proofs.Clients.{chunks_same, same_part}
 use Rattle.core_worker.specs.declared.types.Answer.{Answer}
 use Rattle.core_worker.specs.declared.types.Leading.TheVariants as leads
 use Rattle.core_worker.specs.declared.types.Place as places
@@ -41,6 +42,7 @@ use Rattle.core_worker.specs.Outbox.{mailing, waiting_dead}
 use Rattle.core_worker.specs.Hearing.{heard_at, last_change, HearsAll}
 use Rattle.core_worker.specs.StandingTies.{IsNamedIn, KnowsDead, HearsOwn}
 use Rattle.core_worker.specs.LogNames.{KnowsNames}
+use Rattle.core_worker.proofs.CleaningKept.{keeps_counts, keeps_few, keeps_seen}
 use Rattle.core_worker.proofs.NamesStood.{names_heard}
 use Rattle.core_worker.specs.Finishing.{PutsBackIf}
 use Rattle.core_worker.proofs.Posts.{busy_by}
@@ -519,6 +521,7 @@ module _ (p : Place) (m : ℕ) (v : View) (w : Worker) (H : HoldsAside p m v w) 
       core = refl;
       log = refl;
       cleaning = inl refl;
+      cleans = λ had. keeps_seen p m v view done (λ k n is. is) (λ k n is. (T.learns k n).1 (inl is)) (keeps_counts p m v (record w { allocator = al }) st tells.counts (keeps_few p m v w al (let C = put_chunks w.allocator al (block_of (known_at w.index key)) P in let same = chunks_same w.allocator al (same_part w.allocator al C) C.free in omega (arith, same)) had));
       runs = λ r. r;
       spelled = spelled_now;
       room = λ k ne. (let a = A.room k in let c = rooms k ne in omega (arith, a, c));
@@ -549,7 +552,7 @@ module _ (p : Place) (m : ℕ) (v : View) (w : Worker) (H : HoldsAside p m v w) 
       whole = λ is. is;
       lost = H.lost;
       found = λ is. is;
-      names = λ s r on telling had. names_heard s m (core_of p m) mid v.kept v.kept v.present mid_view.present v.told told v.dead dead w.log w.standing st tells (had r on telling) (knows_names r (had r on telling).knows);
+      names = λ s r on telling had. names_heard s m (core_of p m) mid v.kept v.kept v.present mid_view.present v.told told v.dead dead w.log w.standing st w.clearing w.cleaning tells (had r on telling) (knows_names r (had r on telling).knows);
     }
 
     pub settles_order : FreesInOrder p m key v view w done

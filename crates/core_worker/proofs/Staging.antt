@@ -25,6 +25,7 @@ use Rattle.core_worker.specs.OwnPlaces.{place_at, key_in, is_busy, Replaces}
 use Rattle.core_worker.specs.KeyTies.{IsPlaced, IsStagedBlock, IsBlockFor}
 use Rattle.core_worker.specs.Ties.{Stands, HasSpaceFor}
 use Rattle.core_worker.specs.Beginning.{HoldsAside}
+use Rattle.core_worker.proofs.CleaningKept.{keeps_few}
 use Rattle.core_worker.proofs.Posts.{busy_by, busy_has}
 use Rattle.core_worker.proofs.Gains.{Allots}
 
@@ -132,7 +133,7 @@ module _ (p : Place) (m : ℕ) (v : View) (w : Worker) (H : HoldsAside p m v w) 
       space = λ r. subst (HasSpaceFor (record staged { queue = [] })) (sym nothing) tt;
       broken = H.broken;
       lost = H.lost;
-      cleaning = H.cleaning;
+      cleaning = keeps_few p m v (record w { queue = [] }) a A.few H.cleaning;
       remembers = H.remembers;
       chunks = λ r j low. ⊎_elim (λ x. inl (A.chunk j x)) (λ e. inr e) (H.chunks r j low);
     }

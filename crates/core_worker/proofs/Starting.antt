@@ -50,7 +50,7 @@ use Rattle.core_worker.specs.OwnPlaces.{place_at, key_in, lines_in, own, is_busy
 use Rattle.core_worker.specs.Supplies.{rest, KeepsRule, HasKeptRoom, supply_of}
 use Rattle.core_worker.specs.KeyTies.{KnowsKey, IsPlaced, IsStagedBlock, AreBlocks}
 use Rattle.core_worker.specs.StandingTies.{KnowsDead}
-use Rattle.core_worker.specs.LogNames.{KnowsNames}
+use Rattle.core_worker.specs.LogNames.{KnowsNames, IsCleanedBy}
 use Rattle.core_worker.specs.OwnChunks.{AreChunks}
 use Rattle.core_worker.specs.Ties.{Holds, Stands, Leads, LeadsAt, HasSpaceFor, is_lost}
 use Rattle.core_worker.specs.Order.{InOrder, PointsAt, count_changes}
@@ -179,7 +179,7 @@ module _ (p : Place) (m : ℕ) (image : ℕ → ℕ) (start : CoreStart) (layout
     space = λ runs. subst (HasSpaceFor w) (sym N.leading.1) tt;
     broken = λ t. absurd (let two : false ≡ true = t in cc two);
     lost = λ t. absurd (let two : false ≡ true = sym (ap is_lost N.leading.1) ∙ t in cc two);
-    cleaning = none_way w N.cleaning;
+    cleaning = inl (none_way w N.cleaning);
     remembers = λ runs k own idle. start_keys.remembers p image at.place at.rules m at.member start.index at.found.index k own w.index start.core core_is N.index;
     chunks = λ runs. subst (λ (a : Sets). AreChunks p.layout.chunks a w.log.chunks) (sym N.allocator) (subst (λ (g : LogState). AreChunks p.layout.chunks start.allocator g.chunks) (sym N.log) (start_heads.chunks_now p m image start at));
   }
@@ -402,6 +402,7 @@ module _ (p : Place) (m : ℕ) (image : ℕ → ℕ) (start : CoreStart) (layout
         };
         read = λ h read. unread h read;
         knows = knows_names;
+        cleaned = subst (λ (d : Cleaning). IsCleanedBy s w.log w.standing w.clearing d) (sym N.cleaning) tt;
       };
       cut = λ runs j k class undue telling. in_log j (2 + 256 * k) (start_heads.cut_now p m image start at s here j k (ap (λ (a : Sets). chunk_class a j) (sym N.allocator) ∙ class) telling);
     }

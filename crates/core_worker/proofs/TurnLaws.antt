@@ -320,7 +320,7 @@ leads_seen seat v v' xs l b nothing is L =
 -- loads keep the ties
 pub looked_holds : (seat : SeatAt) (v v' : View) (w : Worker) (xs : List Seen) → v' ≡ record v { looked = xs } → LeadsNothing w → HoldsAt seat v w → HoldsAt seat v' w
 looked_holds seat v v' w xs is nothing H =
-    holds_by seat.place seat.number v v' w v.flying v.taken v.holds xs v.took w.leading is H (leads_seen seat v v' xs w.leading nothing.0 nothing.1 is H.leads) H.space H.lost
+    holds_by seat.place seat.number v v' w v.flying v.taken v.holds xs v.took w.leading is H (leads_seen seat v v' xs w.leading nothing.0 nothing.1 is H.leads) H.cleaning H.space H.lost
 
 pub looked_stands : (s : State) (seat : SeatAt) (v v' : View) (w : Worker) (xs : List Seen) → v' ≡ record v { looked = xs } → StandsAt s seat v w → StandsAt s seat v' w
 looked_stands s seat v v' w xs is S = stands_by s seat.place seat.number v v' w v.taken v.holds xs v.took w.leading is (λ e. e) S

@@ -1,5 +1,5 @@
 -- The leader of a stopped core gives the lock back: it leads nothing.
-use Rattle.std.proofs.Common.{◌≡◌, ℕ, true, false, [], ◌∷◌, ◌++◌, Option, None, refl, sym, ◌∙◌, ap, subst}
+use Rattle.std.proofs.Common.{◌≡◌, inl, ℕ, true, false, [], ◌∷◌, ◌++◌, Option, None, refl, sym, ◌∙◌, ap, subst}
 use Rattle.group_laws.specs.State.{Group}
 use Rattle.group_laws.specs.Runs as runs
 use Rattle.group_laws.specs.Places.{Place}
@@ -21,6 +21,7 @@ use Rattle.core_worker.specs.Order.{InOrder, MayLeadStopped}
 use Rattle.core_worker.specs.Ties.{HoldsAt, LeadsAt, is_lost}
 use Rattle.core_worker.specs.Turns.{InOrderAt, led_by}
 use Rattle.core_worker.specs.Stopping.{Unlocks}
+use Rattle.core_worker.proofs.CleaningKept.{stopped_none}
 use Rattle.core_worker.proofs.LeadTies.{leads_of}
 use Rattle.core_worker.proofs.Led.{holds_by, stands_by}
 use Rattle.core_worker.proofs.Made.{one_step, and_then, looks_of, steps_made}
@@ -62,7 +63,7 @@ unlocks seat before middle after v mid u w old new r l H O stopped led found see
     let leading : LeadsAt seat u l = subst (LeadsAt seat u) (sym nothing) (free, none.2.0, none.2.1) in
     let xs = looks_upto m 0 8 in
     record {
-      holds = holds_by p m v u w v.flying v.taken false [] v.took l sees H (leads_of seat u l leading) (λ runs. absurd (let both : true ≡ false = sym stopped ∙ runs in cc both)) (λ lost. absurd (let both : true ≡ false = sym lost ∙ ap is_lost nothing in cc both));
+      holds = holds_by p m v u w v.flying v.taken false [] v.took l sees H (leads_of seat u l leading) (inl (stopped_none w stopped)) (λ runs. absurd (let both : true ≡ false = sym stopped ∙ runs in cc both)) (λ lost. absurd (let both : true ≡ false = sym lost ∙ ap is_lost nothing in cc both));
       stands = λ s S. stands_by s p m v u w v.taken false [] v.took l sees (λ e. ap is_lost led) S;
       order = subst (λ (x : View). InOrder p m x (record w { leading = l })) (sym sees) (order_unlocked p m v w l O (subst MayLeadStopped (sym nothing) tt));
       mid = mid;

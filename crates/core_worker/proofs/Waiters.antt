@@ -11,9 +11,8 @@ use Rattle.group_laws.specs.MemberViews.{View}
 use Rattle.core_log.specs.declared.types.Room.{Room}
 use Rattle.batch_leader.specs.Rounds.{words_in}
 use Rattle.batch_leader.specs.Leading.{Suits, HasSpace}
-use Rattle.core_worker.specs.declared.types.Cleaning.TheVariants.{Nothing}
-use Rattle.core_worker.specs.Supplies.{room_for, under_way}
-use Rattle.core_worker.proofs.UnderWay.{still_nothing, room_same}
+use Rattle.core_worker.specs.Status.{is_leading}
+use Rattle.core_worker.proofs.CleaningKept.{keeps_winds, led_room}
 use Rattle.core_worker.specs.declared.worker.Worker.{Worker}
 use Rattle.core_worker.specs.Beginning.{HoldsAside, IsHeldAside}
 use Rattle.core_worker.specs.Ties.{Stands, HasSpaceFor, Tie, StandsBy}
@@ -55,26 +54,20 @@ aside_other p m v w q h b works H = record {
   blocks = H.blocks;
   waits = λ on k idle. refl;
   leads = H.leads;
-  space = λ r. by w.leading (H.space r);
+  space = λ r. by w.leading refl (H.space r);
   broken = H.broken;
   lost = H.lost;
-  cleaning = way;
+  cleaning = keeps_winds p m v w b works H.cleaning;
   remembers = H.remembers;
   chunks = H.chunks;
 } where
-  way : under_way (record w { winds_down = b }) ≡ Nothing
-  way = still_nothing w.cleaning w.stopped w.winds_down w.stopped b (λ r. r) works H.cleaning
-
-  room : room_for (record w { winds_down = b }) ≡ room_for w
-  room = room_same w b (way ∙ sym H.cleaning)
-
-  by : (l : Leading) → HasSpaceFor (record w { queue = [] }) l → HasSpaceFor (record w { queue = []; in_hand = h; winds_down = b }) l
-  by (leads.Nothing x) h = tt
-  by (leads.Collecting c) h = subst (λ (r : Room). Suits r c) (sym room) h
-  by (leads.Batch x) h = subst (λ (r : Room). HasSpace r x.fresh x.own_lines (words_in x.changes.taken.items)) (sym room) h
-  by (leads.Persisted x) h = tt
-  by (leads.Failed x) h = tt
-  by leads.Between h = tt
+  by : (l : Leading) → w.leading ≡ l → HasSpaceFor (record w { queue = [] }) l → HasSpaceFor (record w { queue = []; in_hand = h; winds_down = b }) l
+  by (leads.Nothing x) e h = tt
+  by (leads.Collecting c) e h = subst (λ (r : Room). Suits r c) (sym (led_room p m v w b works H.cleaning (ap is_leading e))) h
+  by (leads.Batch x) e h = subst (λ (r : Room). HasSpace r x.fresh x.own_lines (words_in x.changes.taken.items)) (sym (led_room p m v w b works H.cleaning (ap is_leading e))) h
+  by (leads.Persisted x) e h = tt
+  by (leads.Failed x) e h = tt
+  by leads.Between e h = tt
 
 pub stands_other : (s : State) (p : Place) (m : ℕ) (v : View) (w : Worker) (q : List Held) (h : Option Held) (b : Bool) → (b ≡ false → w.winds_down ≡ false) → Stands s p m v w → Stands s p m v (record w { queue = q; in_hand = h; winds_down = b })
 stands_other s p m v w q h b works S = record { lies = S.lies; licensed = S.licensed; landed = S.landed; log = S.log; free = S.free; due = S.due; cut = S.cut; names = λ r on. S.names r (works on) }

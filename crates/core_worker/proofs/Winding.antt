@@ -1,5 +1,5 @@
 -- What is kept where answers are given out, and where a worker winds down.
-use Rattle.std.proofs.Common.{ℕ, true, refl, ◌≡◌, ◌∙◌, sym, subst}
+use Rattle.std.proofs.Common.{ℕ, true, inl, refl, ◌≡◌, sym, ap, subst}
 use Rattle.std.specs.declared.collections.VecDeque.{VecDeque}
 use Rattle.std.specs.Global.{Global}
 use Rattle.pm_region.specs.State.{State}
@@ -12,7 +12,9 @@ use Rattle.core_log.specs.declared.types.Room.{Room}
 use Rattle.batch_leader.specs.Rounds.{words_in}
 use Rattle.batch_leader.specs.Leading.{Suits, HasSpace}
 use Rattle.core_worker.specs.Supplies.{room_for}
-use Rattle.core_worker.proofs.UnderWay.{wound_way, room_same}
+use Rattle.core_worker.specs.Status.{is_leading}
+use Rattle.core_worker.proofs.UnderWay.{wound_way}
+use Rattle.core_worker.proofs.CleaningKept.{led_room}
 use Rattle.core_worker.specs.declared.worker.Worker.{Worker}
 use Rattle.core_worker.specs.Ties.{Holds, Stands, HasSpaceFor}
 use Rattle.core_worker.proofs.MailKept.{mail_winds}
@@ -24,13 +26,13 @@ given_holds p m v w a H = of_aside p m v (with_answers w a) (answered_holds p m 
 pub given_stands : (s : State) (p : Place) (m : ℕ) (v : View) (w : Worker) (a : VecDeque Answer Global) → Stands s p m v w → Stands s p m v (with_answers w a)
 given_stands s p m v w a S = answered_stands s p m v w (with_answers w a) refl S
 
-space : (w : Worker) → room_for (record w { winds_down = true }) ≡ room_for w → (l : Leading) → HasSpaceFor w l → HasSpaceFor (record w { winds_down = true }) l
-space w room (leads.Nothing b) h = tt
-space w room (leads.Collecting c) h = subst (λ (r : Room). Suits r c) (sym room) h
-space w room (leads.Batch b) h = subst (λ (r : Room). HasSpace r b.fresh b.own_lines (words_in b.changes.taken.items)) (sym room) h
-space w room (leads.Persisted x) h = tt
-space w room (leads.Failed x) h = tt
-space w room leads.Between h = tt
+space : (w : Worker) → (is_leading w.leading ≡ true → room_for (record w { winds_down = true }) ≡ room_for w) → (l : Leading) → w.leading ≡ l → HasSpaceFor w l → HasSpaceFor (record w { winds_down = true }) l
+space w room (leads.Nothing b) e h = tt
+space w room (leads.Collecting c) e h = subst (λ (r : Room). Suits r c) (sym (room (ap is_leading e))) h
+space w room (leads.Batch b) e h = subst (λ (r : Room). HasSpace r b.fresh b.own_lines (words_in b.changes.taken.items)) (sym (room (ap is_leading e))) h
+space w room (leads.Persisted x) e h = tt
+space w room (leads.Failed x) e h = tt
+space w room leads.Between e h = tt
 
 pub wound_holds : (p : Place) (m : ℕ) (v : View) (w : Worker) → Holds p m v w → Holds p m v (record w { winds_down = true })
 wound_holds p m v w H = record {
@@ -54,10 +56,10 @@ wound_holds p m v w H = record {
   blocks = H.blocks;
   waits = λ on. absurd (cc on);
   leads = H.leads;
-  space = λ r. space w (room_same w true (wound_way w ∙ sym H.cleaning)) w.leading (H.space r);
+  space = λ r. space w (led_room p m v w true (λ on. absurd (cc on)) H.cleaning) w.leading refl (H.space r);
   broken = H.broken;
   lost = H.lost;
-  cleaning = wound_way w;
+  cleaning = inl (wound_way w);
   remembers = H.remembers;
   chunks = H.chunks;
 }

@@ -26,7 +26,8 @@ use Rattle.batch_leader.specs.Persisting.{HasRoom, opened_for}
 use Rattle.core_worker.specs.declared.types.Leading.{Leading}
 use Rattle.core_worker.specs.declared.types.Leading.TheVariants as leads
 use Rattle.core_worker.specs.declared.worker.Worker.{Worker}
-use Rattle.core_worker.specs.Supplies.{room_for}
+use Rattle.core_worker.specs.declared.types.Cleaning.TheVariants.{Nothing}
+use Rattle.core_worker.specs.Supplies.{room_for, under_way}
 use Rattle.store_image.specs.Facts.{In}
 use Rattle.core_worker.specs.declared.types.Place as places
 use Rattle.core_worker.specs.declared.types.Place.TheVariants.{Free, Staged, Posted}
@@ -116,8 +117,8 @@ placed_led p m v s kept flying taken holds looked took more (Posted n k lines) i
 pub holds_wrote : (p : Place) (m : ℕ) (v u : View) (w : Worker) (a : Sets) (log : LogState) (l : Leading) (stopped : Bool) (kept flying : List Entry) (taken : ℕ → ℕ → Option Entry) (holds : Bool) (looked : List Seen) (took : List Entry)
     → u ≡ led_view v kept flying taken holds looked took → ((x : Entry) → In x v.kept → In x kept) → Holds p m v w → Same w.allocator a → AreSets a → log.layout ≡ p.layout → log.part ≡ core_of p m
     → Leads p m u l → HasSpaceFor (record w { log = log; allocator = a; leading = l; stopped = stopped }) l → (u.broken ≡ true → stopped ≡ true) → (is_lost l ≡ true → stopped ≡ true) → (stopped ≡ false → w.stopped ≡ false) → (w.stopped ≡ true → stopped ≡ true) → (stopped ≡ false → AreChunks p.layout.chunks a log.chunks)
-    → Holds p m u (record w { log = log; allocator = a; leading = l; stopped = stopped })
-holds_wrote p m v u w a log l stopped kept flying taken holds looked took e more H same sets layout part leads space broken lost running stays chunks =
+    → under_way w ≡ Nothing → Holds p m u (record w { log = log; allocator = a; leading = l; stopped = stopped })
+holds_wrote p m v u w a log l stopped kept flying taken holds looked took e more H same sets layout part leads space broken lost running stays chunks none =
     subst (λ (x : View). Holds p m x (record w { log = log; allocator = a; leading = l; stopped = stopped })) (sym e) (record {
       place = H.place;
       member = H.member;
@@ -146,7 +147,7 @@ holds_wrote p m v u w a log l stopped kept flying taken holds looked took e more
       leads = subst (λ (x : View). Leads p m x l) e leads;
       space = λ runs. space;
       broken = λ b. broken (ap (λ (x : View). x.broken) e ∙ b);
-      cleaning = still_nothing w.cleaning w.stopped w.winds_down stopped w.winds_down running (λ on. on) H.cleaning;
+      cleaning = inl (still_nothing w.cleaning w.stopped w.winds_down stopped w.winds_down running (λ on. on) none);
       remembers = λ r. H.remembers (running r);
       chunks = chunks;
       lost = lost;
@@ -235,7 +236,7 @@ module _ (s t : State) (p : Place) (m : ℕ) (v : View) (w : Worker) (a : Sets) 
   not_taken j isnt i e here = isnt (subst (λ (k : ℕ). chunk_is_free w.allocator k ≡ true) (sym here) (taken_free f w.allocator a i (subst (λ (x : Option ℕ). TakesFor f w.allocator a x) e takes)))
 
   -- the ties to the region after the batch
-  pub stands_wrote : (u : View) (x : Persisted) (st : StandingState) → (w.winds_down ≡ false → IsTelling t → NamesStand t m (v.kept ++ v.flying) v.present v.told v.dead log' st) → u ≡ after_commit v → (IsTelling t → Licensed p m u (cell_now t)) → Stands t p m u (record w { log = log'; allocator = a; leading = leads.Persisted x; standing = st })
+  pub stands_wrote : (u : View) (x : Persisted) (st : StandingState) → (w.winds_down ≡ false → IsTelling t → NamesStand t m (v.kept ++ v.flying) v.present v.told v.dead log' st w.clearing w.cleaning) → u ≡ after_commit v → (IsTelling t → Licensed p m u (cell_now t)) → Stands t p m u (record w { log = log'; allocator = a; leading = leads.Persisted x; standing = st })
   stands_wrote u x st names e licensed = record {
     lies = (let L = S.lies in let fr = chunk.frame in record {
       low = subst (λ (y : Frame). y.first ≤ part_first a.layout a.part) (sym fr) (subst (λ (y : ℕ). s.frame.first ≤ y) (λ i. part_first (sym same.layout i) (sym same.part i)) L.low);
@@ -263,5 +264,5 @@ module _ (s t : State) (p : Place) (m : ℕ) (v : View) (w : Worker) (a : Sets) 
         let ne = other_than j was.0 (not_taken j (λ free. let none = (H.sets.free_in j free).1 in let both : Some c ≡ None = sym class_was ∙ none in cc both)) in
         let lt = low j (H.sets.cut_in j c class_was).0 in
         (tail_stays j lt ne telling was.0, kind_stays j lt ne telling (2 + 256 * c) was.1);
-    names = λ running on telling. subst (λ (y : View). NamesStand t m y.kept y.present y.told y.dead log' st) (sym e) (names on telling);
+    names = λ running on telling. subst (λ (y : View). NamesStand t m y.kept y.present y.told y.dead log' st w.clearing w.cleaning) (sym e) (names on telling);
   }

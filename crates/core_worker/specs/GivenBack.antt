@@ -1,5 +1,5 @@
 -- What a worker gives back, of which nothing is pending.
-use Rattle.std.specs.Prelude.{◌≡◌, ℕ, true, length, Some}
+use Rattle.std.specs.Prelude.{◌≡◌, ℕ, true, length, Some, None}
 use Rattle.pm_region.specs.State.{State, IsTelling}
 use Rattle.core_index.specs.Index.{known_at}
 use Rattle.core_index.specs.Records.{Awaits}
@@ -9,6 +9,7 @@ use Rattle.recover.specs.Starts.{IsSpelledIndex}
 use Rattle.group_laws.specs.declared.types.Block.{Block}
 use Rattle.group_laws.specs.Places.{Place, core_of, owner}
 use Rattle.group_laws.specs.MemberViews.{View}
+use Rattle.core_worker.specs.declared.types.Cleaning.TheVariants.{Nothing}
 use Rattle.core_worker.specs.declared.worker.Worker.{Worker}
 use Rattle.core_worker.specs.KeyTies.{KnowsKey, IsBlockFor}
 use Rattle.core_worker.specs.LogNames.{NamesStand}
@@ -43,4 +44,4 @@ pub record IsGivenBack (p : Place) (m : ℕ) (v : View) (start : CoreStart) : Ty
 -- Where the region tells, what stands in the log, and is told dead, is the view's.
 abbrev pub NamesGiven : State → ℕ → View → CoreStart → Type 0
 NamesGiven s m v start = IsTelling s
-    → NamesStand s m v.kept v.present v.told v.dead start.log start.standing
+    → NamesStand s m v.kept v.present v.told v.dead start.log start.standing None Nothing

@@ -5,6 +5,7 @@ pub mod Supplies
 pub mod KeyTies
 pub mod OwnChunks
 pub mod StandingTies
+pub mod KeepsCleaning
 pub mod Ties
 pub mod Order
 pub mod Refusals

@@ -1,20 +1,25 @@
 -- The names of a core's own log while it is cleaned: which of them vanish, and which are told dead.
-use Rattle.std.specs.Prelude.{◌≡◌, ◌≢◌, ℕ, ◌<◌, Bool, true, List, [], Option, Some, is_some, option_map, if◌then◌else◌}
+use Rattle.std.specs.Prelude.{◌≡◌, ◌≢◌, ℕ, ◌≤◌, ◌<◌, length, Bool, true, List, [], Option, Some, is_some, option_map, if◌then◌else◌}
 use Rattle.pm_region.specs.State.{State}
 use Rattle.log_entry.specs.declared.entry.Entry.{Entry}
 use Rattle.log_entry.specs.declared.entry.EntryName.{EntryName}
 use Rattle.core_log.specs.Log.{LogState, tail_of}
+use Rattle.core_log.specs.Walking.{entries_in}
 use Rattle.log_standing.specs.declared.types.Settled.{Settled}
 use Rattle.log_standing.specs.NameCounts.{StandingState, copies_at, count_of, is_told, killed}
-use Rattle.log_cleaner.specs.Clearing.{ClearingState, IsGathered}
+use Rattle.log_cleaner.specs.Clearing.{ClearingState, IsGathered, IsReady}
 use Rattle.log_cleaner.specs.Copying.{left_to_copy, IsUpToDate}
+use Rattle.log_cleaner.specs.CopyBatch.{Bounds}
 use Rattle.log_cleaner.specs.Dropping.{Drops}
+use Rattle.log_cleaner.specs.declared.types.Victim.{Victim}
 use Rattle.core_index.specs.Slots as slots
 use Rattle.group_laws.specs.State.{Notices}
 use Rattle.group_laws.specs.Updates.{has}
 use Rattle.group_laws.specs.Places as groups
 use Rattle.group_laws.specs.MemberViews.{View}
 use Rattle.core_worker.specs.declared.types.Place.{Place}
+use Rattle.core_worker.specs.declared.types.Cleaning.{Cleaning}
+use Rattle.core_worker.specs.declared.types.Cleaning.TheVariants.{Nothing, Copying, Doomed}
 use Rattle.core_worker.specs.StandingTies.{IsNamedIn, HearsOwn}
 use Rattle.core_worker.specs.Hearing.{HearsAll}
 use Rattle.core_worker.specs.GoneNames.{LosesNames}
@@ -38,12 +43,35 @@ pub record IsClosed (log : LogState) (j : ℕ) : Type 0 where
   pub has : is_some (tail_of log.chunks j) ≡ true
   pub closed : log.opened ≢ Some j
 
--- What stands in the log of member m by its region: the names are counted as the log has them, a cleaning has read at most a closed chunk of it, and the names are those of the certain entries.
+-- The chunk is one of the log, and no more of it is still to be copied than these numbers say; the clearing has room for the names of all its entries.
+pub record CopiesIn (s : State) (log : LogState) (st : StandingState) (victim : Victim)
+    (clearing : Option ClearingState) : Type 0 where
+  pub chunk : is_some (tail_of log.chunks victim.chunk) ≡ true
+  pub bounds : Bounds victim st (entries_in s log victim.chunk)
+  pub room : (c : ClearingState) → clearing ≡ Some c
+      → length (entries_in s log victim.chunk) ≤ c.room
+
+-- The chunk is one of the log, its names were noted, and nothing of it is left to be copied.
+pub record ClearsIn (s : State) (log : LogState) (st : StandingState) (c : ClearingState) : Type 0 where
+  pub chunk : is_some (tail_of log.chunks c.chunk) ≡ true
+  pub ready : IsReady s log st c
+
+-- what the region has of the chunk that is cleaned
+abbrev pub IsCleanedBy : State → LogState → StandingState → Option ClearingState → Cleaning
+    → Type 0
+IsCleanedBy s log st clearing Nothing = Unit {0}
+IsCleanedBy s log st clearing (Copying victim first) = CopiesIn s log st victim clearing
+IsCleanedBy s log st clearing (Doomed chunk) = (c : ClearingState) → clearing ≡ Some c
+    → ClearsIn s log st c
+
+-- What stands in the log of member m by its region: the names are counted as the log has them, a cleaning has read at most a closed chunk of it, the names are those of the certain entries, and so it is with the chunk that is cleaned.
 pub record NamesStand (s : State) (m : ℕ) (kept : List Entry) (present : ℕ → ℕ → Option ℕ)
-    (told dead : ℕ → ℕ → Bool) (log : LogState) (st : StandingState) : Type 0 where
+    (told dead : ℕ → ℕ → Bool) (log : LogState) (st : StandingState)
+    (clearing : Option ClearingState) (cleaning : Cleaning) : Type 0 where
   pub counted : IsUpToDate s log st
   pub read : (h : Settled) → st.settled ≡ Some h → IsClosed log h.chunk
   pub knows : KnowsNames m kept present told dead st
+  pub cleaned : IsCleanedBy s log st clearing cleaning
 
 -- these names were told dead
 pub record KillsNames (ns : List EntryName) (old new : StandingState) : Type 0 where

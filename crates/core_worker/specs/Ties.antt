@@ -24,8 +24,8 @@ use Rattle.group_laws.specs.declared.types.Pending.{Pending}
 use Rattle.core_worker.specs.declared.types.Place.TheVariants.{Posted}
 use Rattle.core_worker.specs.declared.worker.Worker.{Worker}
 use Rattle.core_worker.specs.OwnPlaces.{place_at, is_busy, AreApart}
-use Rattle.core_worker.specs.declared.types.Cleaning.TheVariants.{Nothing}
-use Rattle.core_worker.specs.Supplies.{room_for, under_way}
+use Rattle.core_worker.specs.Supplies.{room_for}
+use Rattle.core_worker.specs.KeepsCleaning.{KeepsCleaning}
 use Rattle.core_worker.specs.KeyTies.{KnowsKey, IsPlaced, AreBlocks}
 use Rattle.core_worker.specs.OwnChunks.{AreChunks}
 use Rattle.core_worker.specs.Outbox.{KeepsMail, as_told}
@@ -105,8 +105,8 @@ pub record Holds (p : Place) (m : ℕ) (v : View) (w : Worker) : Type 0 where
   -- a core that failed an entry, took one back as failed or could not write a batch has stopped
   pub broken : v.broken ≡ true → w.stopped ≡ true
   pub lost : is_lost w.leading ≡ true → w.stopped ≡ true
-  -- no cleaning is under way
-  pub cleaning : under_way w ≡ Nothing
+  -- no cleaning is under way, or one with which its turns go on
+  pub cleaning : KeepsCleaning p m v w
   -- until the core stops, no key has a record that is to be forgotten, but while a change of it is out
   pub remembers : w.stopped ≡ false → (k : ℕ) → owner p k ≡ m → v.pending k ≡ None
       → is_forgettable (known_at w.index k) ≡ false
@@ -129,7 +129,7 @@ pub record Stands (s : State) (p : Place) (m : ℕ) (v : View) (w : Worker) : Ty
       × Surely (cell_now s (first_of w.log j)) (2 + CLASS_FACTOR * c)
   -- until it stops or winds down, the names that stand are those of its log
   pub names : w.stopped ≡ false → w.winds_down ≡ false → IsTelling s
-      → NamesStand s m v.kept v.present v.told v.dead w.log w.standing
+      → NamesStand s m v.kept v.present v.told v.dead w.log w.standing w.clearing w.cleaning
 
 -- the same at a seat
 abbrev pub HoldsAt : SeatAt → View → Worker → Type 0

@@ -31,6 +31,7 @@ use Rattle.batch_leader.specs.declared.states.Persisted.{Persisted}
 use Rattle.batch_leader.specs.declared.states.FailedBatch.{FailedBatch}
 use Rattle.batch_leader.specs.declared.batch_buffer.BatchBuffer.{BatchBuffer}
 use Rattle.batch_leader.specs.declared.taken.Taken.{Taken}
+use Rattle.core_worker.specs.declared.types.Cleaning.TheVariants.{Nothing}
 use Rattle.core_worker.specs.declared.types.Leading.{Leading}
 use Rattle.core_worker.specs.declared.types.Leading.TheVariants as leads
 use Rattle.core_worker.specs.declared.types.Place.{Place as WorkerPlace}
@@ -40,7 +41,7 @@ use Rattle.core_worker.specs.OwnPlaces.{place_at, is_staged, is_posted, IsLowest
 use Rattle.core_worker.specs.Ties.{LeadsNothing}
 use Rattle.core_worker.specs.StandingTies.{AddsNames}
 use Rattle.core_worker.specs.Order.{InOrder}
-use Rattle.core_worker.specs.Supplies.{room_for}
+use Rattle.core_worker.specs.Supplies.{room_for, under_way}
 use Rattle.core_worker.specs.Finishing.{FinishesSlot}
 
 -- some steps of member m lead from the one told state to the other
@@ -289,21 +290,23 @@ pub record LosesBlock (m : ℕ) (a b : Moment) : Type 0 where
 abbrev pub PassesPost : Bool → Worker → Type 0
 PassesPost refused w = HasNone is_staged w.places.items ⊎ ((refused ≡ true) ⊎ (w.winds_down ≡ true))
 
--- Item 7: an own slot was found Posted, and the lock is tried and had.
+-- Item 7: no cleaning is under way, an own slot was found Posted, and the lock is tried and had.
 pub record Locks (refused : Bool) (m : ℕ) (a b : Moment) : Type 0 where
   pub mid : View
   pub before : PassesItems m a SLOTS mid
   pub post : PassesPost refused a.worker
+  pub clean : under_way a.worker ≡ Nothing
   pub posted : FindsPosted a.worker.places.items before.looked.found SLOTS
   pub view : b.view ≡ after_lock mid
   pub leads_now : (c : Collecting) × (b.worker.leading ≡ leads.Collecting c) × (c.at ≡ 0)
   pub same : SameButLeading a.worker b.worker
 
--- Item 8: nothing applied. No own slot was found Posted, or the try found a holder.
+-- Item 8: nothing applied. No cleaning is under way, and no own slot was found Posted, or the try found a holder.
 pub record Idles (refused : Bool) (m : ℕ) (a b : Moment) : Type 0 where
   pub mid : View
   pub before : PassesItems m a SLOTS mid
   pub post : PassesPost refused a.worker
+  pub clean : under_way a.worker ≡ Nothing
   pub lock : ((FindsPosted a.worker.places.items before.looked.found SLOTS → ⊥) × (b.view ≡ mid))
       ⊎ (FindsPosted a.worker.places.items before.looked.found SLOTS
       × ((h : ℕ) × (h ≢ m) × (b.view ≡ after_find (Holder h) mid)))

@@ -1,7 +1,7 @@
 // What is left to do of cleaning falls with each of its turns.
 ghost use Rattle.std.specs.Prelude.{◌≡◌, ℕ, ◌+◌, ◌*◌, ◌≤◌, ◌<◌, Bool, true, false, List, length};
 ghost use Rattle.log_standing.specs.NameCounts.{StandingState};
-ghost use Rattle.core_worker.specs.declared.types.Victim.{Victim};
+ghost use Rattle.log_cleaner.specs.declared.types.Victim.{Victim};
 ghost use Rattle.core_index.specs.Index.{all_untold};
 ghost use Rattle.core_index.specs.Slots as slots;
 ghost use Rattle.crash_core.specs.declared.names.Notices.{Notices as ToSend};

@@ -21,7 +21,8 @@ ghost use Rattle.core_worker.specs.Turns.{TriesLock, GoesRound, Marks, Fails, pe
 ghost use Rattle.lazy_alloc.specs.Sets.{AreSets};
 ghost use Rattle.licence.specs.Licence.{Licensed, part_at, part_end};
 ghost use Rattle.batch_leader.specs.declared.states.Batch.{Batch};
-ghost use Rattle.core_worker.specs.Supplies.{room_for, HasKeptRoom};
+ghost use Rattle.core_worker.specs.declared.types.Cleaning.TheVariants.{Nothing};
+ghost use Rattle.core_worker.specs.Supplies.{room_for, under_way, HasKeptRoom};
 ghost use Rattle.core_worker.specs.StandingTies.{most_names};
 ghost use Rattle.core_worker.specs.Left.{Lowers, StartsFirst};
 
@@ -121,6 +122,7 @@ impl Worker {
     pub(crate) fn try_lead<B: Board>(&mut self, board: &mut B) -> bool
         requires holds { HoldsAt (B.seat board.old) (B.view board.old) self.old }
         requires nothing { LeadsNothing self.old }
+        requires clean { under_way self.old ≡ Nothing }
         ensures seat { B.seat board.new ≡ B.seat board.old }
         ensures holds { HoldsAt (B.seat board.old) (B.view board.new) self.new }
         ensures stands { KeepsStanding (B.seat board.old) (B.view board.old)

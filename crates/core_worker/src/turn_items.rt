@@ -8,7 +8,8 @@ ghost use Rattle.batch_leader.specs.declared.states.Collecting.{Collecting};
 ghost use Rattle.core_worker.specs.declared.types.Leading.TheVariants as leads;
 ghost use Rattle.core_worker.specs.OwnPlaces.{place_at, is_staged, IsLowest};
 ghost use Rattle.core_worker.specs.Refusals.{IsMeasured};
-ghost use Rattle.core_worker.specs.Supplies.{room_for, HasKeptRoom};
+ghost use Rattle.core_worker.specs.declared.types.Cleaning.TheVariants.{Nothing};
+ghost use Rattle.core_worker.specs.Supplies.{room_for, under_way, HasKeptRoom};
 ghost use Rattle.batch_leader.specs.TurnSteps.{TurnSteps, trail_with};
 ghost use Rattle.batch_leader.specs.Persisting.{StaysLicensed, WritesPart};
 ghost use Rattle.core_worker.specs.Posting.{HasNoBlock, PostsOrStops};
@@ -121,6 +122,7 @@ impl Worker {
         requires holds { HoldsAt (B.seat board.old) (B.view board.old) self.old }
         requires order { InOrderAt (B.seat board.old) (B.view board.old) self.old }
         requires nothing { LeadsNothing self.old }
+        requires clean { under_way self.old ≡ Nothing }
         ensures seat { B.seat board.new ≡ B.seat board.old }
         ensures keeps { (s : State) → StandsAt s (B.seat board.old) (B.view board.old) self.old
             → KeepsTurn (B.seat board.old) s s (B.whole board.old) (B.whole board.new)

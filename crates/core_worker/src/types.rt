@@ -2,6 +2,7 @@
 use batch_leader::{Batch, BatchBuffer, Collecting, FailedBatch, Persisted};
 use core_room::Shortage;
 use fs_model::{Key, Reply, Request, Value, Version};
+pub use log_cleaner::Victim;
 use log_entry::Entry;
 
 /// One of the eight places, which are numbered as the core's slots.
@@ -40,17 +41,6 @@ pub enum Leading {
     Failed(FailedBatch),
     /// Between two of these, inside a call.
     Between,
-}
-
-/// A chunk that is cleaned: how many entries, and how many words of them, are still to be copied.
-#[derive(Clone, Copy, Debug, PartialEq, Eq)]
-pub struct Victim {
-    /// By its number in the part.
-    pub chunk: u32,
-    /// Perhaps more than there are, never fewer.
-    pub entries: u64,
-    /// Perhaps more than there are, never fewer.
-    pub words: u64,
 }
 
 /// How far a cleaning is.

@@ -9,6 +9,7 @@ use Rattle.core_index.specs.Index.{room_at, LessRoom}
 use Rattle.group_laws.specs.Places.{owner}
 use Rattle.core_worker.specs.Plans.{IsPlanOf, may_stage}
 use Rattle.core_worker.specs.Beginning.{answer_with}
+use Rattle.core_worker.proofs.RoomKept.{answered_room}
 use Rattle.core_worker.proofs.Beginnings.{begins_refused, answered, answered_aside, answered_standing, answered_uses, staged_busy, staged_keeps, staged_uses}
 use Rattle.core_worker.proofs.Finding.{live_is, is_live}
 use Rattle.core_worker.proofs.LeftWorkers.{answered_way, staged_way}
@@ -200,3 +201,6 @@ pub returns-in-Absent-clause-most : goal.returns-in-Absent-clause-most
 returns-in-Absent-clause-most g c =
     let way = answered_way c.args.self.now c.answer_at_once-in-Absent.new.self _ c.answer_at_once-in-Absent.ensures.rest c.answer_at_once-in-Absent.ensures.less in
     omega (arith, way)
+
+pub returns-in-Err-clause-rule : goal.returns-in-Err-clause-rule
+returns-in-Err-clause-rule g c h = answered_room c.args.self.now c.answer_at_once.new.self c.answer_at_once.ensures.rest h

@@ -7,6 +7,8 @@ use Rattle.batch_leader.specs.Leading.{Suits, Went, IsReleased, SawPassed}
 use Rattle.core_worker.specs.declared.types.Leading.TheVariants as leads
 use Rattle.group_board.specs.Seats.{SeatAt}
 use Rattle.core_worker.specs.Ties.{LeadsAt, is_lost, HasSpaceFor}
+use Rattle.core_worker.specs.Status.{is_leading}
+use Rattle.core_worker.proofs.CleaningKept.{leads_none}
 use Rattle.core_worker.proofs.LeadTies.{leads_of}
 use Rattle.core_worker.proofs.Led.{holds_by, stands_by, stands_taking, runs_whole}
 use Rattle.core_worker.proofs.Rounds.{released_leads, released_space, released_not_lost}
@@ -28,7 +30,7 @@ returns-in-Took-clause-holds g c =
     let u = g.B.Board.view c.collect.new.board in
     let t = c.in-Took.ensures.went.0 in
     holds_by p m v u c.args.self.now (v.flying ++ t.change.change.entry ∷ []) (put2 v.taken t.change.member t.change.slot (Some t.change.change.entry)) v.holds [] (v.took ++ t.change.change.entry ∷ []) (leads.Collecting c.collect.new.self) t.view c.requires.holds
-    (leads_of (g.B.Board.seat c.args.board.now) u (leads.Collecting c.collect.new.self) c.in-Took.ensures.collects) (λ runs. subst (λ (r : Room). Suits r c.collect.new.self) c.requires.room c.in-Took.ensures.suits) (λ e. absurd (cc e))
+    (leads_of (g.B.Board.seat c.args.board.now) u (leads.Collecting c.collect.new.self) c.in-Took.ensures.collects) (inl (leads_none p m v c.args.self.now c.requires.holds.cleaning (ap is_leading (sym c.in-Collecting.ensures.value)))) (λ runs. subst (λ (r : Room). Suits r c.collect.new.self) c.requires.room c.in-Took.ensures.suits) (λ e. absurd (cc e))
 
 pub returns-in-Took-clause-stands : goal.returns-in-Took-clause-stands
 returns-in-Took-clause-stands g c s S =
@@ -68,6 +70,7 @@ returns-in-RoundOver-clause-holds g c =
     let suits = subst (λ (r : Room). Suits r c.collect.new.self) c.requires.room c.collect.ensures.suits in
     holds_by p m v u c.args.self.now v.flying v.taken false [] v.took c.led_by.result view c.requires.holds
     (leads_of here u c.led_by.result (subst (LeadsAt here u) (sym led) (released_leads here u c.collect.new.self c.release.result released (ap (λ (x : View). x.holds) view))))
+    (inl (leads_none p m v c.args.self.now c.requires.holds.cleaning (ap is_leading (sym c.in-Collecting.ensures.value))))
     (λ runs. subst (HasSpaceFor c.args.self.now) (sym led) (released_space c.args.self.now here u c.collect.new.self c.release.result released suits))
     (λ e. absurd (let both : true ≡ false = sym e ∙ ap is_lost led ∙ released_not_lost c.release.result in cc both))
 

@@ -1,10 +1,12 @@
-use Rattle.std.proofs.Common.{◌≡◌, true, false, [], ◌∷◌, None, refl, sym, ◌∙◌, ap}
+use Rattle.std.proofs.Common.{◌≡◌, inl, true, false, [], ◌∷◌, None, refl, sym, ◌∙◌, ap}
 use Rattle.group_laws.specs.Updates.{put2}
 use Rattle.group_laws.specs.Runs as runs
 use Rattle.group_laws.specs.MemberViews.{View}
 use Rattle.batch_leader.specs.GivingBack.{marked}
 use Rattle.core_worker.specs.declared.types.Leading.TheVariants as leads
 use Rattle.core_worker.specs.Ties.{is_lost}
+use Rattle.core_worker.specs.Status.{is_leading}
+use Rattle.core_worker.proofs.CleaningKept.{leads_none}
 use Rattle.core_worker.proofs.LeadTies.{led_here, leads_of}
 use Rattle.core_worker.proofs.Led.{holds_by, stands_by}
 use Rattle.core_worker.proofs.Giving.{gives_some, leads_certain, certain_space, certain_not_lost}
@@ -25,6 +27,7 @@ returns-clause-holds g c =
     let left = c.still_certain.ensures in
     holds_by p m v u c.args.self.now v.flying (put2 v.taken gave.first.member gave.first.slot None) v.holds [] v.took c.still_certain.result gave.view c.requires.holds
     (leads_of seat u c.still_certain.result (leads_certain seat u c.mark_one-marked.new.self.left.taken.items c.still_certain.result left c.mark_one-marked.ensures.certain (ap (λ (x : View). x.holds) gave.view ∙ had.1) (λ b. ap (λ (x : View). x.flying) gave.view ∙ had.2 (sym (ap (λ (x : View). x.broken) gave.view) ∙ b))))
+    (inl (leads_none p m v c.args.self.now c.requires.holds.cleaning (ap is_leading (sym c.in-Persisted.ensures.value))))
     (λ runs. certain_space c.args.self.now c.mark_one-marked.new.self.left.taken.items c.still_certain.result left)
     (λ e. absurd (let both : true ≡ false = sym e ∙ certain_not_lost c.mark_one-marked.new.self.left.taken.items c.still_certain.result left in cc both))
 

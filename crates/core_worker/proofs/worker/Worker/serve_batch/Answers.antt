@@ -33,7 +33,7 @@ returns-in-Batch-clause-keeps g c =
     let n = c.renew_names.ensures in
     let same = ap (λ (z : Worker). z.stopped) n.rest in
     keeps_batch seat s t before after v u w x
-    c.requires.holds (renewed_holds seat.place seat.number u y x n.rest n.winds e.holds) (renewed_stands t seat.place seat.number u y x n.rest n.winds n.names e.stands) c.requires.order
+    c.requires.holds (renewed_holds seat.place seat.number u y x n.rest n.winds n.names e.holds) (renewed_stands t seat.place seat.number u y x n.rest n.winds n.names e.stands) c.requires.order
     (runs_still w.stopped (λ stopped. subst MayLeadStopped c.in-Batch.is (c.requires.order.stops stopped))) n.room
     e.moments e.outside (batch_renewed seat.number (record { worker = w; view = v }) y x u n.rest n.names n.count n.winds n.still e.persists)
     (subst (λ (b : Bool). MadeOrStops b before after seat.number v u) (sym same) e.made) (λ stopped. e.cause (sym same ∙ stopped))

@@ -2,6 +2,7 @@
 use Rattle.std.proofs.Common.{Bool, refl, sym, subst}
 use Rattle.std.specs.Prelude.{is_ok}
 use Rattle.core_worker.specs.Turning.Did.{drops}
+use Rattle.core_worker.proofs.CleaningKept.{goes_none}
 use Rattle.core_worker.proofs.TurnLaws.{posts_did}
 use Rattle.core_worker.proofs.ItemLaws.{keeps_drop}
 use Rattle.core_worker.proofs.LeftTurns.{posted_starts}
@@ -10,6 +11,11 @@ use Rattle.std.proofs.Common.{arith}
 use Rattle.batch_leader.proofs.Clients.{no_loads, turn_of_loads}
 use Rattle.batch_leader.specs.TurnSteps.{TurnSteps, trail_with}
 use Rattle.core_worker.proofs.worker.Worker.serve_staged.Goals as goal
+
+pub serve_lock-turn-requires-clause-clean : goal.serve_lock-turn-requires-clause-clean
+serve_lock-turn-requires-clause-clean g c =
+    let seat = g.B.Board.seat c.args.board.now in
+    goes_none seat.place seat.number (g.B.Board.view c.args.board.now) c.args.self.now c.requires.holds.cleaning
 
 pub returns-in-Pass-clause-keeps : goal.returns-in-Pass-clause-keeps
 returns-in-Pass-clause-keeps g c = c.serve_lock-turn.ensures.keeps (g.R.Region.state c.args.region.now) c.requires.stands

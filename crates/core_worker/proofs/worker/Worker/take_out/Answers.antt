@@ -2,7 +2,8 @@
 use Rattle.std.proofs.Common.{sym, ◌∙◌, ap}
 use Rattle.group_laws.specs.Places.{core_of}
 use Rattle.group_board.specs.Seats.{SeatAt}
-use Rattle.core_worker.specs.OwnPlaces.{key_in}
+use Rattle.core_worker.specs.declared.worker.Worker.{Worker}
+use Rattle.core_worker.specs.OwnPlaces.{place_at, is_free, key_in}
 use Rattle.core_worker.proofs.TakingBack.{stood, one_room, settled_room, taken_place, settle_room, settle_next, settle_used, failed_freed, failed_takes, done_freed, done_takes}
 use Rattle.core_worker.proofs.worker.Worker.take_out.Goals as goal
 
@@ -19,6 +20,14 @@ let_go-requires-clause-room g c =
     let m = (g.B.Board.seat c.args.board.now).number in
     let v = g.B.Board.view c.args.board.now in
     one_room p m v c.args.self.now c.args.slot c.finish-entry.result.entry.key c.requires.order (ap key_in (stood p m v c.args.self.now c.requires.holds c.args.slot c.finish-entry.result.entry c.finish-entry.ensures.pending).place)
+
+pub let_go-requires-in-Some-clause-taken : goal.let_go-requires-in-Some-clause-taken
+let_go-requires-in-Some-clause-taken g c =
+    let p = (g.B.Board.seat c.args.board.now).place in
+    let m = (g.B.Board.seat c.args.board.now).number in
+    let v = g.B.Board.view c.args.board.now in
+    ap (λ (y : Worker). is_free (place_at y.places.items c.args.slot)) c.settle.ensures.rest
+    ∙ taken_place p m v c.args.self.now c.args.slot c.finish-entry.result.entry (stood p m v c.args.self.now c.requires.holds c.args.slot c.finish-entry.result.entry c.finish-entry.ensures.pending)
 
 pub let_go-requires-in-Some-clause-room : goal.let_go-requires-in-Some-clause-room
 let_go-requires-in-Some-clause-room g c =

@@ -1,4 +1,4 @@
-use Rattle.std.proofs.Common.{true, [], ◌∷◌, ◌++◌, refl, sym, ◌∙◌, ap}
+use Rattle.std.proofs.Common.{inl, true, [], ◌∷◌, ◌++◌, refl, sym, ◌∙◌, ap}
 use Rattle.group_laws.specs.declared.types.Seen.TheVariants as loads
 use Rattle.group_laws.specs.MemberViews.{View}
 use Rattle.core_worker.specs.declared.types.Leading.TheVariants as leads
@@ -17,7 +17,7 @@ returns-in-Ok-clause-holds g c =
     let seat = g.B.Board.seat c.args.board.now in
     let had = led_here seat v c.args.self.now.leading (leads.Nothing c.in-Nothing.buffer) c.requires.holds.leads (sym c.in-Nothing.ensures.value) in
     holds_by p m v (g.B.Board.view c.lead.new.board) c.args.self.now v.flying v.taken true [] v.took (leads.Collecting c.in-Ok.collecting) c.in-Ok.ensures.view c.requires.holds (leads_of seat (g.B.Board.view c.lead.new.board) (leads.Collecting c.in-Ok.collecting) c.in-Ok.ensures.collects)
-    (λ runs some. absurd (some c.in-Ok.ensures.starts.0)) (λ e. absurd (cc e))
+    (inl c.requires.clean) (λ runs some. absurd (some c.in-Ok.ensures.starts.0)) (λ e. absurd (cc e))
 
 pub returns-in-Ok-clause-stands : goal.returns-in-Ok-clause-stands
 returns-in-Ok-clause-stands g c s S =
@@ -36,7 +36,7 @@ returns-in-Err-clause-holds g c =
     let view = c.in-Err.ensures.view in
     holds_by p m v (g.B.Board.view c.lead.new.board) c.args.self.now v.flying v.taken v.holds (v.looked ++ loads.Holder c.in-Err.busy.holder ∷ []) v.took (leads.Nothing c.in-Err.busy.buffer) view c.requires.holds
     (leads_of seat (g.B.Board.view c.lead.new.board) (leads.Nothing c.in-Err.busy.buffer) (ap (λ (x : View). x.holds) view ∙ had.0, (λ a t. ap (λ (x : View). x.taken a t) view ∙ had.1 a t), (λ b. ap (λ (x : View). x.flying) view ∙ had.2 (sym (ap (λ (x : View). x.broken) view) ∙ b))))
-    (λ runs. tt) (λ e. absurd (cc e))
+    (inl c.requires.clean) (λ runs. tt) (λ e. absurd (cc e))
 
 pub returns-in-Err-clause-stands : goal.returns-in-Err-clause-stands
 returns-in-Err-clause-stands g c s S =

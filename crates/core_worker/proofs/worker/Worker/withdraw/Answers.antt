@@ -1,11 +1,15 @@
 -- A change is withdrawn and put away, and what waits of its key is begun; or the lock is given back.
 use Rattle.core_worker.proofs.Retracting.{retracted_busy, retracted_room, retracted_used, retracted_freed, retracted_made, retracted_serves, withdraws_slot}
 use Rattle.core_worker.proofs.LeftBacks.{withdraws_lower, put_by_low, collecting_low}
-use Rattle.std.proofs.Common.{◌+◌, arith}
+use Rattle.std.proofs.Common.{◌+◌, sym, subst, arith}
+use Rattle.core_worker.specs.Supplies.{HasKeptRoom}
 use Rattle.core_worker.proofs.worker.Worker.withdraw.Goals as goal
 
 pub returns-in-None-clause-stands : goal.returns-in-None-clause-stands
 returns-in-None-clause-stands g c = c.in-None.ensures.retracts.stands (g.R.Region.state c.args.region.now) c.requires.stands
+
+pub returns-in-None-clause-rule : goal.returns-in-None-clause-rule
+returns-in-None-clause-rule g c h = subst HasKeptRoom (sym c.in-None.ensures.retracts.same) h
 
 pub put_by-requires-clause-busy : goal.put_by-requires-clause-busy
 put_by-requires-clause-busy g c =

@@ -1,4 +1,4 @@
-use Rattle.std.proofs.Common.{◌≡◌, ℕ, not, Bool, true, false, [], ◌∷◌, ◌++◌, Option, refl, sym, ◌∙◌, ap, subst, None}
+use Rattle.std.proofs.Common.{◌≡◌, inl, ℕ, not, Bool, true, false, [], ◌∷◌, ◌++◌, Option, refl, sym, ◌∙◌, ap, subst, None}
 use Rattle.std.specs.Prelude.{◌+◌, ◌<◌, List, is_some}
 use Rattle.std.specs.List.{AllByRecursion}
 use Rattle.store_image.specs.Facts.{In}
@@ -25,6 +25,8 @@ use Rattle.core_worker.specs.Ties.{HasSpaceFor}
 use Rattle.core_worker.specs.Turns.{TakesFor, MadeOrStops, PersistsOrLoses, unpledged_if}
 use Rattle.core_worker.specs.OwnPlaces.{place_at, own as own_lines_of}
 use Rattle.group_laws.specs.Runs as runs
+use Rattle.core_worker.specs.Status.{is_leading}
+use Rattle.core_worker.proofs.CleaningKept.{leads_none}
 use Rattle.core_worker.proofs.LeadTies.{led_here, leads_of}
 use Rattle.core_worker.proofs.Made.{one_step}
 use Rattle.core_worker.proofs.ChunksKept.{chunks_wrote}
@@ -68,8 +70,8 @@ returns-in-Ok-clause-holds g c =
     (takes_same b.fresh w.allocator c.chunk_for-fresh.new.allocator c.chunk_for-fresh.result takes) c.chunk_for-fresh.ensures.sets c.in-Ok.ensures.log.layout c.in-Ok.ensures.log.part
     (leads_of seat u (leads.Persisted c.in-Ok.done) (gives.1, ap (λ (x : View). x.holds) view ∙ had.1, (λ whole. ap (λ (x : View). x.flying) view), (λ none. b.some (sym gives.0 ∙ none))))
     tt (λ broken. absurd (let both : true ≡ false = sym broken ∙ ap (λ (x : View). x.broken) view ∙ had.0.whole in cc both)) (λ lost. absurd (cc lost)) (λ runs. runs) (λ stopped. stopped)
-    (λ runs. chunks_wrote p.layout.chunks b.fresh w.allocator c.chunk_for-fresh.new.allocator c.chunk_for-fresh.result w.log c.persist.new.log (padded (spelled ts)) takes c.in-Ok.ensures.wrote.log_is (H.chunks c.requires.runs)) in
-    holds_renewed p m u (record w { log = c.persist.new.log; allocator = c.chunk_for-fresh.new.allocator; leading = leads.Persisted c.in-Ok.done; places = c.unpledge.new.places }) c.note_names.new.standing w.winds_down (λ on. on)
+    (λ runs. chunks_wrote p.layout.chunks b.fresh w.allocator c.chunk_for-fresh.new.allocator c.chunk_for-fresh.result w.log c.persist.new.log (padded (spelled ts)) takes c.in-Ok.ensures.wrote.log_is (H.chunks c.requires.runs)) (leads_none p m v w H.cleaning (ap is_leading (sym c.in-Batch.ensures.value))) in
+    holds_renewed p m u (record w { log = c.persist.new.log; allocator = c.chunk_for-fresh.new.allocator; leading = leads.Persisted c.in-Ok.done; places = c.unpledge.new.places }) c.note_names.new.standing w.winds_down (λ on. on) (inl (leads_none p m v w H.cleaning (ap is_leading (sym c.in-Batch.ensures.value))))
     (holds_lowered p m u (record w { log = c.persist.new.log; allocator = c.chunk_for-fresh.new.allocator; leading = leads.Persisted c.in-Ok.done; stopped = w.stopped }) wrote c.unpledge.new.places c.unpledge.ensures.count (λ s. is_some (taken_in ts m s))
     (λ s lt. c.unpledge.ensures.each s lt ∙ (λ i. unpledged_if (is_some (taken_in (gives.0 i) (own i) s)) (place_at w.places.items s)))
     (certain_own p m v u w H ts had.0.unlogged (subst (λ (rs : List Taken). AllByRecursion (λ t. In t.change.entry u.kept) rs) gives.0 gives.1.kept) (ap (λ (x : View). x.pending) view)) (λ runs. tt))
@@ -95,7 +97,7 @@ returns-in-Ok-clause-stands g c =
     let t = g.R.Region.state c.persist.new.region in
     let chunk = subst (λ (l : Geometry). During s t (KeepsOutside (cell_now s) (open_first (opened_for w.log o)) (open_first (opened_for w.log o) + chunk_words l))) (opened_layout w.log o) c.persist.ensures.chunk in
     let opened : o ≡ None → is_some w.log.opened ≡ true = λ none. room_opens w.log (spelled ts) entries (subst (λ (x : Option ℕ). HasRoom s w.log (words_in ts) x) none room) in
-    let names = batch_stood s t p m v w a c.persist.new.log b.fresh o (entries_in ts) H c.requires.stands c.requires.runs takes chunk c.in-Ok.ensures.wrote opened c.note_names.new.standing entries.batch had.0.flying (lacks_taken m v ts had.0.unlogged) had.0.named (λ on. c.note_names.ensures.adds (ap not on)) in
+    let names = batch_stood s t p m v w a c.persist.new.log b.fresh o (entries_in ts) H c.requires.stands c.requires.runs takes chunk c.in-Ok.ensures.wrote opened c.note_names.new.standing entries.batch had.0.flying (lacks_taken m v ts had.0.unlogged) had.0.named (leads_none p m v w H.cleaning (ap is_leading (sym c.in-Batch.ensures.value))) (λ on. c.note_names.ensures.adds (ap not on)) in
     stands_lowered t p m u (record w { log = c.persist.new.log; allocator = a; leading = leads.Persisted c.in-Ok.done; standing = c.note_names.new.standing }) c.unpledge.new.places
     (stands_wrote s t p m v w a c.persist.new.log b.fresh o (spelled ts) H c.requires.stands c.requires.runs takes chunk c.in-Ok.ensures.wrote opened
     u c.in-Ok.done c.note_names.new.standing names c.in-Ok.ensures.view c.persist.ensures.exit)
@@ -114,11 +116,11 @@ returns-in-Err-clause-holds g c =
     let view = c.in-Err.ensures.view in
     let gives = c.in-Err.ensures.gives in
     let takes = subst (λ (f : Bool). TakesFor f w.allocator c.chunk_for-fresh.new.allocator c.chunk_for-fresh.result) c.needs_chunk.ensures c.chunk_for-fresh.ensures.takes in
-    holds_renewed p m u (record w { log = c.persist.new.log; allocator = c.chunk_for-fresh.new.allocator; leading = leads.Failed c.in-Err.lost; stopped = true }) c.note_names.new.standing w.winds_down (λ on. on)
+    holds_renewed p m u (record w { log = c.persist.new.log; allocator = c.chunk_for-fresh.new.allocator; leading = leads.Failed c.in-Err.lost; stopped = true }) c.note_names.new.standing w.winds_down (λ on. on) (inl refl)
     (holds_wrote p m v u w c.chunk_for-fresh.new.allocator c.persist.new.log (leads.Failed c.in-Err.lost) true v.kept v.flying v.taken v.holds v.looked v.took view (λ x i. i) H
     (takes_same b.fresh w.allocator c.chunk_for-fresh.new.allocator c.chunk_for-fresh.result takes) c.chunk_for-fresh.ensures.sets c.in-Err.ensures.log.layout c.in-Err.ensures.log.part
     (leads_of seat u (leads.Failed c.in-Err.lost) (gives.1, ap (λ (x : View). x.holds) view ∙ had.1, (λ none. b.some (sym gives.0 ∙ none))))
-    tt (λ broken. refl) (λ lost. refl) (λ runs. absurd (cc runs)) (λ stopped. refl) (λ runs. absurd (cc runs)))
+    tt (λ broken. refl) (λ lost. refl) (λ runs. absurd (cc runs)) (λ stopped. refl) (λ runs. absurd (cc runs)) (leads_none p m v w H.cleaning (ap is_leading (sym c.in-Batch.ensures.value))))
 
 pub returns-in-Ok-clause-made : goal.returns-in-Ok-clause-made
 returns-in-Ok-clause-made g c =
@@ -152,7 +154,7 @@ returns-in-Ok-clause-rule g c runs rule =
     let less = less_own m ts c.unpledge.new.places.items w.places.items (c.unpledge.ensures.count ∙ sym H.eight) had.0.out.apart (pledged_by p m v w H ts had.0.unlogged) (each_place ts m w.places.items c.unpledge.new.places.items H.eight c.unpledge.ensures.count each) in
     room_wrote p m v w (record w { log = c.persist.new.log; allocator = a; places = c.unpledge.new.places; leading = leads.Persisted c.in-Ok.done }) H b.fresh o b.own_lines (spelled ts) space takes
     (λ none. room_opens w.log (spelled ts) entries (subst (λ (x : Option ℕ). HasRoom s w.log (words_in ts) x) none room))
-    c.in-Ok.ensures.wrote.log_is (ap (λ (n : ℕ). own_lines_of c.unpledge.new.places.items + n) had.0.own ∙ less) refl rule
+    c.in-Ok.ensures.wrote.log_is (ap (λ (n : ℕ). own_lines_of c.unpledge.new.places.items + n) had.0.own ∙ less) refl (leads_none p m v w H.cleaning (ap is_leading (sym c.in-Batch.ensures.value))) rule
 
 pub returns-in-Ok-clause-persists : goal.returns-in-Ok-clause-persists
 returns-in-Ok-clause-persists g c =

@@ -1,0 +1,123 @@
+-- A cleaning under way stays so between two calls, or none is gone on with once the worker stops or winds down.
+use Rattle.std.proofs.Common.{◌≡◌, ◌⊎◌, inl, inr, ⊎_elim, ℕ, ◌≤◌, ◌||◌, Bool, true, false, cond, Option, refl, sym, ◌∙◌, ap, subst, arith}
+use Rattle.group_laws.specs.Places.{Place}
+use Rattle.group_laws.specs.MemberViews.{View}
+use Rattle.lazy_alloc.specs.Sets.{Sets, free_chunk_count}
+use Rattle.log_standing.specs.NameCounts.{StandingState, count_of}
+use Rattle.log_cleaner.specs.Clearing.{ClearingState}
+use Rattle.core_worker.specs.declared.types.Leading.{Leading}
+use Rattle.core_worker.specs.declared.types.Leading.TheVariants as leads
+use Rattle.core_worker.specs.declared.types.Cleaning.{Cleaning}
+use Rattle.core_worker.specs.declared.types.Cleaning.TheVariants.{Nothing, Copying, Doomed}
+use Rattle.core_worker.specs.declared.worker.Worker.{Worker}
+use Rattle.core_worker.specs.Supplies.{room_for, under_way, IsSmall}
+use Rattle.core_worker.specs.Status.{is_leading}
+use Rattle.core_worker.specs.KeepsCleaning.{GoesOn, HasPhase, Cleans, KeepsCleaning}
+use Rattle.core_worker.proofs.UnderWay.{still_nothing, wound_way, room_same}
+
+-- who has stopped goes on with nothing
+pub stopped_none : (w : Worker) → w.stopped ≡ true → under_way w ≡ Nothing
+stopped_none w stopped = ap (λ (b : Bool). cond (b || w.winds_down) Nothing w.cleaning) stopped
+
+-- who neither stops nor winds down goes on with what it has
+pub runs_way : (w : Worker) → w.stopped ≡ false → w.winds_down ≡ false → under_way w ≡ w.cleaning
+runs_way w runs works = (λ i. cond (runs i || works i) Nothing w.cleaning)
+
+-- who leads cleans nothing
+pub leads_none : (p : Place) (m : ℕ) (v : View) (w : Worker) → KeepsCleaning p m v w → is_leading w.leading ≡ true → under_way w ≡ Nothing
+leads_none p m v w K leading = ⊎_elim (λ none. none) (λ C. absurd (let both : true ≡ false = sym leading ∙ ap is_leading C.idle.1 in cc both)) K
+
+-- what is counted of it is small
+pub small_way : (p : Place) (m : ℕ) (v : View) (w : Worker) → KeepsCleaning p m v w → IsSmall (under_way w)
+small_way p m v w K = ⊎_elim
+    (λ none. subst IsSmall (sym none) tt)
+    (λ C. subst IsSmall (sym (runs_way w C.runs C.works)) (by w.cleaning C.goes))
+    K
+  where
+    by : (c : Cleaning) → GoesOn c → IsSmall c
+    by Nothing goes = absurd goes
+    by (Copying victim first) goes = absurd goes
+    by (Doomed chunk) goes = tt
+
+-- it may wind down
+pub keeps_winds : (p : Place) (m : ℕ) (v : View) (w : Worker) (winds : Bool) → (winds ≡ false → w.winds_down ≡ false) → KeepsCleaning p m v w → KeepsCleaning p m v (record w { winds_down = winds })
+keeps_winds p m v w true works K = inl (wound_way w)
+keeps_winds p m v w false works K = subst (λ (b : Bool). KeepsCleaning p m v (record w { winds_down = b })) (works refl) K
+
+-- no more chunks are free than before
+pub keeps_few : (p : Place) (m : ℕ) (v : View) (w : Worker) (a : Sets) → free_chunk_count a ≤ free_chunk_count w.allocator → KeepsCleaning p m v w → KeepsCleaning p m v (record w { allocator = a })
+keeps_few p m v w a few K = ⊎_elim
+    (λ none. inl none)
+    (λ C. inr (record {
+      goes = C.goes;
+      runs = C.runs;
+      works = C.works;
+      idle = C.idle;
+      now = C.now;
+      is = C.is;
+      chunk = C.chunk;
+      closed = C.closed;
+      scarce = (let were = C.scarce in omega (arith, were, few));
+      phase = C.phase;
+    }))
+    K
+
+-- what was doomed and dead is so still
+pub keeps_seen : (p : Place) (m : ℕ) (v u : View) (w : Worker) → ((k n : ℕ) → v.doomed k n ≡ true → u.doomed k n ≡ true) → ((k n : ℕ) → v.dead k n ≡ true → u.dead k n ≡ true) → KeepsCleaning p m v w → KeepsCleaning p m u w
+keeps_seen p m v u w doomed dead K = ⊎_elim
+    (λ none. inl none)
+    (λ C. inr (record {
+      goes = C.goes;
+      runs = C.runs;
+      works = C.works;
+      idle = C.idle;
+      now = C.now;
+      is = C.is;
+      chunk = C.chunk;
+      closed = C.closed;
+      scarce = C.scarce;
+      phase = by C.now w.cleaning C.phase;
+    }))
+    K
+  where
+    by : (x : ClearingState) (c : Cleaning) → HasPhase p m v.doomed v.dead w.log w.standing x w.own_gone.items c → HasPhase p m u.doomed u.dead w.log w.standing x w.own_gone.items c
+    by x Nothing h = h
+    by x (Copying victim first) h = h
+    by x (Doomed chunk) h = (h.0, (λ k n is. let y = h.1 k n is in record { marked = doomed k n y.marked; dies = dead k n y.dies; lone = y.lone; noted = y.noted }), h.2)
+
+-- names are counted as before
+pub keeps_counts : (p : Place) (m : ℕ) (v : View) (w : Worker) (st : StandingState) → ((k n : ℕ) → count_of st k n ≡ count_of w.standing k n) → KeepsCleaning p m v w → KeepsCleaning p m v (record w { standing = st })
+keeps_counts p m v w st counts K = ⊎_elim
+    (λ none. inl none)
+    (λ C. inr (record {
+      goes = C.goes;
+      runs = C.runs;
+      works = C.works;
+      idle = C.idle;
+      now = C.now;
+      is = C.is;
+      chunk = C.chunk;
+      closed = C.closed;
+      scarce = C.scarce;
+      phase = by C.now w.cleaning C.phase;
+    }))
+    K
+  where
+    by : (x : ClearingState) (c : Cleaning) → HasPhase p m v.doomed v.dead w.log w.standing x w.own_gone.items c → HasPhase p m v.doomed v.dead w.log st x w.own_gone.items c
+    by x Nothing h = h
+    by x (Copying victim first) h = h
+    by x (Doomed chunk) h = (h.0, (λ k n is. let y = h.1 k n is in record { marked = y.marked; dies = y.dies; lone = counts k n ∙ y.lone; noted = y.noted }), h.2)
+
+-- the room that a leader is told of stays where a worker that leads winds down
+pub led_room : (p : Place) (m : ℕ) (v : View) (w : Worker) (winds : Bool) → (winds ≡ false → w.winds_down ≡ false) → KeepsCleaning p m v w → is_leading w.leading ≡ true → room_for (record w { winds_down = winds }) ≡ room_for w
+led_room p m v w winds works K leading =
+    let none = leads_none p m v w K leading in
+    room_same w winds (still_nothing w.cleaning w.stopped w.winds_down w.stopped winds (λ r. r) works none ∙ sym none)
+
+-- no turn goes on with one yet
+pub goes_none : (p : Place) (m : ℕ) (v : View) (w : Worker) → KeepsCleaning p m v w → under_way w ≡ Nothing
+goes_none p m v w K = ⊎_elim (λ none. none) (λ C. absurd (by w.cleaning C.goes)) K where
+  by : (c : Cleaning) → GoesOn c → ⊥
+  by Nothing goes = goes
+  by (Copying victim first) goes = goes
+  by (Doomed chunk) goes = goes

@@ -1,0 +1,65 @@
+-- A cleaning under way, as a worker keeps it between two calls.
+use Rattle.std.specs.Prelude.{◌≡◌, ◌≢◌, ◌⊎◌, ℕ, ◌*◌, ◌≤◌, ◌<◌, Bool, true, false, List, Option, Some, is_some}
+use Rattle.chunk_map.specs.Layouts.{payload_lines}
+use Rattle.log_entry.specs.declared.entry.EntryName.{EntryName}
+use Rattle.core_log.specs.Log.{LogState, tail_of}
+use Rattle.lazy_alloc.specs.Sets.{Sets, free_chunk_count}
+use Rattle.log_standing.specs.NameCounts.{StandingState, count_of, times_in}
+use Rattle.log_cleaner.specs.Clearing.{ClearingState, IsFresh}
+use Rattle.group_laws.specs.Updates.{has}
+use Rattle.group_laws.specs.Places.{Place}
+use Rattle.group_laws.specs.MemberViews.{View}
+use Rattle.batch_leader.specs.declared.batch_buffer.BatchBuffer.{BatchBuffer}
+use Rattle.core_worker.specs.declared.types.Leading.{Leading}
+use Rattle.core_worker.specs.declared.types.Leading.TheVariants as leads
+use Rattle.core_worker.specs.declared.types.Cleaning.{Cleaning}
+use Rattle.core_worker.specs.declared.types.Cleaning.TheVariants.{Nothing, Copying, Doomed}
+use Rattle.core_worker.specs.declared.worker.Worker.{Worker}
+use Rattle.core_worker.specs.Supplies.{under_way, rest, IsSmall}
+use Rattle.core_worker.specs.LogNames.{AreOwnOf}
+
+-- Which cleanings a turn goes on with: none yet.
+abbrev pub GoesOn : Cleaning → Type 0
+GoesOn Nothing = ⊥
+GoesOn (Copying victim first) = ⊥
+GoesOn (Doomed chunk) = ⊥
+
+-- A name that may vanish: it is doomed and dead, stands in one chunk alone, and is among the names noted of that chunk.
+pub record MayVanish (doomed dead : ℕ → ℕ → Bool) (st : StandingState) (names : List EntryName)
+    (k n : ℕ) : Type 0 where
+  pub marked : doomed k n ≡ true
+  pub dies : dead k n ≡ true
+  pub lone : count_of st k n ≡ 1
+  pub noted : 0 < times_in names k n
+
+-- How far a cleaning is, by what its clearing has noted: nothing while it copies, which pledges no more than a third of a chunk; and then the names that may vanish, of which the own ones are in hand.
+abbrev pub HasPhase : Place → ℕ → (ℕ → ℕ → Bool) → (ℕ → ℕ → Bool) → LogState → StandingState
+    → ClearingState → List EntryName → Cleaning → Type 0
+HasPhase p m doomed dead log st c own Nothing = ⊥
+HasPhase p m doomed dead log st c own (Copying victim first) = (c.chunk ≡ victim.chunk) × IsFresh c
+    × IsSmall (Copying victim first)
+    × (3 * rest (Copying victim first) ≤ payload_lines log.layout)
+HasPhase p m doomed dead log st c own (Doomed chunk) = (c.chunk ≡ chunk)
+    × ((k n : ℕ) → has c.doomed k n ≡ true → MayVanish doomed dead st c.names k n)
+    × AreOwnOf p m c.doomed own
+
+-- A worker cleans a chunk of its log that isn't the open one, while it runs and leads nothing; at most one chunk is free meanwhile.
+pub record Cleans (p : Place) (m : ℕ) (doomed dead : ℕ → ℕ → Bool) (stopped winds : Bool)
+    (leading : Leading) (log : LogState) (a : Sets) (st : StandingState) (clearing : Option ClearingState)
+    (own : List EntryName) (cleaning : Cleaning) : Type 0 where
+  pub goes : GoesOn cleaning
+  pub runs : stopped ≡ false
+  pub works : winds ≡ false
+  pub idle : (buffer : BatchBuffer) × (leading ≡ leads.Nothing buffer)
+  pub now : ClearingState
+  pub is : clearing ≡ Some now
+  pub chunk : is_some (tail_of log.chunks now.chunk) ≡ true
+  pub closed : log.opened ≢ Some now.chunk
+  pub scarce : free_chunk_count a ≤ 1
+  pub phase : HasPhase p m doomed dead log st now own cleaning
+
+-- a worker of member m goes on with no cleaning, or with one that its view allows
+abbrev pub KeepsCleaning : Place → ℕ → View → Worker → Type 0
+KeepsCleaning p m v w = (under_way w ≡ Nothing)
+    ⊎ Cleans p m v.doomed v.dead w.stopped w.winds_down w.leading w.log w.allocator
+    w.standing w.clearing w.own_gone.items w.cleaning
