@@ -1,5 +1,5 @@
 -- A run on threads: from its supplies, the pieces of the split, what the cores gave back and the joined region to what it comes to.
-use Rattle.std.proofs.Common.{◌≡◌, ℕ, ◌+◌, ◌-◌, ◌*◌, ◌/◌, ◌<◌, Bool, true, false, List, ◌++◌, length, Option, Some, None, refl, sym, ◌∙◌, ap, subst, arith, nat_lt, slice_index_or}
+use Rattle.std.proofs.Common.{◌≡◌, ℕ, ◌+◌, ◌-◌, ◌*◌, ◌/◌, ◌<◌, Bool, true, false, List, [], ◌++◌, length, Option, Some, None, refl, sym, ◌∙◌, ap, subst, arith, nat_lt, slice_index_or}
 use Rattle.std.specs.List.{slice_get}
 use Rattle.std.proofs.lemmas.Bool.{ltb-true, lt-ltb}
 use Rattle.std.proofs.lemmas.Nat.{div-add-mod'}
@@ -162,8 +162,8 @@ module _ {P : Type 0} (state : P → State) (refused : Bool) (s : State) (word :
           let Q = piece_at i O.0 O.7 in
           let first = core_stands state O.0 O.1 O.2 O.3.items in
           let last = core_stands state O.4 O.5 O.6 W.left in
-          let frame : (state O.4).frame ≡ (state O.0).frame = chain_frame (seat_of O.1.own) refused first W.works.path last W.works.leads in
-          let told = chain_tells (seat_of O.1.own) refused first W.works.path last W.works.leads in
+          let frame : (state O.4).frame ≡ (state O.0).frame = chain_frame (seat_of O.1.own) refused first W.works.works.path last W.works.works.leads in
+          let told = chain_tells (seat_of O.1.own) refused first W.works.works.path last W.works.works.leads in
           let since : (state O.4).frame.since ≡ (state O.0).stamp = ap (λ (f : Frame). f.since) frame ∙ Q.since ∙ sym Q.stamp in
           let since' : (state O.0).frame.since ≡ (state O.0).stamp = Q.since ∙ sym Q.stamp in
           subst (λ (y : P). CameFrom t i (state y)) (sym same) (record {
@@ -200,7 +200,7 @@ module _ {P : Type 0} (state : P → State) (refused : Bool) (s : State) (word :
         -- core c's end, its worker, its piece, and its steps
         abbrev Full : ℕ → CoreEnd refused → Type 0
         Full c y = IsEnd o r refused t shown given c y × (slice_get back.workers.items c ≡ Some y.last.worker) × ((q : P) × (slice_get back.pieces.items c ≡ Some q) × (state q ≡ y.last.region))
-            × (steps_of (order (group_of l c)) (member_of l c) ≡ y.last.trail.steps)
+            × (steps_of (order (group_of l c)) (member_of l c) ≡ y.last.trail.steps) × (y.later ≡ [])
 
         ended : (c : ℕ) → c < l.cores → (y : CoreEnd refused) × Full c y
         ended c low =
@@ -214,7 +214,7 @@ module _ {P : Type 0} (state : P → State) (refused : Bool) (s : State) (word :
             let taken : TakesPiece t (state O.4) = subst (λ (y : P). TakesPiece t (state y)) (get_index back.pieces.items c O.4 O.4 O.11) (takes c O.4 (get_low back.pieces.items c O.4 O.11)) in
             let end = core_end state refused o r is_layout given tables x.crew pieces x.cuts.items S.manned table_count S.workers.each (seat_there s word r o F B x.crew.workers.items S.seated worker_count) (start_there s word r o F B) queues_are piece_at cuts_are
             c low O.0 O.1 O.2 O.3 O.7 O.8 O.9 O.10 t shown O.4 O.5 O.6 O.14 taken view loads in
-            (end.0, (end.1, O.13, (O.4, O.11, refl), made.0))
+            (end.0, (end.1, O.13, (O.4, O.11, refl), made.0, refl))
 
         chosen_by : (c : ℕ) (b : Bool) → nat_lt c l.cores ≡ b → Option (CoreEnd refused)
         chosen_by c true e = Some (ended c (ltb-true c l.cores e)).0
@@ -249,4 +249,4 @@ module _ {P : Type 0} (state : P → State) (refused : Bool) (s : State) (word :
               (region_superblock s word r o F B x.cuts.items cuts_are mid t D J) (λ c low. (full c low).2.0.piece.piece.faults)
               (next_joined s mid t x.cuts.items D J state back.pieces.items l.cores (λ c low. (full c low).0.last.region) N (A.pieces_count ∙ piece_count)
               (λ c low q at. (let f = (full c low).2.2 in ap state (one_of q f.0 (sym at ∙ f.1)) ∙ f.2)))
-              report end refusal moment at_cut order (λ c low. (full c low).2.3) order_shown
+              report end refusal moment at_cut order (λ c low. (full c low).2.3) order_shown (λ not_memory c low. (full c low).2.4)

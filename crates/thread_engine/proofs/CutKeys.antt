@@ -43,7 +43,8 @@ use Rattle.engine_laws.specs.Promises.{IsOrigin}
 use Rattle.engine_laws.specs.Stands.{StandsNow}
 use Rattle.engine_laws.proofs.Clients.{owner_low, group_low, of_member, opens, shows_groups, key_shows, changes_told, in_filter}
 use Rattle.thread_engine.specs.WorkLaws.{KeepsDoubts, WorksOff, hands_at}
-use Rattle.thread_engine.specs.CoreRuns.{HasView, view_after, CoreRun, AllRan, fixed_in, fixed_along, fixed_at}
+use Rattle.thread_engine.specs.WorkStates.{joined_in, given_in}
+use Rattle.thread_engine.specs.CoreRuns.{requests_to, HasView, view_after, CoreRun, AllRan, fixed_in, fixed_along, fixed_at}
 use Rattle.thread_engine.specs.Cuts.{Spot, kinds_in, Cut, finished_at, MayLeaveAt}
 use Rattle.thread_engine.proofs.SameViews.{like_key, key_shown, shown_licence}
 use Rattle.thread_engine.proofs.Spots.{AfterLaw, Found, found, same_front}
@@ -180,12 +181,13 @@ module _ (law : AfterLaw) (chain : ChainLaw) (keys_open : OpeningKeys) (doubts_o
 
     -- the chain up to the cut, from there on, and whole
     front : (w : WorksOff Y.seat Y.first G.state) × (w.fixed ≡ fixed_along Y.seat refused Y.first G.before G.state G.front) × KeepsDoubts Y.seat G.state.view
-    front = chain Y.seat refused Y.first G.state Y.at_work doubts (record { path = G.before; leads = G.front })
+    front = (let C = chain Y.seat refused Y.first G.state Y.at_work doubts (record { path = G.before; leads = G.front }) in (C.0, C.1, C.2))
 
     back : (w : WorksOff Y.seat G.state Y.last) × (w.fixed ≡ fixed_along Y.seat refused G.state G.behind Y.last G.back) × KeepsDoubts Y.seat Y.last.view
-    back = chain Y.seat refused G.state Y.last G.work front.2 (record { path = G.behind; leads = G.back })
+    back = (let C = chain Y.seat refused G.state Y.last G.work front.2 (record { path = G.behind; leads = G.back }) in (C.0, C.1, C.2))
 
-    whole : (w : WorksOff Y.seat Y.first Y.last) × (w.fixed ≡ fixed_in Y.seat refused Y.first Y.last Y.works) × KeepsDoubts Y.seat Y.last.view
+    whole : (w : WorksOff Y.seat Y.first Y.last) × (w.fixed ≡ fixed_in Y.seat refused Y.first Y.last Y.works) × KeepsDoubts Y.seat Y.last.view × (w.joined ≡ joined_in Y.seat refused Y.first Y.last Y.works)
+        × (w.given ≡ given_in Y.seat refused Y.first Y.last Y.works)
     whole = chain Y.seat refused Y.first Y.last Y.at_work doubts Y.works
 
     first_key : KeyIs start (key_view Y.first.view k) ((hands_at Y.first).place k) Y.first.worker.stopped []
@@ -218,15 +220,18 @@ module _ (law : AfterLaw) (chain : ChainLaw) (keys_open : OpeningKeys) (doubts_o
 
     -- the answered requests at the end
     rest : List (ℕ × Request)
-    rest = line_in (hands_at Y.last) k ++ requests_for k Y.last.queue
+    rest = line_in (hands_at Y.last) k ++ requests_for k (Y.last.queue ++ Y.later)
 
     requests : requests_of k e.given ≡ map asked (fixed_of k (fixed_at Y)) ++ rest
     unfolding rest
     requests =
-        sym (requests_are l c k e.given refl) ∙ ap (requests_for k) (sym Y.queue ∙ whole.0.split) ∙ filter-append (λ (z : ℕ × Request). key_of z.1 == k) whole.0.accepted Y.last.queue
-        ∙ ap (λ h. h ++ requests_for k Y.last.queue) (ap (λ h. h ++ requests_for k whole.0.accepted) (sym nothing_first) ∙ whole.0.order k own ∙ ap (λ h. map asked (fixed_of k h) ++ line_in (hands_at Y.last) k) whole.1)
-        ∙ append_assoc (map asked (fixed_of k (fixed_at Y))) (line_in (hands_at Y.last) k) (requests_for k Y.last.queue)
+        sym (requests_are l c k e.given refl) ∙ ap (requests_for k) all_split ∙ filter-append (λ (z : ℕ × Request). key_of z.1 == k) whole.0.accepted (Y.last.queue ++ Y.later)
+        ∙ ap (λ h. h ++ requests_for k (Y.last.queue ++ Y.later)) (ap (λ h. h ++ requests_for k whole.0.accepted) (sym nothing_first) ∙ whole.0.order k own ∙ ap (λ h. map asked (fixed_of k h) ++ line_in (hands_at Y.last) k) whole.1)
+        ∙ append_assoc (map asked (fixed_of k (fixed_at Y))) (line_in (hands_at Y.last) k) (requests_for k (Y.last.queue ++ Y.later))
       where
+        all_split : requests_to l c e.given ≡ whole.0.accepted ++ (Y.last.queue ++ Y.later)
+        all_split = sym Y.dealt ∙ ap (λ q. q ++ Y.later) (sym whole.3 ∙ ap (λ q. q ++ whole.0.joined) (sym Y.queue) ∙ whole.0.split) ∙ append_assoc whole.0.accepted Y.last.queue Y.later
+
         nothing_first : line_in (hands_at Y.first) k ≡ []
         nothing_first = (λ i. request_placed (Y.sits.place k own_found i) ++ Y.sits.waits k own_found i)
 

@@ -67,7 +67,7 @@ use Rattle.thread_engine.specs.RanApart.{stamped, KeepsAnswers, Rejoined, RanApa
 use Rattle.thread_engine.proofs.Places.{any_at, any_in}
 use Rattle.thread_engine.proofs.KeptAnswers.{Lacks, Apart, given_for, fixed_for, there_kept, from_all, blank_none, apart_by_keys, all_long}
 use Rattle.thread_engine.specs.Pieces.{IsPieceOf, HasPart}
-use Rattle.thread_engine.specs.WorkStates.{WorkState, IsAtWork, Works, HasEnded}
+use Rattle.thread_engine.specs.WorkStates.{WorkState, IsAtWork, Works, HasEnded, joined_in, given_in}
 use Rattle.thread_engine.specs.WorkLaws.{KeepsDoubts, WorksOff, HasRested, hands_at}
 use Rattle.thread_engine.specs.CoreRuns.{requests_to, fixed_in, HasView, LoadsLook, CoreRun, AllRan}
 use Rattle.thread_engine.specs.Cuts.{steps_of, IsShown, Cut, finished_at, MayLeaveAt}
@@ -85,6 +85,8 @@ pub record CoreEnd (refused : Bool) : Type 0 where
   pub first : WorkState
   pub last : WorkState
   pub works : Works seat refused first last
+  -- the requests that did not join
+  pub later : List (ℕ × Request)
 
 abbrev pub no_hands : Hands
 no_hands = record { place = λ k. None; waits = λ k. []; stopped = false; stock = record { chunks = 0; lines = 0; blocks = λ class. 0 } }
@@ -103,7 +105,7 @@ module _ {refused : Bool} where
 
   abbrev pub queue_in : Option (CoreEnd refused) → List (ℕ × Request)
   queue_in None = []
-  queue_in (Some x) = x.last.queue
+  queue_in (Some x) = x.last.queue ++ x.later
 
   abbrev pub fixed_in_end : Option (CoreEnd refused) → List Fixed
   fixed_in_end None = []
@@ -139,7 +141,9 @@ pub record IsEnd (o : Origin) (r : Recovered) (refused : Bool) (t : State) (grou
   pub new : IsNew start r.layout x.first.worker
   pub sits : Sits (opening o) c x.first.view (hands_at x.first)
   pub piece : IsPieceOf x.seat.place x.seat.number o.region x.first.region
-  pub queue : x.first.queue ≡ requests_to (layout_of o.found) c given
+  pub queue : x.first.queue ≡ []
+  pub dealt : joined_in x.seat refused x.first x.last x.works ++ x.later ≡ requests_to (layout_of o.found) c given
+  pub kept : given_in x.seat refused x.first x.last x.works ≡ []
   pub at_work : IsAtWork x.seat x.first
   pub idle : x.first.trail.steps ≡ []
   pub loads : LoadsLook x.first.view x.last.trail.steps
@@ -151,7 +155,7 @@ pub record IsEnd (o : Origin) (r : Recovered) (refused : Bool) (t : State) (grou
 -- the laws of a chain, of the opening
 abbrev pub ChainLaw : Type 0
 ChainLaw = (seat : SeatAt) (refused : Bool) (a b : WorkState) → IsAtWork seat a → KeepsDoubts seat a.view → (w : Works seat refused a b)
-    → (x : WorksOff seat a b) × (x.fixed ≡ fixed_in seat refused a b w) × KeepsDoubts seat b.view
+    → (x : WorksOff seat a b) × (x.fixed ≡ fixed_in seat refused a b w) × KeepsDoubts seat b.view × (x.joined ≡ joined_in seat refused a b w) × (x.given ≡ given_in seat refused a b w)
 
 abbrev pub OpeningKeys : Type 0
 OpeningKeys = (o : Origin) → IsOrigin o → (m k : ℕ) → places.owner (place_at (layout_of o.found) (key_group (layout_of o.found) k)) k ≡ m
@@ -237,11 +241,15 @@ module _ (chain : ChainLaw) (keys_open : OpeningKeys) (doubts_open : OpeningDoub
       view_is : x.first.view ≡ view_of (opened x.seat.place o.found) x.seat.number
       view_is = X.sits.view ∙ (λ i. view_of (opened (sym X.place i) o.found) (sym X.number i))
 
-    off : (w : WorksOff x.seat x.first x.last) × (w.fixed ≡ fixed_of_end x)
-    off = (let C = chain x.seat refused x.first x.last X.at_work doubts x.works in (C.0, C.1))
+    off : (w : WorksOff x.seat x.first x.last) × (w.fixed ≡ fixed_of_end x) × (w.joined ≡ joined_in x.seat refused x.first x.last x.works) × (w.given ≡ given_in x.seat refused x.first x.last x.works)
+    off = (let C = chain x.seat refused x.first x.last X.at_work doubts x.works in (C.0, C.1, C.3, C.4))
 
     abbrev W : WorksOff x.seat x.first x.last
     W = off.0
+
+    -- those that were accepted, those that wait, and those that did not join
+    all_split : requests_to l c given ≡ W.accepted ++ (x.last.queue ++ x.later)
+    all_split = sym X.dealt ∙ ap (λ q. q ++ x.later) (sym off.2 ∙ ap (λ q. q ++ W.joined) (sym X.queue) ∙ W.split) ∙ append_assoc W.accepted x.last.queue x.later
 
     own_key : (k : ℕ) → owner l k ≡ c → places.owner x.seat.place k ≡ x.seat.number
     own_key k own = (λ i. places.owner (X.place i) k) ∙ of_member l is_layout c k own ∙ sym X.number
@@ -264,7 +272,7 @@ module _ (chain : ChainLaw) (keys_open : OpeningKeys) (doubts_open : OpeningDoub
     fs = fixed_of k (fixed_of_end y)
 
     abbrev rest : List (ℕ × Request)
-    rest = line_in (hands_at y.last) k ++ requests_for k y.last.queue
+    rest = line_in (hands_at y.last) k ++ requests_for k (y.last.queue ++ y.later)
 
     nothing_first : line_in (hands_at y.first) k ≡ []
     nothing_first = (λ i. request_placed (Y.sits.place k refl i) ++ Y.sits.waits k refl i)
@@ -272,9 +280,9 @@ module _ (chain : ChainLaw) (keys_open : OpeningKeys) (doubts_open : OpeningDoub
     pub split : requests_of k given ≡ map asked fs ++ rest
     split =
         let V = W c low in
-        sym (requests_are l c k given refl) ∙ ap (requests_for k) (sym Y.queue ∙ V.split) ∙ filter-append (λ (z : ℕ × Request). key_of z.1 == k) V.accepted y.last.queue
-        ∙ ap (λ h. h ++ requests_for k y.last.queue) (ap (λ h. h ++ requests_for k V.accepted) (sym nothing_first) ∙ V.order k (own_key c low k refl) ∙ ap (λ h. map asked (fixed_of k h) ++ line_in (hands_at y.last) k) (off c low).1)
-        ∙ append_assoc (map asked fs) (line_in (hands_at y.last) k) (requests_for k y.last.queue)
+        sym (requests_are l c k given refl) ∙ ap (requests_for k) (all_split c low) ∙ filter-append (λ (z : ℕ × Request). key_of z.1 == k) V.accepted (y.last.queue ++ y.later)
+        ∙ ap (λ h. h ++ requests_for k (y.last.queue ++ y.later)) (ap (λ h. h ++ requests_for k V.accepted) (sym nothing_first) ∙ V.order k (own_key c low k refl) ∙ ap (λ h. map asked (fixed_of k h) ++ line_in (hands_at y.last) k) (off c low).1)
+        ∙ append_assoc (map asked fs) (line_in (hands_at y.last) k) (requests_for k (y.last.queue ++ y.later))
 
     rising : IsUp (map asked fs ++ rest)
     rising = subst IsUp split (up k 0 given)
@@ -385,6 +393,8 @@ module _ (chain : ChainLaw) (keys_open : OpeningKeys) (doubts_open : OpeningDoub
     last = y.last;
     works = y.works;
     ended = Y.ended;
+    later = y.later;
+    dealt = Y.dealt;
     loads = Y.loads;
     shown = Y.shown;
     places = λ k own. ap (λ (d : ℕ). (hands_in (ends d)).place k) own ∙ ap (λ d. (hands_in d).place k) (at c low);
@@ -520,12 +530,15 @@ module _ (chain : ChainLaw) (keys_open : OpeningKeys) (doubts_open : OpeningDoub
         clash true refl (sym (sym (X (g * l.group + h) low').shown.holds ∙ there) ∙ (rested (g * l.group + h) low').holds)
 
   -- With memory everything is answered and nothing is under way.
-  module _ (works : (c : ℕ) (low : c < l.cores) → (x c low).last.worker.winds_down ≡ false) where
+  module _ (works : (c : ℕ) (low : c < l.cores) → (x c low).last.worker.winds_down ≡ false) (all_dealt : (c : ℕ) (low : c < l.cores) → (x c low).later ≡ []) where
+    none_waits : (c : ℕ) (low : c < l.cores) → (x c low).last.queue ++ (x c low).later ≡ []
+    none_waits c low = (λ i. (rested c low).queue (works c low) i ++ all_dealt c low i)
+
     rest_none : (k : ℕ) → rest k ≡ []
     rest_none k =
         let R = rested (c k) (low k) in
         let on = works (c k) (low k) in
-        (λ i. (request_placed (R.places on k i) ++ R.waits on k i) ++ requests_for k (R.queue on i))
+        (λ i. (request_placed (R.places on k i) ++ R.waits on k i) ++ requests_for k (none_waits (c k) (low k) i))
 
     all_answered : AllAnswered e
     all_answered n lt = by (slice_get given n) refl where
@@ -543,7 +556,7 @@ module _ (chain : ChainLaw) (keys_open : OpeningKeys) (doubts_open : OpeningDoub
     drained = record {
       place = λ k. ap (λ (h : Hands). h.place k) (hands_are k) ∙ (rested (c k) (low k)).places (works (c k) (low k)) k;
       waits = λ k. ap (λ (h : Hands). h.waits k) (hands_are k) ∙ (rested (c k) (low k)).waits (works (c k) (low k)) k;
-      backlog = λ c low. ap queue_in (at c low) ∙ (rested c low).queue (works c low);
+      backlog = λ c low. ap queue_in (at c low) ∙ none_waits c low;
       slots = λ g m s low member. slot_empty g m s low member;
     }
 
@@ -584,7 +597,8 @@ module _ (chain : ChainLaw) (keys_open : OpeningKeys) (doubts_open : OpeningDoub
   gave c low =
       let A = (W c low).answers in
       let none : answers_of (x c low).first.worker ≡ [] = (X c low).new.answers.0 in
-      let same : A.more ≡ answers_of (x c low).last.worker = sym (A.added ∙ ap (λ outs. outs ++ A.more) none) in
+      let kept = ap (λ outs. outs ++ answers_of (x c low).last.worker) ((off c low).3 ∙ (X c low).kept) in
+      let same : A.more ≡ answers_of (x c low).last.worker = sym (A.added ∙ ap (λ outs. outs ++ A.more) none) ∙ kept in
       subst (λ outs. AreGiven (IsTelling (x c low).last.region) (fixed_of_end (x c low)) outs) same (subst (λ ys. AreGiven (IsTelling (x c low).last.region) ys A.more) (off c low).1 A.given)
 
   -- those of one core are apart
@@ -660,7 +674,13 @@ module _ (chain : ChainLaw) (keys_open : OpeningKeys) (doubts_open : OpeningDoub
 
     pub keeps : KeepsAnswers o r refused e core_run kept
     unfolding core_run
-    keeps = record { count = all_long workers t.stamp blanks ∙ places_are; all = keeps_all; only = keeps_only }
+    keeps = record {
+      count = all_long workers t.stamp blanks ∙ places_are;
+      all = λ c low a i. keeps_all c low a (subst (In a) (gave_is c low) i);
+      only = λ n y is. (let k = keeps_only n y is in (k.0, k.1, k.2, subst (In k.2) (sym (gave_is k.0 k.1)) k.3, k.4));
+    } where
+      gave_is : (c : ℕ) (low : c < l.cores) → given_in (x c low).seat refused (x c low).first (x c low).last (x c low).works ++ answers_of (x c low).last.worker ≡ answers_of (x c low).last.worker
+      gave_is c low = ap (λ outs. outs ++ answers_of (x c low).last.worker) (X c low).kept
 
     -- What the run comes to.
     module _ (s : State) (word : ℕ → ℕ) (lines : List Line) (given_are : given ≡ asked_in lines) (out : Outcome) (begins : BeginsAt s word o) (rejoined : Rejoined s t) (reached : (g : ℕ) → g < groups_in l → (steps : List (ℕ × Kind)) × Runs (opened (place_at l g) o.found) steps (group g))
@@ -668,7 +688,8 @@ module _ (chain : ChainLaw) (keys_open : OpeningKeys) (doubts_open : OpeningDoub
         (next : IsTelling s → ((c : ℕ) (low : c < l.cores) → TellsFrom s (x c low).last.region) → (latest : ℕ) → s.stamp ≤ latest → ((c : ℕ) (low : c < l.cores) → (x c low).last.region.stamp ≤ latest) → t.stamp ≤ counted latest)
         (report : IsReport kept (report_in out)) (end : out.end ≡ end_by (any_short workers) (any_stopped workers)) (refusal : RefusalLaw) (moment : MomentLaw) (at_cut : CutLaw) (order : ℕ → List (ℕ × TrailStep))
         (made : (c : ℕ) (low : c < l.cores) → steps_of (order (group_of l c)) (member_of l c) ≡ (x c low).last.trail.steps)
-        (order_shown : (g : ℕ) → g < groups_in l → (late early : List (ℕ × TrailStep)) → order g ≡ late ++ early → (w : Group) × IsShown (place_at l g) o.found early w) where
+        (order_shown : (g : ℕ) → g < groups_in l → (late early : List (ℕ × TrailStep)) → order g ≡ late ++ early → (w : Group) × IsShown (place_at l g) o.found early w)
+        (all_dealt : out.end ≢ closings.Memory → (c : ℕ) (low : c < l.cores) → (x c low).later ≡ []) where
       promised : Promised o e
       promised = moment o e (last_stands rejoined.since superblock) (refusal o r refused e is (all_ran reached)) (stop_cause first_faults)
 
@@ -717,7 +738,7 @@ module _ (chain : ChainLaw) (keys_open : OpeningKeys) (doubts_open : OpeningDoub
         report = report;
         reports = reports_by t o e kept (report_in out) promised (all_long workers t.stamp blanks ∙ places_are) shows refl report;
         promised = promised;
-        done = λ not_memory. is_done (works not_memory) promised;
+        done = λ not_memory. is_done (works not_memory) (all_dealt not_memory) promised;
         ceased = λ memory. ceased;
         fault = has_stopped;
         complete = goes_on;

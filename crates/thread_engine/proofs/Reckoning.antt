@@ -5,6 +5,8 @@ use Rattle.std.specs.List.{AllByRecursion}
 use Rattle.std.proofs.lemmas.Bool.{eq-eqb, ne_eqb}
 use Rattle.std.proofs.lemmas.List.{map-append}
 use Rattle.std.proofs.lemmas.List.Elements.{filter-append}
+use Rattle.std.specs.Global.{Global}
+use Rattle.std.specs.declared.collections.VecDeque.{VecDeque}
 use Rattle.fs_model.specs.declared.model.Request.{Request}
 use Rattle.fs_model.specs.declared.model.Reply.{Reply}
 use Rattle.fs_model.specs.declared.model.Reply.TheVariants.{Full}
@@ -32,8 +34,9 @@ use Rattle.engine_laws.specs.Origins.{Origin}
 use Rattle.engine_laws.specs.Spending.{lines_in, SpendsRoom}
 use Rattle.engine_laws.specs.Rooms.{out_lines, HasRoom}
 use Rattle.engine_laws.proofs.Clients.{raised_by_up, raised_append, causes_up, causes_append, lacks_less, at_least_same, of_member, of_core, all_in, all_append, filter_in, OwnLines, OwnMoves, fresh, own_room, own_posted, not_ample, not_scarce, core_spends, Changes, lawful_changes}
-use Rattle.thread_engine.specs.WorkStates.{WorkState, Accepts, Move, wound_down, Leads}
-use Rattle.thread_engine.specs.WorkStates.Move.{accepts, turns, winds_down}
+use Rattle.core_worker.specs.declared.types.Answer.{Answer as Answered}
+use Rattle.thread_engine.specs.WorkStates.{WorkState, Accepts, Move, wound_down, with_more, with_answers, Leads, joined_by, joined_along}
+use Rattle.thread_engine.specs.WorkStates.Move.{accepts, turns, winds_down, joins, hands_over}
 use Rattle.thread_engine.specs.WorkLaws.{hands_at}
 use Rattle.thread_engine.specs.CoreRuns.{fixed_by, fixed_along}
 use Rattle.thread_engine.proofs.CarriedLines.{carried, lines_on}
@@ -191,41 +194,71 @@ module _ (o : Origin) (layout : IsLayout (layout_of o.found)) (given : List Requ
           (in_either y fs fixed i);
     }
 
-  reckons_accept : (a b : WorkState) (fs : List Fixed) → Reckons o given c a fs → (A : Accepts seat a b) → Reckons o given c b (fs ++ A.call.fixed)
-  reckons_accept a b fs R A = subst (λ (z : WorkState). Reckons o given c z (fs ++ A.call.fixed)) here (reckons_call a mid fs R None None A.accepted A.call.fixed split (A.call.moves None) (omega arith)) where
-    mid : WorkState
-    mid = record { region = a.region; view = a.view; trail = a.trail; worker = b.worker; queue = b.queue }
+  -- what joins later counts as waiting already
+  reckons_accept : (later : List (ℕ × Request)) (a b : WorkState) (fs : List Fixed) → Reckons o given c (with_more later a) fs → (A : Accepts seat a b) → Reckons o given c (with_more later b) (fs ++ A.call.fixed)
+  reckons_accept later a b fs R A = subst (λ (z : WorkState). Reckons o given c (with_more later z) (fs ++ A.call.fixed)) here
+      (reckons_call (with_more later a) (with_more later mid) fs R None None A.accepted A.call.fixed (ap (λ q. q ++ later) split ∙ append_assoc A.accepted b.queue later) (A.call.moves None) (omega arith)) where
+        mid : WorkState
+        mid = record { region = a.region; view = a.view; trail = a.trail; worker = b.worker; queue = b.queue }
 
-    here : mid ≡ b
-    here i = record { region = sym A.region i; view = sym A.view i; trail = sym A.trail i; worker = b.worker; queue = b.queue }
+        here : mid ≡ b
+        here i = record { region = sym A.region i; view = sym A.view i; trail = sym A.trail i; worker = b.worker; queue = b.queue }
 
-    split : a.queue ≡ A.accepted ++ b.queue
-    split = elim A.either [
-      | inl one ↦ A.waits ∙ (λ i. sym one.0 i ++ sym one.1 i)
-      | inr none ↦ (λ i. sym none.0 i ++ sym none.1 i)
-    ]
+        split : a.queue ≡ A.accepted ++ b.queue
+        split = elim A.either [
+          | inl one ↦ A.waits ∙ (λ i. sym one.0 i ++ sym one.1 i)
+          | inr none ↦ (λ i. sym none.0 i ++ sym none.1 i)
+        ]
 
-  reckons_move : (refused : Bool) (a b : WorkState) (fs : List Fixed) → Reckons o given c a fs → (m : Move seat refused a b) → Reckons o given c b (fs ++ fixed_by m)
-  reckons_move refused a b fs R (accepts A) = reckons_accept a b fs R A
-  reckons_move refused a b fs R (turns T) = reckons_call a b fs R T.before T.after [] T.moves.fixed (sym T.queue) T.moves.moves (turn_grows a.region b.region refused T.before seat a.view b.view a.worker b.worker T.result T.turned)
-  reckons_move refused a b fs R (winds_down e) = subst (λ (z : WorkState). Reckons o given c z (fs ++ [])) (sym e) (subst (Reckons o given c (wound_down a)) (sym (append-nil fs)) (winds a fs R)) where
-    winds : (a : WorkState) (fs : List Fixed) → Reckons o given c a fs → Reckons o given c (wound_down a) fs
-    winds a fs R = record {
-      stock = R.stock;
-      least = R.least;
-      own = R.own;
-      order = R.order;
-      waiting = R.waiting;
-      changes = R.changes;
-      causes = R.causes;
-      versions = R.versions;
-      room = λ runs more within ample. (let H = R.room runs more within ample in record { opened = H.opened; cuts = H.cuts; chunks = H.chunks; lines = H.lines; small = H.small; blocks = H.blocks; last = H.last; class = H.class });
-      posted = R.posted;
-      full = R.full;
-    }
+  reckons_winds : (a : WorkState) (fs : List Fixed) → Reckons o given c a fs → Reckons o given c (wound_down a) fs
+  reckons_winds a fs R = record {
+    stock = R.stock;
+    least = R.least;
+    own = R.own;
+    order = R.order;
+    waiting = R.waiting;
+    changes = R.changes;
+    causes = R.causes;
+    versions = R.versions;
+    room = λ runs more within ample. (let H = R.room runs more within ample in record { opened = H.opened; cuts = H.cuts; chunks = H.chunks; lines = H.lines; small = H.small; blocks = H.blocks; last = H.last; class = H.class });
+    posted = R.posted;
+    full = R.full;
+  }
 
-  pub reckons_chain : (refused : Bool) (a : WorkState) (path : List WorkState) (b : WorkState) (fs : List Fixed) → Reckons o given c a fs → (l : Leads seat refused a path b) → Reckons o given c b (fs ++ fixed_along seat refused a path b l)
-  reckons_chain refused a [] b fs R l = subst (λ (z : WorkState). Reckons o given c z (fs ++ [])) (sym l) (subst (Reckons o given c a) (sym (append-nil fs)) R)
-  reckons_chain refused a (x ∷ xs) b fs R l =
-      subst (Reckons o given c b) (append_assoc fs (fixed_by l.0) (fixed_along seat refused x xs b l.2))
-      (reckons_chain refused x xs b (fs ++ fixed_by l.0) (reckons_move refused a x fs R l.0) l.2)
+  reckons_hands : (a : WorkState) (none : VecDeque Answered Global) (fs : List Fixed) → Reckons o given c a fs → Reckons o given c (with_answers none a) fs
+  reckons_hands a none fs R = record {
+    stock = R.stock;
+    least = R.least;
+    own = R.own;
+    order = R.order;
+    waiting = R.waiting;
+    changes = R.changes;
+    causes = R.causes;
+    versions = R.versions;
+    room = λ runs more within ample. (let H = R.room runs more within ample in record { opened = H.opened; cuts = H.cuts; chunks = H.chunks; lines = H.lines; small = H.small; blocks = H.blocks; last = H.last; class = H.class });
+    posted = R.posted;
+    full = R.full;
+  }
+
+  -- without more fixed
+  none_more : (x : WorkState) (fs : List Fixed) → Reckons o given c x fs → Reckons o given c x (fs ++ [])
+  none_more x fs R = subst (Reckons o given c x) (sym (append-nil fs)) R
+
+  reckons_move : (refused : Bool) (later : List (ℕ × Request)) (a b : WorkState) (fs : List Fixed) (m : Move seat refused a b) → Reckons o given c (with_more (joined_by m ++ later) a) fs → Reckons o given c (with_more later b) (fs ++ fixed_by m)
+  reckons_move refused later a b fs (accepts A) R = reckons_accept later a b fs R A
+  reckons_move refused later a b fs (turns T) R =
+      reckons_call (with_more later a) (with_more later b) fs R T.before T.after [] T.moves.fixed (ap (λ q. q ++ later) (sym T.queue)) T.moves.moves (turn_grows a.region b.region refused T.before seat a.view b.view a.worker b.worker T.result T.turned)
+  reckons_move refused later a b fs (winds_down e) R = subst (λ (z : WorkState). Reckons o given c (with_more later z) (fs ++ [])) (sym e) (none_more (with_more later (wound_down a)) fs (reckons_winds (with_more later a) fs R))
+  reckons_move refused later a b fs (joins more e) R = subst (λ (z : WorkState). Reckons o given c (with_more later z) (fs ++ [])) (sym e)
+      (none_more (with_more later (with_more more a)) fs (subst (λ q. Reckons o given c (record a { queue = q }) fs) (sym (append_assoc a.queue more later)) R))
+  reckons_move refused later a b fs (hands_over none empty e) R = subst (λ (z : WorkState). Reckons o given c (with_more later z) (fs ++ [])) (sym e)
+      (none_more (with_more later (with_answers none a)) fs (reckons_hands (with_more later a) none fs R))
+
+  pub reckons_chain : (refused : Bool) (later : List (ℕ × Request)) (a : WorkState) (path : List WorkState) (b : WorkState) (fs : List Fixed) (l : Leads seat refused a path b) → Reckons o given c (with_more (joined_along seat refused a path b l ++ later) a) fs
+      → Reckons o given c (with_more later b) (fs ++ fixed_along seat refused a path b l)
+  reckons_chain refused later a [] b fs l R = subst (λ (z : WorkState). Reckons o given c (with_more later z) (fs ++ [])) (sym l) (none_more (with_more later a) fs R)
+  reckons_chain refused later a (x ∷ xs) b fs l R =
+      let rest = joined_along seat refused x xs b l.2 in
+      subst (Reckons o given c (with_more later b)) (append_assoc fs (fixed_by l.0) (fixed_along seat refused x xs b l.2))
+      (reckons_chain refused later x xs b (fs ++ fixed_by l.0) l.2
+      (reckons_move refused (rest ++ later) a x fs l.0 (subst (λ q. Reckons o given c (with_more q a) fs) (append_assoc (joined_by l.0) rest later) R)))

@@ -33,7 +33,7 @@ use Rattle.engine_laws.specs.Spending.{lines_in}
 use Rattle.engine_laws.specs.Workers.{Sits}
 use Rattle.engine_laws.specs.Advance.{answered}
 use Rattle.engine_laws.proofs.Clients.{of_member, own_lines, out_within, taken_within, numbered, in_all, filter_in, in_requests, opens_last, opens_own, last_in, sum_cons, Changes, asked_in, cause_served, given_front}
-use Rattle.thread_engine.specs.WorkStates.{WorkState}
+use Rattle.thread_engine.specs.WorkStates.{WorkState, with_more, joined_in}
 use Rattle.thread_engine.specs.WorkLaws.{hands_at}
 use Rattle.thread_engine.specs.CoreRuns.{requests_to, fixed_at, CoreRun, AllRan}
 use Rattle.thread_engine.proofs.Reckoning.{alone, Reckons, reckons_chain}
@@ -129,11 +129,17 @@ module _ (o : Origin) (is : IsOrigin o) (r : Recovered) (refused : Bool) (e : En
   abbrev run : (c : ℕ) → c < e.layout.cores → CoreRun o r refused e c
   run c low = A.cores c low
 
-  reckons : (c : ℕ) (low : c < e.layout.cores) → Reckons o e.given c (run c low).last (fixed_at (run c low))
+  -- with what joined to the end, and what did not
+  abbrev ended : (c : ℕ) → c < e.layout.cores → WorkState
+  ended c low = with_more (run c low).later (run c low).last
+
+  reckons : (c : ℕ) (low : c < e.layout.cores) → Reckons o e.given c (ended c low) (fixed_at (run c low))
   reckons c low =
       let C = run c low in
       reckons_chain o layout_is e.given c C.seat (C.place ∙ (λ i. place_at (A.layout i) (group_of (A.layout i) c))) (C.number ∙ ap (λ (l : Geometry). member_of l c) A.layout)
-      refused C.first C.works.path C.last [] (reckons_first o is e.given c C.first C.sits (C.queue ∙ ap (λ (l : Geometry). requests_to l c e.given) A.layout)) C.works.leads
+      refused C.later C.first C.works.path C.last [] C.works.leads
+      (let all = joined_in C.seat refused C.first C.last C.works ++ C.later in
+      reckons_first o is e.given c (with_more all C.first) C.sits (ap (λ q. q ++ all) C.queue ∙ C.dealt ∙ ap (λ (l : Geometry). requests_to l c e.given) A.layout))
 
   low_there : (c : ℕ) → c < L.cores → c < e.layout.cores
   low_there c low = subst (λ (l : Geometry). c < l.cores) (sym A.layout) low
@@ -155,7 +161,7 @@ module _ (o : Origin) (is : IsOrigin o) (r : Recovered) (refused : Bool) (e : En
       let R = reckons d there in
       let same = ap lines_in (posted_is d there) in
       let out = R.posted in
-      let all = out_within L (alone o e.given R.stock (run d there).last (fixed_at (run d there))) d more in
+      let all = out_within L (alone o e.given R.stock (ended d there) (fixed_at (run d there))) d more in
       omega (arith, same, out, all)
 
   took_few : (c : ℕ) (low : c < e.layout.cores) (more : List Request) → 64 * lines_in (run c low).last.view.took ≤ log_bytes L c (e.given ++ more)
@@ -184,9 +190,9 @@ module _ (o : Origin) (is : IsOrigin o) (r : Recovered) (refused : Bool) (e : En
       let k : ℕ = key_of y.request in
       let own = R.own y i in
       let ys = fixed_of k (fixed_at (run c low)) in
-      cause_served L (version_of o.found k) k (e.given ++ more) (served_of ys) ((line_in (hands_at (run c low).last) k ++ requests_for k (run c low).last.queue) ++ numbered k (length e.given) more)
-      (requests-append k e.given more ∙ ap (λ xs. xs ++ numbered k (length e.given) more) (R.order k own) ∙ append_assoc (map asked ys) (line_in (hands_at (run c low).last) k ++ requests_for k (run c low).last.queue) (numbered k (length e.given) more)
-      ∙ ap (λ xs. xs ++ ((line_in (hands_at (run c low).last) k ++ requests_for k (run c low).last.queue) ++ numbered k (length e.given) more)) (sym (served_asked ys)))
+      cause_served L (version_of o.found k) k (e.given ++ more) (served_of ys) ((line_in (hands_at (run c low).last) k ++ requests_for k (ended c low).queue) ++ numbered k (length e.given) more)
+      (requests-append k e.given more ∙ ap (λ xs. xs ++ numbered k (length e.given) more) (R.order k own) ∙ append_assoc (map asked ys) (line_in (hands_at (run c low).last) k ++ requests_for k (ended c low).queue) (numbered k (length e.given) more)
+      ∙ ap (λ xs. xs ++ ((line_in (hands_at (run c low).last) k ++ requests_for k (ended c low).queue) ++ numbered k (length e.given) more)) (sym (served_asked ys)))
       (subst (AllByRecursion Changes) (sym (served_pairs ys)) (R.changes k own))
       (subst (HaveCauses L (version_of o.found k)) (sym (served_pairs ys)) (R.causes k own))
       (record { number = y.number; request = y.request; answer = record { reply = y.reply; stamp = 0 } })

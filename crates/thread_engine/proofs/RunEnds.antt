@@ -1,5 +1,5 @@
 -- Each core at the end of a run, by what was supplied, what the split gave, what came back, and the tables as they were closed.
-use Rattle.std.proofs.Common.{◌≡◌, ℕ, zero, suc, ◌+◌, ◌*◌, ◌<◌, ◌==◌, Bool, List, [], ◌∷◌, length, Some, refl, sym, ◌∙◌, ap, subst, arith}
+use Rattle.std.proofs.Common.{◌≡◌, ℕ, zero, suc, ◌+◌, ◌*◌, ◌<◌, ◌==◌, Bool, List, [], ◌∷◌, ◌++◌, length, Some, refl, sym, ◌∙◌, ap, subst, arith, append-nil}
 use Rattle.std.specs.List.{slice_get, enumerate_from}
 use Rattle.std.specs.Global.{Global}
 use Rattle.std.specs.declared.collections.VecDeque.{VecDeque}
@@ -43,7 +43,8 @@ use Rattle.group_engine.specs.Calls.{AreOwn}
 use Rattle.group_engine.specs.Shows.{Seat}
 use Rattle.group_engine.specs.Working.{IsMember, may_take, leads}
 use Rattle.thread_engine.specs.declared.muster.Crew.{Crew}
-use Rattle.thread_engine.specs.WorkStates.{IsAtWork}
+use Rattle.thread_engine.specs.WorkStates.{IsAtWork, joined_in}
+use Rattle.thread_engine.specs.WorkStates.Move.{joins}
 use Rattle.thread_engine.specs.Pieces.{IsPieceOf}
 use Rattle.thread_engine.specs.CoreRuns.{HasView, LoadsLook, requests_to}
 use Rattle.thread_engine.specs.Manned.{AreManned, AllEnded}
@@ -172,15 +173,25 @@ module _ {P : Type 0} (state : P → State) (refused : Bool) (o : Origin) (r : R
       one : (x : ℕ × Request) → In x (requests_to l c given) → places.owner (seat_of t.own).place (key_of x.1) ≡ (seat_of t.own).number
       one x i = (λ j. places.owner (place_is j) (key_of x.1)) ∙ of_member l is_layout c (key_of x.1) (eqb-true (owner l (key_of x.1)) c (in_filter (λ (y : ℕ × Request). owner l (key_of y.1) == c) (enumerate_from 0 given) x i).1) ∙ sym number_is
 
+    pub first_member : IsMember (seat_of t.own).place (seat_of t.own).number (state p) (view_at t.own) w
+    first_member = piece_member o.region (state p) (seat_of t.own).place (seat_of t.own).number (view_at t.own) w member piece_is
+
     pub first_works : IsAtWork (seat_of t.own) (core_stands state p t w q.items)
-    first_works = record { member = piece_member o.region (state p) (seat_of t.own).place (seat_of t.own).number (view_at t.own) w member piece_is; own = own }
+    first_works = record { member = first_member; own = own }
 
     -- and at the end
     module _ (s : State) (group : ℕ → Group) (b : P) (u : SeatToken) (y : Worker) (G : Went state refused p t w q.items b u y) (joined : TakesPiece s (state b)) (shown : HasView (group (group_of l c)) (member_of l c) (view_at u.own))
         (loads : LoadsLook (view_of (opened (place_at l (group_of l c)) o.found) (member_of l c)) (trail_at u.own)) where
       abbrev pub core_end : (x : CoreEnd refused) × IsEnd o r refused s group given c x
       core_end = (
-        record { seat = seat_of t.own; first = core_stands state p t w q.items; last = core_stands state b u y G.left; works = G.works },
+        record {
+          seat = seat_of t.own;
+          first = core_stands state p t w [];
+          last = core_stands state b u y G.left;
+          -- all its requests join at once
+          works = record { path = core_stands state p t w q.items ∷ G.works.works.path; leads = (joins q.items refl, first_works, G.works.works.leads) };
+          later = [];
+        },
         record {
           place = place_is;
           number = number_is;
@@ -190,8 +201,10 @@ module _ {P : Type 0} (state : P → State) (refused : Bool) (o : Origin) (r : R
           new = new c w (starts c low).0 w_at (starts c low).1;
           sits = first_sits;
           piece = piece_is;
-          queue = queues c q q_at;
-          at_work = first_works;
+          queue = refl;
+          dealt = append-nil (q.items ++ joined_in (seat_of t.own) refused (core_stands state p t w q.items) (core_stands state b u y G.left) G.works.works) ∙ ap (λ xs. q.items ++ xs) G.works.joins ∙ append-nil q.items ∙ queues c q q_at;
+          kept = G.works.gives;
+          at_work = record { member = first_member; own = tt };
           idle = idle_trail t.own.seat.me.0 (manned.idle (group_of l c) (member_of l c) table.0 t table.1 (member_low l is_layout c) t_there);
           loads = subst (λ (v : View). LoadsLook v (trail_at u.own)) (sym view_is) loads;
           work = G.work;

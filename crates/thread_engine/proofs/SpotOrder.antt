@@ -9,7 +9,7 @@ use Rattle.licence.specs.Licence.{part_at, part_end}
 use Rattle.engine_laws.specs.WorkerMoves.{Fixed}
 use Rattle.batch_leader.specs.TurnSteps.{Trail}
 use Rattle.thread_engine.specs.WorkStates.{WorkState, Move, Leads}
-use Rattle.thread_engine.specs.WorkStates.Move.{accepts, turns, winds_down}
+use Rattle.thread_engine.specs.WorkStates.Move.{accepts, turns, winds_down, joins, hands_over}
 use Rattle.thread_engine.specs.CoreRuns.{fixed_by, fixed_along}
 use Rattle.thread_engine.specs.Cuts.{Spot, fixed_before, IsAlong}
 
@@ -27,6 +27,8 @@ module _ (seat : SeatAt) (refused : Bool) where
   move_adds a b (accepts A) = ([], ap (λ (t : Trail). t.steps) A.trail)
   move_adds a b (turns T) = (T.steps.made, T.steps.more)
   move_adds a b (winds_down w) = ([], ap (λ (z : WorkState). z.trail.steps) w)
+  move_adds a b (joins more w) = ([], ap (λ (z : WorkState). z.trail.steps) w)
+  move_adds a b (hands_over none empty w) = ([], ap (λ (z : WorkState). z.trail.steps) w)
 
   pub chain_adds : (a : WorkState) (path : List WorkState) (b : WorkState) → Leads seat refused a path b → Adds a b
   chain_adds a [] b l = ([], ap (λ (z : WorkState). z.trail.steps) l)
@@ -37,6 +39,8 @@ module _ (seat : SeatAt) (refused : Bool) where
   move_telling a b (accepts A) t = subst IsTelling A.region t
   move_telling a b (turns T) t = told_at_entry a.region b.region (KeepsOutside (cell_now a.region) (part_at seat.place seat.number) (part_end seat.place seat.number)) T.moves.moves.outside t
   move_telling a b (winds_down w) t = subst IsTelling (ap (λ (z : WorkState). z.region) w) t
+  move_telling a b (joins more w) t = subst IsTelling (ap (λ (z : WorkState). z.region) w) t
+  move_telling a b (hands_over none empty w) t = subst IsTelling (ap (λ (z : WorkState). z.region) w) t
 
   chain_telling : (a : WorkState) (path : List WorkState) (b : WorkState) → Leads seat refused a path b → IsTelling b.region → IsTelling a.region
   chain_telling a [] b l t = subst IsTelling (ap (λ (z : WorkState). z.region) l) t
@@ -47,6 +51,8 @@ module _ (seat : SeatAt) (refused : Bool) where
   move_keeps a b (accepts A) t = subst (λ (s : State). IsTold s a.region.stamp) (sym A.region) t
   move_keeps a b (turns T) t = T.moves.moves.outside.keeps a.region.stamp t
   move_keeps a b (winds_down w) t = subst (λ (s : State). IsTold s a.region.stamp) (sym (ap (λ (z : WorkState). z.region) w)) t
+  move_keeps a b (joins more w) t = subst (λ (s : State). IsTold s a.region.stamp) (sym (ap (λ (z : WorkState). z.region) w)) t
+  move_keeps a b (hands_over none empty w) t = subst (λ (s : State). IsTold s a.region.stamp) (sym (ap (λ (z : WorkState). z.region) w)) t
 
   -- Of each front of a core's steps there is a spot, where the piece tells.
   abbrev There : List TrailStep → (a : WorkState) (path : List WorkState) (b : WorkState) → Leads seat refused a path b → Type 0

@@ -8,7 +8,7 @@ use Rattle.licence.specs.Licence.{Licensed}
 use Rattle.batch_leader.specs.Persisting.{IsLicensedNow}
 use Rattle.batch_leader.specs.TurnSteps.{Trail, AreLoads, LoadsThenStep, TurnSteps, EndsAt, is_load, since}
 use Rattle.thread_engine.specs.WorkStates.{WorkState, IsAtWork, MakesTurn, Move, Leads}
-use Rattle.thread_engine.specs.WorkStates.Move.{accepts, turns, winds_down}
+use Rattle.thread_engine.specs.WorkStates.Move.{accepts, turns, winds_down, joins, hands_over}
 use Rattle.thread_engine.specs.CoreRuns.{view_after, LoadsLook, fixed_by, fixed_along}
 use Rattle.thread_engine.specs.Cuts.{Spot, IsSince, fixed_before, IsWithin, IsAtEnd, IsAlong}
 use Rattle.thread_engine.proofs.SameViews.{IsLike, like_same, like_more, like_licence}
@@ -72,6 +72,8 @@ module _ (law : AfterLaw) (seat : SeatAt) (refused : Bool) (v0 : View) where
   move_led a b e (accepts A) = ap (λ (t : Trail). view_after v0 t.steps) A.trail ∙ e ∙ sym A.view
   move_led a b e (turns T) = turn_led a b e T
   move_led a b e (winds_down w) = ap (λ (z : WorkState). view_after v0 z.trail.steps) w ∙ e ∙ sym (ap (λ (z : WorkState). z.view) w)
+  move_led a b e (joins more w) = ap (λ (z : WorkState). view_after v0 z.trail.steps) w ∙ e ∙ sym (ap (λ (z : WorkState). z.view) w)
+  move_led a b e (hands_over none empty w) = ap (λ (z : WorkState). view_after v0 z.trail.steps) w ∙ e ∙ sym (ap (λ (z : WorkState). z.view) w)
 
   -- at a state's own moment
   now : (b : WorkState) (x : Spot) → IsAtWork seat b → IsLike (view_after v0 x.done) b.view → x.piece ≡ b.region → x.stamp ≡ b.region.stamp → IsTold x.piece x.stamp → Licensed seat.place seat.number (view_after v0 x.done) (x.piece.cells x.stamp)
@@ -138,6 +140,8 @@ module _ (law : AfterLaw) (seat : SeatAt) (refused : Bool) (v0 : View) where
       behind (accepts A) = absurd (none (ap (λ (t : Trail). t.steps) A.trail))
       behind (turns T) = turn T
       behind (winds_down w) = absurd (none (ap (λ (z : WorkState). z.trail.steps) w))
+      behind (joins more w) = absurd (none (ap (λ (z : WorkState). z.trail.steps) w))
+      behind (hands_over empty is w) = absurd (none (ap (λ (z : WorkState). z.trail.steps) w))
 
     -- All are made.
     module _ (none : W.ahead ≡ []) where
@@ -185,6 +189,8 @@ module _ (law : AfterLaw) (seat : SeatAt) (refused : Bool) (v0 : View) where
       after (accepts A) = same A.region
       after (turns T) = turned T
       after (winds_down w) = same (ap (λ (z : WorkState). z.region) w)
+      after (joins more w) = same (ap (λ (z : WorkState). z.region) w)
+      after (hands_over empty is w) = same (ap (λ (z : WorkState). z.region) w)
 
     pub within : (ys : List WorkState) (b : WorkState) (back : Leads seat refused y ys b) → Found seat refused v0 x a (y ∷ ys) b (m, there, back)
     within ys b back = by W.ahead refl where

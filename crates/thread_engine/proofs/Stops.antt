@@ -25,7 +25,7 @@ use Rattle.core_worker.specs.Turning.{Did, TurnedTo, at_entry}
 use Rattle.core_worker.specs.Turning.Did.{goes_round, withdraws, writes, marks, fails, finishes, posts, loses_block, drops, locks}
 use Rattle.core_worker.specs.Turns.{PersistsOrLoses}
 use Rattle.thread_engine.specs.WorkStates.{WorkState, IsAtWork, Accepts, MakesTurn, Move, Leads, Works, HasEnded}
-use Rattle.thread_engine.specs.WorkStates.Move.{accepts, turns, winds_down}
+use Rattle.thread_engine.specs.WorkStates.Move.{accepts, turns, winds_down, joins, hands_over}
 use Rattle.thread_engine.specs.WorkLaws.{in_doubt, HasRested}
 use Rattle.thread_engine.proofs.Doubts.{none_some, clash, doubt_stops, slot_is, neq}
 use Rattle.thread_engine.proofs.Rested.{has_rested}
@@ -196,12 +196,16 @@ module _ (seat : SeatAt) (refused : Bool) where
   move_because a b at R (accepts A) = accept_because a b at R A
   move_because a b at R (turns T) = turn_because a b at R T
   move_because a b at R (winds_down e) = inr (subst Rested (sym e) R)
+  move_because a b at R (joins more e) = inr (subst Rested (sym e) R)
+  move_because a b at R (hands_over none empty e) = inr (subst Rested (sym e) R)
 
   -- the count of faults doesn't fall
   move_faults : (a b : WorkState) → Move seat refused a b → a.region.faults ≤ b.region.faults
   move_faults a b (accepts A) = let same = ap (λ (s : State). s.faults) A.region in omega (arith, same)
   move_faults a b (turns T) = T.moves.moves.outside.faults
   move_faults a b (winds_down e) = let same = ap (λ (z : WorkState). z.region.faults) e in omega (arith, same)
+  move_faults a b (joins more e) = let same = ap (λ (z : WorkState). z.region.faults) e in omega (arith, same)
+  move_faults a b (hands_over none empty e) = let same = ap (λ (z : WorkState). z.region.faults) e in omega (arith, same)
 
   pub chain_faults : (a : WorkState) (xs : List WorkState) (b : WorkState) → Leads seat refused a xs b → a.region.faults ≤ b.region.faults
   chain_faults a [] b e = let same = ap (λ (z : WorkState). z.region.faults) e in omega (arith, same)
@@ -212,6 +216,8 @@ module _ (seat : SeatAt) (refused : Bool) where
   move_frame a b (accepts A) = ap (λ (s : State). s.frame) A.region
   move_frame a b (turns T) = T.moves.moves.outside.frame
   move_frame a b (winds_down e) = ap (λ (z : WorkState). z.region.frame) e
+  move_frame a b (joins more e) = ap (λ (z : WorkState). z.region.frame) e
+  move_frame a b (hands_over none empty e) = ap (λ (z : WorkState). z.region.frame) e
 
   pub chain_frame : (a : WorkState) (xs : List WorkState) (b : WorkState) → Leads seat refused a xs b → b.region.frame ≡ a.region.frame
   chain_frame a [] b e = ap (λ (z : WorkState). z.region.frame) e
@@ -265,6 +271,8 @@ module _ (seat : SeatAt) (refused : Bool) where
   move_tells a b (accepts A) = same_tells a.region b.region A.region
   move_tells a b (turns T) = during_tells a.region b.region _ T.moves.moves.outside
   move_tells a b (winds_down e) = same_tells a.region b.region (ap (λ (z : WorkState). z.region) e)
+  move_tells a b (joins more e) = same_tells a.region b.region (ap (λ (z : WorkState). z.region) e)
+  move_tells a b (hands_over none empty e) = same_tells a.region b.region (ap (λ (z : WorkState). z.region) e)
 
   pub chain_tells : (a : WorkState) (xs : List WorkState) (b : WorkState) → Leads seat refused a xs b → Tells a.region b.region
   chain_tells a [] b e = same_tells a.region b.region (ap (λ (z : WorkState). z.region) e)

@@ -16,7 +16,7 @@ use Rattle.batch_leader.specs.TurnSteps.{trail_with}
 use Rattle.thread_engine.specs.declared.core_job.CoreJob.{CoreJob}
 use Rattle.thread_engine.specs.declared.muster.Crew.{Crew}
 use Rattle.thread_engine.specs.declared.muster.Returned.{Returned}
-use Rattle.thread_engine.specs.WorkStates.{IsAtWork, Works, HasEnded, GoesOn, stands_at, Sight}
+use Rattle.thread_engine.specs.WorkStates.{IsAtWork, WorksOn, HasEnded, GoesOn, stands_at, Sight}
 use Rattle.thread_engine.specs.Returns.{AreMade, Gave, AllAtWork, AllWent, Went, core_stands}
 use Rattle.thread_engine.proofs.Doubts.{one_of}
 use Rattle.thread_engine.proofs.Places.{get_low, get_index, get_there, get_map, map_get, map_long}
@@ -89,7 +89,7 @@ module _ {P : Type 0} (state : P → State) (pieces : List P) (crew : Crew) (job
           seat = ap seat_of (sym own') ∙ go.seat_is ∙ ap seat_of own;
           left = z.queue.items;
           work = subst (IsAtWork (seat_of t.own)) ends (subst (λ (o : MemberSeat). IsAtWork (seat_of o) (stands_at sight_there state z)) own go.work);
-          works = subst (λ b. Works (seat_of t.own) refused (core_stands state p t w k.items) b) ends (subst (λ a. Works (seat_of t.own) refused a (stands_at sight_there state z)) begins (subst (λ (o : MemberSeat). Works (seat_of o) refused (stands_at sight_there state x) (stands_at sight_there state z)) own go.works));
+          works = subst (λ b. WorksOn (seat_of t.own) refused [] (core_stands state p t w k.items) b) ends (subst (λ a. WorksOn (seat_of t.own) refused [] a (stands_at sight_there state z)) begins (subst (λ (o : MemberSeat). WorksOn (seat_of o) refused [] (stands_at sight_there state x) (stands_at sight_there state z)) own go.works));
           ended = subst HasEnded ends end;
         }
 

@@ -2,6 +2,8 @@
 use Rattle.std.proofs.Common.{◌≡◌, inl, inr, ℕ, ◌==◌, Bool, List, [], ◌∷◌, ◌++◌, map, Option, Some, None, refl, sym, ◌∙◌, ap, subst, append-nil, append_assoc}
 use Rattle.std.proofs.lemmas.List.{map-append}
 use Rattle.std.proofs.lemmas.List.Elements.{filter-append}
+use Rattle.std.specs.Global.{Global}
+use Rattle.std.specs.declared.collections.VecDeque.{VecDeque}
 use Rattle.fs_model.specs.declared.model.Request.{Request}
 use Rattle.fs_model.specs.declared.model.Reply.{Reply}
 use Rattle.fs_model.specs.Cells.{key_of}
@@ -33,8 +35,8 @@ use Rattle.core_worker.specs.Beginning.{answers_of}
 use Rattle.core_worker.specs.KeyTies.{Offers}
 use Rattle.core_worker.specs.WorkerMoves.{hands_of}
 use Rattle.core_worker.proofs.Clients.{adds_none}
-use Rattle.thread_engine.specs.WorkStates.{WorkState, IsAtWork, Accepts, MakesTurn, Move, wound_down, Leads}
-use Rattle.thread_engine.specs.WorkStates.Move.{accepts, turns, winds_down}
+use Rattle.thread_engine.specs.WorkStates.{WorkState, IsAtWork, Accepts, MakesTurn, Move, wound_down, with_more, with_answers, Leads, joined_by, given_by, joined_along, given_along}
+use Rattle.thread_engine.specs.WorkStates.Move.{accepts, turns, winds_down, joins, hands_over}
 use Rattle.thread_engine.specs.WorkLaws.{in_doubt, HasBlock, KeepsDoubts, hands_at, WorksOff}
 use Rattle.thread_engine.specs.CoreRuns.{fixed_by, fixed_along}
 use Rattle.thread_engine.proofs.Doubts.{posted_offers, turn_keeps}
@@ -49,10 +51,10 @@ given_more K L M f g [] ys (x ∷ out) more a b = absurd a
 given_more K L M f g (x ∷ xs) ys [] more a b = absurd a
 given_more K L M f g (x ∷ xs) ys (z ∷ out) more a b = (record { number = a.0.number; reply = a.0.reply; known = λ k. a.0.known (f k); cause = a.0.cause }, given_more K L M f g xs ys out more a.1 b)
 
-adds_more : (K L M : Type 0) → (M → K) → (M → L) → (xs ys zs : List Answer) (fs gs : List Fixed) → AddsAnswers K xs ys fs → AddsAnswers L ys zs gs → AddsAnswers M xs zs (fs ++ gs)
-adds_more K L M f g xs ys zs fs gs A B = record {
+adds_more : (K L M : Type 0) → (M → K) → (M → L) → (xs us ys vs zs : List Answer) (fs gs : List Fixed) → AddsAnswers K xs (us ++ ys) fs → AddsAnswers L ys (vs ++ zs) gs → AddsAnswers M xs ((us ++ vs) ++ zs) (fs ++ gs)
+adds_more K L M f g xs us ys vs zs fs gs A B = record {
   more = A.more ++ B.more;
-  added = B.added ∙ ap (λ l. l ++ B.more) A.added ∙ append_assoc xs A.more B.more;
+  added = append_assoc us vs zs ∙ ap (λ l. us ++ l) B.added ∙ sym (append_assoc us ys B.more) ∙ ap (λ l. l ++ B.more) A.added ∙ append_assoc xs A.more B.more;
   given = given_more K L M f g fs gs A.more B.more A.given B.given;
 }
 
@@ -67,14 +69,16 @@ module _ (key_goes : KeyGoes) (seat : SeatAt) where
   unmoved start xs place = ([], ap (λ l. changes_on start (l ++ posted_in place)) (append-nil xs) ∙ sym (append-nil (changes_on start (xs ++ posted_in place))))
 
   -- it was worked off so, these answers were fixed, and each own change in doubt has its block
-  abbrev Off : WorkState → WorkState → List Fixed → Type 0
-  Off a b fixed = (x : WorksOff seat a b) × (x.fixed ≡ fixed) × KeepsDoubts seat b.view
+  abbrev Off : WorkState → WorkState → List Fixed → List (ℕ × Request) → List Answer → Type 0
+  Off a b fixed joined given = (x : WorksOff seat a b) × (x.fixed ≡ fixed) × KeepsDoubts seat b.view × (x.joined ≡ joined) × (x.given ≡ given)
 
   abbrev works_off_none : (a : WorkState) → WorksOff seat a a
   works_off_none a = record {
+    joined = [];
     accepted = [];
     fixed = [];
-    split = refl;
+    given = [];
+    split = append-nil a.queue;
     answers = adds_none (IsTelling a.region) (answers_of a.worker) (answers_of a.worker) refl;
     own = λ y i. absurd i;
     order = λ k own. append-nil (line_in (hands_at a) k);
@@ -85,10 +89,12 @@ module _ (key_goes : KeyGoes) (seat : SeatAt) where
 
   abbrev works_off_more : (a b c : WorkState) → WorksOff seat a b → WorksOff seat b c → WorksOff seat a c
   works_off_more a b c A B = record {
+    joined = A.joined ++ B.joined;
     accepted = A.accepted ++ B.accepted;
     fixed = A.fixed ++ B.fixed;
-    split = A.split ∙ ap (λ l. A.accepted ++ l) B.split ∙ sym (append_assoc A.accepted B.accepted c.queue);
-    answers = adds_more (IsTelling b.region) (IsTelling c.region) (IsTelling c.region) B.told (λ t. t) (answers_of a.worker) (answers_of b.worker) (answers_of c.worker) A.fixed B.fixed A.answers B.answers;
+    given = A.given ++ B.given;
+    split = sym (append_assoc a.queue A.joined B.joined) ∙ ap (λ l. l ++ B.joined) A.split ∙ append_assoc A.accepted b.queue B.joined ∙ ap (λ l. A.accepted ++ l) B.split ∙ sym (append_assoc A.accepted B.accepted c.queue);
+    answers = adds_more (IsTelling b.region) (IsTelling c.region) (IsTelling c.region) B.told (λ t. t) (answers_of a.worker) A.given (answers_of b.worker) B.given (answers_of c.worker) A.fixed B.fixed A.answers B.answers;
     own = λ y i. elim (in_either y A.fixed B.fixed i) [ inl l ↦ A.own y l | inr r ↦ B.own y r ];
     order = λ k own. order k own;
     keys = λ start k xs own S. subst (KeyIs start (key_view c.view k) ((hands_at c).place k) c.worker.stopped) (path k xs) (B.keys start k (xs ++ map replied (fixed_of k A.fixed)) own (A.keys start k xs own S));
@@ -137,9 +143,11 @@ module _ (key_goes : KeyGoes) (seat : SeatAt) where
 
     abbrev call_works_off : WorksOff seat (record { region = s; view = v; trail = old; worker = w; queue = queue }) (record { region = t; view = u; trail = new; worker = x; queue = rest })
     call_works_off = record {
+      joined = [];
       accepted = accepted;
       fixed = fixed;
-      split = split;
+      given = [];
+      split = append-nil queue ∙ split;
       answers = adds;
       own = M.own;
       order = λ k own. (M.keys k own).order;
@@ -172,18 +180,22 @@ module _ (key_goes : KeyGoes) (seat : SeatAt) where
       | inr new ↦ (carry k d now d.body (offers_block a.view k d.body (posted_offers seat.place seat.number a.view a.worker at.member.holds k d new.2 new.5).0)).0
     ]
 
-    turn_works_off : Off a b T.moves.fixed
+    turn_works_off : Off a b T.moves.fixed [] []
     turn_works_off = (
       call_works_off a.region b.region a.view b.view a.trail b.trail a.worker b.worker a.queue b.queue T.before T.after [] T.moves.fixed (sym T.queue) T.moves.answers T.moves.moves (λ k d own was now. (carry k d now d.body (D k d own was)).1),
       refl,
       turn_doubts,
+      refl,
+      refl,
     )
 
-  accept_works_off : (a b : WorkState) → KeepsDoubts seat a.view → (A : Accepts seat a b) → Off a b A.call.fixed
-  accept_works_off a b D A = subst (λ z. Off a z A.call.fixed) here (
+  accept_works_off : (a b : WorkState) → KeepsDoubts seat a.view → (A : Accepts seat a b) → Off a b A.call.fixed [] []
+  accept_works_off a b D A = subst (λ z. Off a z A.call.fixed [] []) here (
     call_works_off a.region a.region a.view a.view a.trail a.trail a.worker b.worker a.queue b.queue None None A.accepted A.call.fixed split A.call.adds (A.call.moves None) (λ k d own was now. refl),
     refl,
     D,
+    refl,
+    refl,
   ) where
     mid : WorkState
     mid = record { region = a.region; view = a.view; trail = a.trail; worker = b.worker; queue = b.queue }
@@ -199,8 +211,25 @@ module _ (key_goes : KeyGoes) (seat : SeatAt) where
 
   abbrev winds_works_off : (a : WorkState) → WorksOff seat a (wound_down a)
   winds_works_off a = record {
+    joined = [];
     accepted = [];
     fixed = [];
+    given = [];
+    split = append-nil a.queue;
+    answers = adds_none (IsTelling a.region) (answers_of a.worker) (answers_of a.worker) refl;
+    own = λ y i. absurd i;
+    order = λ k own. append-nil (line_in (hands_at a) k);
+    keys = λ start k xs own S. subst (KeyIs start (key_view a.view k) ((hands_at a).place k) a.worker.stopped) (sym (append-nil xs)) S;
+    grows = λ start k xs own S. unmoved start xs ((hands_at a).place k);
+    told = λ t. t;
+  }
+
+  abbrev join_works_off : (a : WorkState) (more : List (ℕ × Request)) → WorksOff seat a (with_more more a)
+  join_works_off a more = record {
+    joined = more;
+    accepted = [];
+    fixed = [];
+    given = [];
     split = refl;
     answers = adds_none (IsTelling a.region) (answers_of a.worker) (answers_of a.worker) refl;
     own = λ y i. absurd i;
@@ -210,14 +239,31 @@ module _ (key_goes : KeyGoes) (seat : SeatAt) where
     told = λ t. t;
   }
 
-  move_works_off : (refused : Bool) (a b : WorkState) → IsAtWork seat a → KeepsDoubts seat a.view → (M : Move seat refused a b) → Off a b (fixed_by M)
+  abbrev hand_works_off : (a : WorkState) (none : VecDeque Answer Global) → none.items ≡ [] → WorksOff seat a (with_answers none a)
+  hand_works_off a none empty = record {
+    joined = [];
+    accepted = [];
+    fixed = [];
+    given = answers_of a.worker;
+    split = append-nil a.queue;
+    answers = adds_none (IsTelling a.region) (answers_of a.worker) (answers_of a.worker ++ none.items) (ap (λ l. answers_of a.worker ++ l) empty ∙ append-nil (answers_of a.worker));
+    own = λ y i. absurd i;
+    order = λ k own. append-nil (line_in (hands_at a) k);
+    keys = λ start k xs own S. subst (KeyIs start (key_view a.view k) ((hands_at a).place k) a.worker.stopped) (sym (append-nil xs)) S;
+    grows = λ start k xs own S. unmoved start xs ((hands_at a).place k);
+    told = λ t. t;
+  }
+
+  move_works_off : (refused : Bool) (a b : WorkState) → IsAtWork seat a → KeepsDoubts seat a.view → (M : Move seat refused a b) → Off a b (fixed_by M) (joined_by M) (given_by M)
   move_works_off refused a b at D (accepts A) = accept_works_off a b D A
   move_works_off refused a b at D (turns T) = turn_works_off refused a b at D T
-  move_works_off refused a b at D (winds_down e) = subst (λ z. Off a z []) (sym e) (winds_works_off a, refl, D)
+  move_works_off refused a b at D (winds_down e) = subst (λ z. Off a z [] [] []) (sym e) (winds_works_off a, refl, D, refl, refl)
+  move_works_off refused a b at D (joins more e) = subst (λ z. Off a z [] more []) (sym e) (join_works_off a more, refl, D, refl, refl)
+  move_works_off refused a b at D (hands_over none empty e) = subst (λ z. Off a z [] [] (answers_of a.worker)) (sym e) (hand_works_off a none empty, refl, D, refl, refl)
 
-  pub chain_works_off : (refused : Bool) (a : WorkState) (xs : List WorkState) (b : WorkState) → IsAtWork seat a → KeepsDoubts seat a.view → (l : Leads seat refused a xs b) → Off a b (fixed_along seat refused a xs b l)
-  chain_works_off refused a [] b at D e = subst (λ z. Off a z []) (sym e) (works_off_none a, refl, D)
+  pub chain_works_off : (refused : Bool) (a : WorkState) (xs : List WorkState) (b : WorkState) → IsAtWork seat a → KeepsDoubts seat a.view → (l : Leads seat refused a xs b) → Off a b (fixed_along seat refused a xs b l) (joined_along seat refused a xs b l) (given_along seat refused a xs b l)
+  chain_works_off refused a [] b at D e = subst (λ z. Off a z [] [] []) (sym e) (works_off_none a, refl, D, refl, refl)
   chain_works_off refused a (x ∷ xs) b at D l =
       let one = move_works_off refused a x at D l.0 in
       let rest = chain_works_off refused x xs b l.1 one.2 l.2 in
-      (works_off_more a x b one.0 rest.0, (λ i. one.1 i ++ rest.1 i), rest.2)
+      (works_off_more a x b one.0 rest.0, (λ i. one.1 i ++ rest.1 i), rest.2, (λ i. one.3 i ++ rest.3 i), (λ i. one.4 i ++ rest.4 i))

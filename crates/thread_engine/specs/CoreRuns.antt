@@ -24,10 +24,12 @@ use Rattle.engine_laws.specs.Engine.{Engine, Answer}
 use Rattle.engine_laws.specs.Origins.{Origin}
 use Rattle.engine_laws.specs.Stands.{opening}
 use Rattle.engine_laws.specs.Workers.{Sits}
+use Rattle.core_worker.specs.declared.types.Answer.{Answer as Answered}
+use Rattle.core_worker.specs.Beginning.{answers_of}
 use Rattle.core_worker.specs.Openings.{IsNew, IsStartAt}
 use Rattle.thread_engine.specs.Pieces.{IsPieceOf}
-use Rattle.thread_engine.specs.WorkStates.{WorkState, IsAtWork, Move, Leads, Works, HasEnded}
-use Rattle.thread_engine.specs.WorkStates.Move.{accepts, turns, winds_down}
+use Rattle.thread_engine.specs.WorkStates.{WorkState, IsAtWork, Move, Leads, Works, HasEnded, joined_in, given_in}
+use Rattle.thread_engine.specs.WorkStates.Move.{accepts, turns, winds_down, joins, hands_over}
 use Rattle.thread_engine.specs.WorkLaws.{hands_at}
 
 -- the requests of a core's keys, in the order of the trace, with their numbers in it
@@ -40,6 +42,8 @@ abbrev pub fixed_by : {seat : SeatAt} {refused : Bool} {a b : WorkState} → Mov
 fixed_by (accepts A) = A.call.fixed
 fixed_by (turns T) = T.moves.fixed
 fixed_by (winds_down e) = []
+fixed_by (joins xs e) = []
+fixed_by (hands_over none empty e) = []
 
 -- what the moves of a chain fixed, in order
 abbrev pub fixed_along : (seat : SeatAt) (refused : Bool) (a : WorkState) (path : List WorkState)
@@ -84,7 +88,7 @@ LoadsLook v (x ∷ xs) = (is_load x.kind ≡ true
     → x.view ≡ record (view_after v xs) { looked = x.view.looked })
     × LoadsLook v xs
 
--- Core c's run: its worker is the one that opens on what recovery gave for it, in the core's piece of the region, with all requests of its keys before it; a chain of the worker's moves leads to its end; and the run's last state has what the core has then.
+-- Core c's run: its worker is the one that opens on what recovery gave for it, in the core's piece of the region, with no request before it; a chain of moves leads to its end, in which the requests of its keys join in their order, but for those that come later; and the run's last state has what the core has then.
 pub record CoreRun (o : Origin) (r : Recovered) (refused : Bool) (e : Engine) (c : ℕ) : Type 0 where
   pub seat : SeatAt
   pub place : seat.place ≡ place_at e.layout (group_of e.layout c)
@@ -97,13 +101,15 @@ pub record CoreRun (o : Origin) (r : Recovered) (refused : Bool) (e : Engine) (c
   pub new : IsNew start r.layout first.worker
   pub sits : Sits (opening o) c first.view (hands_at first)
   pub piece : IsPieceOf seat.place seat.number o.region first.region
-  pub queue : first.queue ≡ requests_to e.layout c e.given
+  pub queue : first.queue ≡ []
   pub at_work : IsAtWork seat first
   pub idle : first.trail.steps ≡ []
   -- the chain
   pub last : WorkState
   pub works : Works seat refused first last
   pub ended : HasEnded last
+  pub later : List (ℕ × Request)
+  pub dealt : joined_in seat refused first last works ++ later ≡ requests_to e.layout c e.given
   pub loads : LoadsLook first.view last.trail.steps
   -- the last state
   pub shown : HasView (e.group (group_of e.layout c)) (member_of e.layout c) last.view
@@ -111,7 +117,7 @@ pub record CoreRun (o : Origin) (r : Recovered) (refused : Bool) (e : Engine) (c
   pub waits : (k : ℕ) → owner e.layout k ≡ c → e.waits k ≡ (hands_at last).waits k
   pub stopped : e.stopped c ≡ last.worker.stopped
   pub stock : e.stock c ≡ (hands_at last).stock
-  pub backlog : e.backlog c ≡ last.queue
+  pub backlog : e.backlog c ≡ last.queue ++ later
   pub joined : TakesPiece e.region last.region
   pub answers : (y : Fixed) → In y (fixed_in seat refused first last works)
       → e.answer y.number ≡ Some (record { reply = y.reply; stamp = e.region.stamp })
@@ -120,6 +126,12 @@ pub record CoreRun (o : Origin) (r : Recovered) (refused : Bool) (e : Engine) (c
 abbrev pub fixed_at : {o : Origin} {r : Recovered} {refused : Bool} {e : Engine} {c : ℕ}
     → CoreRun o r refused e c → List Fixed
 fixed_at {o} {r} {refused} x = fixed_in x.seat refused x.first x.last x.works
+
+-- the answers that its worker gave: those that were handed over, and those that it has
+abbrev pub gave_at : {o : Origin} {r : Recovered} {refused : Bool} {e : Engine} {c : ℕ}
+    → CoreRun o r refused e c → List Answered
+gave_at {o} {r} {refused} x = given_in x.seat refused x.first x.last x.works
+    ++ answers_of x.last.worker
 
 -- All cores ran to their ends. Each group's state is lawful, and steps of the group machine lead to it from the one that it opened on; each answer is one that a core fixed.
 pub record AllRan (o : Origin) (r : Recovered) (refused : Bool) (e : Engine) : Type 0 where

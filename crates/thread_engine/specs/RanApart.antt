@@ -12,14 +12,13 @@ use Rattle.engine_laws.specs.Promises.{HasStopped, Promised, IsDone}
 use Rattle.engine_laws.specs.Ran.{asked_in}
 use Rattle.engine_laws.specs.Ceasing.{HasCeased}
 use Rattle.core_worker.specs.declared.types.Answer.{Answer}
-use Rattle.core_worker.specs.Beginning.{answers_of}
 use Rattle.group_engine.specs.declared.types.Stamped.{Stamped}
 use Rattle.group_engine.specs.declared.run_outcome.End.TheVariants as ends
 use Rattle.group_engine.specs.declared.run_outcome.Outcome.{Outcome}
 use Rattle.group_engine.specs.Answers.{kept_at}
 use Rattle.group_engine.specs.Replayed.{BeginsAt, report_in}
 use Rattle.group_engine.specs.Reports.{IsReport, ReportsOn}
-use Rattle.thread_engine.specs.CoreRuns.{CoreRun, AllRan}
+use Rattle.thread_engine.specs.CoreRuns.{CoreRun, AllRan, gave_at}
 use Rattle.thread_engine.specs.Cuts.{HoldsInside}
 
 -- A region was split and joined, and between that only its pieces were used.
@@ -47,10 +46,10 @@ pub record KeepsAnswers (o : Origin) (r : Recovered) (refused : Bool) (e : Engin
     (kept : List (Option Stamped)) : Type 0 where
   pub count : length kept ≡ length e.given
   pub all : (c : ℕ) (low : c < e.layout.cores) (a : Answer)
-      → In a (answers_of (cores c low).last.worker)
+      → In a (gave_at (cores c low))
       → kept_at kept a.number ≡ Some (stamped e.region.stamp a)
   pub only : (n : ℕ) (y : Stamped) → kept_at kept n ≡ Some y → (c : ℕ) × (low : c < e.layout.cores)
-      × (a : Answer) × In a (answers_of (cores c low).last.worker) × (a.number ≡ n)
+      × (a : Answer) × In a (gave_at (cores c low)) × (a.number ≡ n)
 
 -- A run of lines on a region, one worker for each core and each in a thread of its own, led from the region's state and words to its state t, and this is the outcome. `refused` says whether the gate may hold posts back.
 pub record RanApart (s : State) (word : ℕ → ℕ) (refused : Bool) (r : Recovered) (lines : List Line)

@@ -16,7 +16,7 @@ use Rattle.batch_leader.specs.TurnSteps.{trail_with}
 use Rattle.thread_engine.specs.declared.core_job.CoreJob.{CoreJob}
 use Rattle.thread_engine.specs.declared.muster.Crew.{Crew}
 use Rattle.thread_engine.specs.declared.muster.Returned.{Returned}
-use Rattle.thread_engine.specs.WorkStates.{WorkState, IsAtWork, Works, HasEnded}
+use Rattle.thread_engine.specs.WorkStates.{WorkState, IsAtWork, WorksOn, HasEnded}
 
 -- A token, a worker and a queue for each of so many cores; each token is of a seat at the core's table.
 pub record IsCrew (tables : List GroupTable) (group count : ℕ) (x : Crew) : Type 0 where
@@ -73,7 +73,7 @@ pub record Went {P : Type 0} (state : P → State) (refused : Bool) (p : P) (t :
   pub seat : seat_of u.own ≡ seat_of t.own
   pub left : List (ℕ × Request)
   pub work : IsAtWork (seat_of t.own) (core_stands state q u x left)
-  pub works : Works (seat_of t.own) refused (core_stands state p t w queue)
+  pub works : WorksOn (seat_of t.own) refused [] (core_stands state p t w queue)
       (core_stands state q u x left)
   pub ended : HasEnded (core_stands state q u x left)
 

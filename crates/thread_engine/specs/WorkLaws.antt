@@ -16,6 +16,7 @@ use Rattle.engine_laws.specs.WorkerMoves.{Hands, Fixed, asked, replied, fixed_of
 use Rattle.licence.specs.Licence.{Licensed}
 use Rattle.engine_laws.specs.Keys.{changes_on, posted_in}
 use Rattle.engine_laws.specs.KeyLaw.{KeyIs, key_view}
+use Rattle.core_worker.specs.declared.types.Answer.{Answer}
 use Rattle.core_worker.specs.Answering.{AddsAnswers}
 use Rattle.core_worker.specs.Beginning.{answers_of}
 use Rattle.core_worker.specs.WorkerMoves.{hands_of}
@@ -41,12 +42,15 @@ KeepsDoubts seat v = (k : ℕ) (d : Entry) → owner seat.place k ≡ seat.numbe
 abbrev pub hands_at : WorkState → Hands
 hands_at a = hands_of a.view a.worker
 
--- From one state to another the worker accepted these requests, in the order in which they waited, and fixed these answers, which it gives out. Each own key's requests are answered in the order of their arrival, and each own key is where its answers led it: their replies are those of its cell, and what a crash may show of it besides is its next change.
+-- From one state to another these requests joined those that waited, the worker accepted these, in the order in which they waited, and fixed these answers, which it hands over or has to give. Each own key's requests are answered in the order of their arrival, and each own key is where its answers led it: their replies are those of its cell, and what a crash may show of it besides is its next change.
 pub record WorksOff (seat : SeatAt) (a b : WorkState) : Type 0 where
+  pub joined : List (ℕ × Request)
   pub accepted : List (ℕ × Request)
   pub fixed : List Fixed
-  pub split : a.queue ≡ accepted ++ b.queue
-  pub answers : AddsAnswers (IsTelling b.region) (answers_of a.worker) (answers_of b.worker) fixed
+  pub given : List Answer
+  pub split : a.queue ++ joined ≡ accepted ++ b.queue
+  pub answers : AddsAnswers (IsTelling b.region) (answers_of a.worker)
+      (given ++ answers_of b.worker) fixed
   pub own : (y : Fixed) → In y fixed → owner seat.place (key_of y.request) ≡ seat.number
   pub order : (k : ℕ) → owner seat.place k ≡ seat.number
       → line_in (hands_at a) k ++ requests_for k accepted ≡ map asked (fixed_of k fixed)

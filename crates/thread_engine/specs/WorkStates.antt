@@ -1,5 +1,7 @@
 -- One core at work in a thread of its own: where it stands between two calls of its worker, and what leads it on.
-use Rattle.std.specs.Prelude.{Result, ◌≡◌, ◌⊎◌, ℕ, Bool, true, false, List, [], ◌∷◌, Option}
+use Rattle.std.specs.Prelude.{Result, ◌≡◌, ◌⊎◌, ℕ, Bool, true, false, List, [], ◌∷◌, ◌++◌, Option}
+use Rattle.std.specs.Global.{Global}
+use Rattle.std.specs.declared.collections.VecDeque.{VecDeque}
 use Rattle.fs_errors.specs.declared.Memory.{Memory}
 use Rattle.fs_model.specs.declared.model.Request.{Request}
 use Rattle.pm_region.specs.State.{State}
@@ -8,6 +10,7 @@ use Rattle.group_laws.specs.MemberViews.{View}
 use Rattle.group_board.specs.Seats.{SeatAt}
 use Rattle.group_board.specs.Trails.{TrailStep}
 use Rattle.batch_leader.specs.TurnSteps.{Trail, TurnSteps, trail_with}
+use Rattle.core_worker.specs.declared.types.Answer.{Answer}
 use Rattle.core_worker.specs.declared.types.Turn.{Turn}
 use Rattle.core_worker.specs.declared.worker.Worker.{Worker}
 use Rattle.core_worker.specs.Beginning.{answers_of}
@@ -94,11 +97,39 @@ pub record MakesTurn (seat : SeatAt) (refused : Bool) (a b : WorkState) : Type 0
 abbrev pub wound_down : WorkState → WorkState
 wound_down a = record a { worker = record a.worker { winds_down = true } }
 
--- One move of the core. `refused` says whether its gate may hold it back.
+-- more requests wait, behind those that did
+abbrev pub with_more : List (ℕ × Request) → WorkState → WorkState
+with_more xs a = record a { queue = a.queue ++ xs }
+
+-- its worker has these answers to give
+abbrev pub with_answers : VecDeque Answer Global → WorkState → WorkState
+with_answers xs a = record a { worker = record a.worker { answers = xs } }
+
+-- One move of the core. `refused` says whether its gate may hold it back. Between its worker's own moves requests join those that wait, and its answers are handed over.
 pub data Move (seat : SeatAt) (refused : Bool) (a b : WorkState) : Type 0 where
   accepts : Accepts seat a b → Move seat refused a b
   turns : MakesTurn seat refused a b → Move seat refused a b
   winds_down : b ≡ wound_down a → Move seat refused a b
+  joins : (xs : List (ℕ × Request)) → b ≡ with_more xs a → Move seat refused a b
+  hands_over : (none : VecDeque Answer Global) → none.items ≡ [] → b ≡ with_answers none a
+      → Move seat refused a b
+
+-- the requests that joined by one move, and the answers that it handed over
+abbrev pub joined_by : {seat : SeatAt} {refused : Bool} {a b : WorkState} → Move seat refused a b
+    → List (ℕ × Request)
+joined_by (accepts A) = []
+joined_by (turns T) = []
+joined_by (winds_down e) = []
+joined_by (joins xs e) = xs
+joined_by (hands_over none empty e) = []
+
+abbrev pub given_by : {seat : SeatAt} {refused : Bool} {a b : WorkState} → Move seat refused a b
+    → List Answer
+given_by {seat} {refused} {a} {b} (accepts A) = []
+given_by {seat} {refused} {a} {b} (turns T) = []
+given_by {seat} {refused} {a} {b} (winds_down e) = []
+given_by {seat} {refused} {a} {b} (joins xs e) = []
+given_by {seat} {refused} {a} {b} (hands_over none empty e) = answers_of a.worker
 
 -- Moves lead from a state over these to another, and the core is at work in each of them.
 abbrev pub Leads : SeatAt → Bool → WorkState → List WorkState → WorkState → Type 0
@@ -111,6 +142,38 @@ pub record Works (seat : SeatAt) (refused : Bool) (a b : WorkState) : Type 0 whe
   pub path : List WorkState
   pub leads : Leads seat refused a path b
 
+-- the requests that joined in a chain, and the answers that were handed over, in order
+abbrev pub joined_along : (seat : SeatAt) (refused : Bool) (a : WorkState) (path : List WorkState)
+    (b : WorkState) → Leads seat refused a path b → List (ℕ × Request)
+joined_along seat refused a [] b l = []
+joined_along seat refused a (x ∷ xs) b l = joined_by l.0 ++ joined_along seat refused x xs b l.2
+
+abbrev pub joined_in : (seat : SeatAt) (refused : Bool) (a b : WorkState) → Works seat refused a b
+    → List (ℕ × Request)
+joined_in seat refused a b w = joined_along seat refused a w.path b w.leads
+
+abbrev pub given_along : (seat : SeatAt) (refused : Bool) (a : WorkState) (path : List WorkState)
+    (b : WorkState) → Leads seat refused a path b → List Answer
+given_along seat refused a [] b l = []
+given_along seat refused a (x ∷ xs) b l = given_by l.0 ++ given_along seat refused x xs b l.2
+
+abbrev pub given_in : (seat : SeatAt) (refused : Bool) (a b : WorkState) → Works seat refused a b
+    → List Answer
+given_in seat refused a b w = given_along seat refused a w.path b w.leads
+
+-- one of the worker's own moves
+pub record OwnMove (seat : SeatAt) (refused : Bool) (a b : WorkState) : Type 0 where
+  pub move : Move seat refused a b
+  pub joins : joined_by move ≡ []
+  pub gives : given_by move ≡ []
+
+-- A chain in which these requests joined, and no answer was handed over.
+pub record WorksOn (seat : SeatAt) (refused : Bool) (more : List (ℕ × Request))
+    (a b : WorkState) : Type 0 where
+  pub works : Works seat refused a b
+  pub joins : joined_in seat refused a b works ≡ more
+  pub gives : given_in seat refused a b works ≡ []
+
 -- It leads nothing, and nothing of it is posted. Until it winds down each request that it was given is answered.
 pub record HasEnded (x : WorkState) : Type 0 where
   pub leads : is_leading x.worker.leading ≡ false
@@ -118,9 +181,10 @@ pub record HasEnded (x : WorkState) : Type 0 where
   pub pending : x.worker.winds_down ≡ false → is_pending x.worker ≡ false
   pub queue : x.worker.winds_down ≡ false → x.queue ≡ []
 
--- A job so far: its seat is where it was, its core is at work, and a chain of moves led it here.
+-- A job so far: its seat is where it was, its core is at work, and a chain of its worker's own moves led it here.
 pub record GoesOn {B P : Type 0} (seat : B → SeatAt) (sight : B → Sight) (state : P → State)
     (refused : Bool) (old new : CoreJob B P) : Type 0 where
   pub seat_is : seat new.seat ≡ seat old.seat
   pub work : IsAtWork (seat old.seat) (stands_at sight state new)
-  pub works : Works (seat old.seat) refused (stands_at sight state old) (stands_at sight state new)
+  pub works : WorksOn (seat old.seat) refused [] (stands_at sight state old)
+      (stands_at sight state new)

@@ -4,7 +4,7 @@ ghost use Rattle.std.specs.VecDeque.{deque_len, deque_capacity};
 ghost use Rattle.fs_model.specs.Cells.{key_of};
 ghost use Rattle.group_laws.specs.Places.{owner};
 ghost use Rattle.thread_engine.specs.declared.core_job.CoreJob as data_of;
-ghost use Rattle.thread_engine.specs.WorkStates.{IsAtWork, Accepts, MakesTurn, Move, Works, GoesOn, HasEnded, takes, sight_by, stands_at, with_next};
+ghost use Rattle.thread_engine.specs.WorkStates.{IsAtWork, Accepts, MakesTurn, OwnMove, WorksOn, GoesOn, HasEnded, takes, sight_by, stands_at, with_next};
 
 use core_worker::{Gate, Turn, Worker};
 use fs_errors::Memory;
@@ -95,7 +95,7 @@ impl<B: Board, P: Region> CoreJob<B, P> {
         ensures seat { B.seat self.new.seat ≡ B.seat self.old.seat }
         ensures work { IsAtWork (B.seat self.old.seat)
             (stands_at (sight_by B.view B.trail B.at) P.state self.new) }
-        ensures moves { Move (B.seat self.old.seat) (G.may_refuse gate.now)
+        ensures moves { OwnMove (B.seat self.old.seat) (G.may_refuse gate.now)
             (stands_at (sight_by B.view B.trail B.at) P.state self.old) (stands_at (sight_by B.view B.trail B.at) P.state self.new) }
     {
         if !is_open(&self.worker) {
@@ -114,7 +114,7 @@ impl<B: Board, P: Region> CoreJob<B, P> {
         ensures seat { self.new.seat ≡ self.old.seat }
         ensures work { IsAtWork (B.seat self.old.seat)
             (stands_at (sight_by B.view B.trail B.at) P.state self.new) }
-        ensures works { (refused : Bool) → Works (B.seat self.old.seat) refused
+        ensures works { (refused : Bool) → WorksOn (B.seat self.old.seat) refused []
             (stands_at (sight_by B.view B.trail B.at) P.state self.old) (stands_at (sight_by B.view B.trail B.at) P.state self.new) }
     {
         self.worker.wind_down();
@@ -127,7 +127,7 @@ impl<B: Board, P: Region> CoreJob<B, P> {
         ensures seat { self.new.seat ≡ self.old.seat }
         ensures work { IsAtWork (B.seat self.old.seat)
             (stands_at (sight_by B.view B.trail B.at) P.state self.new) }
-        ensures works { (refused : Bool) → Works (B.seat self.old.seat) refused
+        ensures works { (refused : Bool) → WorksOn (B.seat self.old.seat) refused []
             (stands_at (sight_by B.view B.trail B.at) P.state self.old) (stands_at (sight_by B.view B.trail B.at) P.state self.new) }
     {
         if !self.worker.winding_down() && short.load(Ordering::SeqCst) {
@@ -142,7 +142,7 @@ impl<B: Board, P: Region> CoreJob<B, P> {
         ensures seat { B.seat self.new.seat ≡ B.seat self.old.seat }
         ensures work { IsAtWork (B.seat self.old.seat)
             (stands_at (sight_by B.view B.trail B.at) P.state self.new) }
-        ensures works { Works (B.seat self.old.seat) (G.may_refuse gate.now)
+        ensures works { WorksOn (B.seat self.old.seat) (G.may_refuse gate.now) []
             (stands_at (sight_by B.view B.trail B.at) P.state self.old) (stands_at (sight_by B.view B.trail B.at) P.state self.new) }
     {
         match self.step(alloc, gate) {
@@ -180,7 +180,6 @@ impl<B: Board, P: Region> CoreJob<B, P> {
     /// Works the requests off, until all are answered and the worker leads nothing. It waits for nobody: where there is
     /// nothing to do it asks again. A worker that finds no memory says so to the others, and all of them finish what is
     /// posted or taken and begin nothing more.
-    #[tactic(auto, using(crate::proofs::WorkMoves::none_yet))]
     pub fn work<G: Gate>(&mut self, rt: &impl Wait, alloc: Global, gate: &G, short: &AtomicBool)
         requires { IsAtWork (B.seat self.old.seat)
             (stands_at (sight_by B.view B.trail B.at) P.state self.old) }

@@ -9,19 +9,20 @@ ghost use Rattle.core_worker.specs.declared.worker.Worker.{Worker};
 ghost use Rattle.group_engine.specs.Working.{IsMember};
 ghost use Rattle.thread_engine.specs.Pieces.{IsPieceOf, HasPart};
 ghost use Rattle.group_board.specs.Seats.{SeatAt};
-ghost use Rattle.thread_engine.specs.WorkStates.{WorkState, IsAtWork, Works, HasEnded};
+ghost use Rattle.thread_engine.specs.WorkStates.{WorkState, IsAtWork, Works, HasEnded, joined_in, given_in};
 ghost use Rattle.thread_engine.specs.WorkLaws.{KeepsDoubts, WorksOff, HasRested};
 ghost use Rattle.thread_engine.specs.CoreRuns.{fixed_in};
 
 use engine_laws::engine_rules;
 
-/// A chain of a core's moves, whatever the other cores of its group did between them: its requests are accepted in
+/// A chain of a core's moves, whatever the other cores of its group did between them: the requests that joined are accepted in
 /// their order, each key's are answered in the order of their arrival, and each key is where its answers led it.
 pub fn every_chain()
     ensures { (seat : SeatAt) (refused : Bool) (a b : WorkState)
         → IsAtWork seat a → KeepsDoubts seat a.view → (w : Works seat refused a b)
         → (x : WorksOff seat a b) × (x.fixed ≡ fixed_in seat refused a b w)
-        × KeepsDoubts seat b.view }
+        × KeepsDoubts seat b.view × (x.joined ≡ joined_in seat refused a b w)
+        × (x.given ≡ given_in seat refused a b w) }
 {
     engine_rules::every_key();
 }

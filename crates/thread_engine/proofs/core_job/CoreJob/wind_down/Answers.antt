@@ -1,11 +1,11 @@
 -- A worker that winds down is at work.
-use Rattle.std.proofs.Common.{sym, ◌∙◌, ap, subst}
+use Rattle.std.proofs.Common.{refl, sym, ◌∙◌, ap, subst}
 use Rattle.core_worker.specs.declared.worker.Worker.{Worker}
 use Rattle.core_worker.specs.Supplies.{HasKeptRoom}
 use Rattle.core_worker.proofs.Clients.{room_wound}
 use Rattle.thread_engine.specs.WorkStates.{WorkState, stands_at, sight_by}
 use Rattle.thread_engine.specs.WorkStates.Move.{winds_down}
-use Rattle.thread_engine.proofs.WorkMoves.{works_one}
+use Rattle.thread_engine.proofs.WorkMoves.{on_one}
 use Rattle.thread_engine.proofs.core_job.CoreJob.wind_down.Goals as goal
 
 pub returns-clause-work : goal.returns-clause-work
@@ -28,6 +28,6 @@ pub returns-clause-works : goal.returns-clause-works
 returns-clause-works g c refused =
     let a = stands_at (sight_by g.B.Board.view g.B.Board.trail g.B.Board.at) g.P.Region.state c.args.self.now in
     let b : WorkState = record a { worker = c.wind_down.new.self } in
-    works_one (g.B.Board.seat c.args.self.now.seat) refused a b
-    (winds_down (ap (λ (w : Worker). record { region = a.region; view = a.view; trail = a.trail; worker = w; queue = a.queue }) c.wind_down.ensures.winds))
+    on_one (g.B.Board.seat c.args.self.now.seat) refused a b
+    (record { move = winds_down (ap (λ (w : Worker). record { region = a.region; view = a.view; trail = a.trail; worker = w; queue = a.queue }) c.wind_down.ensures.winds); joins = refl; gives = refl })
     (returns-clause-work g c)
