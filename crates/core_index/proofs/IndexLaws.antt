@@ -15,9 +15,9 @@ use Rattle.core_index.specs.Slots.{Place, mortal, standee_with, count_dead, coun
 use Rattle.core_index.specs.Noted.{Book, Noted, NotedIfDead, count_lively, name_with}
 use Rattle.core_index.specs.declared.start_keys.StartKeys.{StartKeys}
 use Rattle.core_index.specs.declared.types.LiveKey.{LiveKey}
-use Rattle.core_index.specs.Lives.{live_key, live_place, bytes_in, placed_lives}
+use Rattle.core_index.specs.Lives.{entry_version, entry_home, live_key, live_place, bytes_in, placed_lives}
 use Rattle.core_index.specs.Starts.{started, IsAhead}
-use Rattle.core_index.specs.Tombs.{Tombs, key_of, name_of, left_of, place_of, tomb_places, found_at, passed_at, AreLess}
+use Rattle.core_index.specs.Tombs.{tomb_version, tomb_home, Tombs, key_of, name_of, left_of, place_of, tomb_places, found_at, passed_at, AreLess}
 use Rattle.log_entry.specs.declared.entry.Body.{Body}
 use Rattle.core_index.specs.Index.{place_at, known_in, room_in, known_at, room_at, mortal_in, all_mortal, all_untold, all_places, Step, Changes, ToldAt, TurnsAt, StartTurns, IsCompact, IsCompactLive, Admits, HasNoneAbove, EntersAs, Entering, opened_in, IsIndex}
 use Rattle.core_index.proofs.TombLaws.{placed_found, more_here, more_other, more_ahead, own_ahead, with_more, waits_own}
@@ -140,12 +140,12 @@ takes_noted a d b c home n taken ahead h m waits = ⊎_elim
     waits
 
 abbrev pub Passes : StartKeys → StartKeys → ℕ → Tombstone → Type 0
-Passes a d home t = (h : ℕ) (m : EntryName) → IsAhead a h m → ((h ≡ home) × (m ≡ name_of t) × (t.home ≡ home)) ⊎ IsAhead d h m
+Passes a d home t = (h : ℕ) (m : EntryName) → IsAhead a h m → ((h ≡ home) × (m ≡ name_of t) × ((tomb_home t) ≡ home)) ⊎ IsAhead d h m
 
 pub takes_passed : (a d e : StartKeys) (b : Book) (home : ℕ) (t : Tombstone) → Passes a d home t → KeepsAhead d e → Takes b a b e home (name_of t)
 takes_passed a d e b home t passes ahead h m waits = ⊎_elim
     (λ (noted : Noted b h m). inr (inl noted))
-    (λ (far : IsAhead a h m). ⊎_elim (λ (own : (h ≡ home) × (m ≡ name_of t) × (t.home ≡ home)). inl (own.0, own.1)) (λ (still : IsAhead d h m). inr (inr (ahead h m still))) (passes h m far))
+    (λ (far : IsAhead a h m). ⊎_elim (λ (own : (h ≡ home) × (m ≡ name_of t) × ((tomb_home t) ≡ home)). inl (own.0, own.1)) (λ (still : IsAhead d h m). inr (inr (ahead h m still))) (passes h m far))
     waits
 
 not_this : (es : List (ℕ × Place)) (a : StartKeys) (home : ℕ) (n : EntryName) (k v h : ℕ) → (Awaits (known_at (all_places es a) n.key) home n.version → ⊥) → h ≡ home → name_with k v ≡ n → Awaits (known_at (all_places es a) k) h v → ⊥
@@ -163,12 +163,12 @@ passed_index es a b c home n is taken spare none = record {
   spare = let s = is.spare in omega (arith, s, spare);
 }
 
-pub skipped_index : (es : List (ℕ × Place)) (a d : StartKeys) (b : Book) (home : ℕ) (t : Tombstone) → IsIndex es a b → Passes a d home t → started d ≡ started a → (t.home ≡ home → Awaits (known_at (all_places es d) (key_of t)) home t.version → ⊥) → IsIndex es d b
+pub skipped_index : (es : List (ℕ × Place)) (a d : StartKeys) (b : Book) (home : ℕ) (t : Tombstone) → IsIndex es a b → Passes a d home t → started d ≡ started a → ((tomb_home t) ≡ home → Awaits (known_at (all_places es d) (key_of t)) home (tomb_version t) → ⊥) → IsIndex es d b
 skipped_index es a d b home t is passes same none = record {
   noted = λ k v h waits. ⊎_elim
       (λ (noted : Noted b h (name_with k v)). inl noted)
       (λ (far : IsAhead a h (name_with k v)). ⊎_elim
-      (λ (own : (h ≡ home) × (name_with k v ≡ name_of t) × (t.home ≡ home)). absurd (not_this es d home (name_of t) k v h (none own.2) own.0 own.1 waits))
+      (λ (own : (h ≡ home) × (name_with k v ≡ name_of t) × ((tomb_home t) ≡ home)). absurd (not_this es d home (name_of t) k v h (none own.2) own.0 own.1 waits))
       (λ (still : IsAhead d h (name_with k v)). inr still)
       (passes h (name_with k v) far))
       (is.noted k v h (subst (λ (ps : List (ℕ × Place)). Awaits (known_at (es ++ ps) k) h v) same waits));
@@ -274,20 +274,20 @@ compact_enters es a k v known t is =
       room = λ j ne. ap room_in (more_places es a k v known t is j ne);
     }
 
-pub compact_index : (es : List (ℕ × Place)) (a : StartKeys) (b : Book) (k v : ℕ) (known : KeyRecord) (t : Tombstone) → IsCompact es a k v known t → passed_at a.deleted t.home ≤ length a.deleted.items → IsIndex es a b → IsIndex es (with_deleted a t) b
+pub compact_index : (es : List (ℕ × Place)) (a : StartKeys) (b : Book) (k v : ℕ) (known : KeyRecord) (t : Tombstone) → IsCompact es a k v known t → passed_at a.deleted (tomb_home t) ≤ length a.deleted.items → IsIndex es a b → IsIndex es (with_deleted a t) b
 compact_index es a b k v known t compact le is = record {
   noted = λ j w h waits. ⊎_elim
       (λ (e : j ≡ k).
       let here : known_at (all_places es (with_deleted a t)) j ≡ left_of t = ap (known_at (all_places es (with_deleted a t))) e ∙ ap known_in (more_known es a k v known t compact) in
-      let own = waits_own t.fate t.version t.home h w (subst (λ (o : Option KeyRecord). Awaits o h w) here waits) in
-      let name : name_with (key_of t) t.version ≡ name_with j w = λ i. name_with ((compact.key ∙ sym e) i) (own.version i) in
-      inr (subst (λ (x : ℕ). IsAhead (with_deleted a t) x (name_with j w)) own.home_is (subst (IsAhead (with_deleted a t) t.home) name (own_ahead a.deleted t le))))
+      let own = waits_own t.fate (tomb_version t) (tomb_home t) h w (subst (λ (o : Option KeyRecord). Awaits o h w) here waits) in
+      let name : name_with (key_of t) (tomb_version t) ≡ name_with j w = λ i. name_with ((compact.key ∙ sym e) i) (own.version i) in
+      inr (subst (λ (x : ℕ). IsAhead (with_deleted a t) x (name_with j w)) own.home_is (subst (IsAhead (with_deleted a t) (tomb_home t)) name (own_ahead a.deleted t le))))
       (λ (ne : j ≢ k). still_waiting a (with_deleted a t) b b (λ i n noted. noted) (more_ahead a.deleted t) h (name_with j w) (is.noted j w h (subst (λ (o : Option KeyRecord). Awaits o h w) (ap known_in (more_places es a k v known t compact j ne)) waits)))
       (cases_eq j k);
   spare = is.spare;
 }
 
-pub pushed_index : {T E : Type 0} (r : Result T E) (es : List (ℕ × Place)) (a d : StartKeys) (b : Book) (k v : ℕ) (known : KeyRecord) (t : Tombstone) → IsCompact es a k v known t → passed_at a.deleted t.home ≤ length a.deleted.items → OnOk r (d ≡ with_deleted a t) → OnErr r (d ≡ a) → IsIndex es a b → IsIndex es d b
+pub pushed_index : {T E : Type 0} (r : Result T E) (es : List (ℕ × Place)) (a d : StartKeys) (b : Book) (k v : ℕ) (known : KeyRecord) (t : Tombstone) → IsCompact es a k v known t → passed_at a.deleted (tomb_home t) ≤ length a.deleted.items → OnOk r (d ≡ with_deleted a t) → OnErr r (d ≡ a) → IsIndex es a b → IsIndex es d b
 pushed_index (Ok x) es a d b k v known t compact le ok err is = subst (λ (y : StartKeys). IsIndex es y b) (sym ok) (compact_index es a b k v known t compact le is)
 pushed_index (Err e) es a d b k v known t compact le ok err is = subst (λ (y : StartKeys). IsIndex es y b) (sym err) is
 
@@ -320,7 +320,7 @@ same_ahead a d same = λ h n far. subst (λ (ts : Tombs). IsAhead (record { live
 live_index : (es : List (ℕ × Place)) (a d : StartKeys) (b : Book) (k : ℕ) (body : Body) (known : KeyRecord) (x : LiveKey) → IsCompactLive es a k body known x → TakesLive a d x body → d.deleted ≡ a.deleted → IsIndex es a b → IsIndex es d b
 live_index es a d b k body known x compact turns same is = index_same es es a d b b k is
     (λ j ne. ap known_in (live_others es a d k body known x compact turns j ne))
-    (λ v h waits. absurd (value_waits (a.live.bytes ++ bytes_in body) x.held x.fate x.version x.home h v (subst (λ (o : Option KeyRecord). Awaits o h v) (ap known_in (live_there es a d k body known x compact turns)) waits)))
+    (λ v h waits. absurd (value_waits (a.live.bytes ++ bytes_in body) x.held x.fate (entry_version x) (entry_home x) h v (subst (λ (o : Option KeyRecord). Awaits o h v) (ap known_in (live_there es a d k body known x compact turns)) waits)))
     (λ h n noted. noted)
     (same_ahead a d same)
     is.spare

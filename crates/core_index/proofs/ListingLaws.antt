@@ -19,7 +19,7 @@ use Rattle.core_index.specs.declared.types.LiveKey.{LiveKey}
 use Rattle.core_index.specs.declared.start_keys.StartKeys.{StartKeys}
 use Rattle.core_index.specs.Records.{live_version, is_tombstone}
 use Rattle.core_index.specs.Slots.{Place}
-use Rattle.core_index.specs.Lives.{live_key, live_at, valued, valued_by, body_in, KeysRise}
+use Rattle.core_index.specs.Lives.{entry_version, entry_home, live_key, live_at, valued, valued_by, body_in, KeysRise}
 use Rattle.core_index.specs.Starts.{started}
 use Rattle.core_index.specs.Listing.{version_by, version_left, start_names}
 use Rattle.core_index.specs.Noted.{name_with}
@@ -150,9 +150,9 @@ none_there : (es : List (ℕ × Place)) (xs : List LiveKey) → AllByRecursion (
 none_there es [] = tt
 none_there es (x ∷ xs) = by (is_some (place_at es (live_key x))) refl (none_there es xs)
   where
-    by : (b : Bool) → is_some (place_at es (live_key x)) ≡ b → AllByRecursion (λ k. is_some (place_at es k) ≡ false) (keys_in (start_names es xs)) → AllByRecursion (λ k. is_some (place_at es k) ≡ false) (keys_in (live_name (live_key x) (cond b None (version_by x.fate x.version)) ++ start_names es xs))
+    by : (b : Bool) → is_some (place_at es (live_key x)) ≡ b → AllByRecursion (λ k. is_some (place_at es k) ≡ false) (keys_in (start_names es xs)) → AllByRecursion (λ k. is_some (place_at es k) ≡ false) (keys_in (live_name (live_key x) (cond b None (version_by x.fate (entry_version x))) ++ start_names es xs))
     by true is rest = rest
-    by false is rest = all_own (λ k. is_some (place_at es k) ≡ false) (live_key x) (version_by x.fate x.version) (start_names es xs) is rest
+    by false is rest = all_own (λ k. is_some (place_at es k) ≡ false) (live_key x) (version_by x.fate (entry_version x)) (start_names es xs) is rest
 
 all_among : (P : ℕ → Type 0) (ns : List EntryName) → ((n : EntryName) → Among ns n → P n.key) → AllByRecursion P (keys_in ns)
 all_among P [] each = tt
@@ -217,18 +217,18 @@ rising_names es xs ns sorted rises moved order = IsStrictlyIncreasing-from_disti
 
 -- What is listed lives, and the other way round.
 
-pub live_valued : (bytes : List ℕ) (x : LiveKey) → live_version (valued bytes x) ≡ version_by x.fate x.version
+pub live_valued : (bytes : List ℕ) (x : LiveKey) → live_version (valued bytes x) ≡ version_by x.fate (entry_version x)
 live_valued bytes x = by x.fate
   where
-    by : (f : LiveFate) → live_version (valued_by f x.version x.home (body_in bytes x.held)) ≡ version_by f x.version
-    by Stands = cond-false (is_tombstone (body_in bytes x.held)) None (Some x.version) (no_tombstone bytes x.held)
-    by Gone = cond-false (is_tombstone (body_in bytes x.held)) None (Some x.version) (no_tombstone bytes x.held)
+    by : (f : LiveFate) → live_version (valued_by f (entry_version x) (entry_home x) (body_in bytes x.held)) ≡ version_by f (entry_version x)
+    by Stands = cond-false (is_tombstone (body_in bytes x.held)) None (Some (entry_version x)) (no_tombstone bytes x.held)
+    by Gone = cond-false (is_tombstone (body_in bytes x.held)) None (Some (entry_version x)) (no_tombstone bytes x.held)
     by Moved = refl
 
 record IsStarted (es : List (ℕ × Place)) (xs : List LiveKey) (k v : ℕ) : Type 0 where
   found : LiveKey
   has : Some found ≡ live_at xs k
-  version : version_by found.fate found.version ≡ Some v
+  version : version_by found.fate (entry_version found) ≡ Some v
   new : place_at es k ≡ None
 
 started_listed : (es : List (ℕ × Place)) (xs : List LiveKey) (k v : ℕ) → IsStarted es xs k v → Among (start_names es xs) (name_with k v)
@@ -240,7 +240,7 @@ started_listed es xs k v is = by xs is.has
         (λ (e : live_key y ≡ k).
         let same : is.found ≡ y = cc (has ∙ cond-true (live_key y == k) (Some y) (live_at ys k) (eq-eqb (live_key y) k e)) in
         let none : is_some (place_at es (live_key y)) ≡ false = ap (λ (j : ℕ). is_some (place_at es j)) e ∙ ap is_some is.new in
-        let version : version_left es y ≡ Some v = cond-false (is_some (place_at es (live_key y))) None (version_by y.fate y.version) none ∙ ap (λ (x : LiveKey). version_by x.fate x.version) (sym same) ∙ is.version in
+        let version : version_left es y ≡ Some v = cond-false (is_some (place_at es (live_key y))) None (version_by y.fate (entry_version y)) none ∙ ap (λ (x : LiveKey). version_by x.fate (entry_version x)) (sym same) ∙ is.version in
         among_left (live_name (live_key y) (version_left es y)) (start_names es ys) (name_with k v) (subst (λ (o : Option ℕ). Among (live_name (live_key y) o) (name_with k v)) (sym version) (inl (ap (λ (j : ℕ). name_with j v) e))))
         (λ (ne : live_key y ≢ k). among_right (live_name (live_key y) (version_left es y)) (start_names es ys) (name_with k v) (by ys (has ∙ cond-false (live_key y == k) (Some y) (live_at ys k) (ne_eqb (live_key y) k ne))))
         (cases_eq (live_key y) k)
@@ -263,11 +263,11 @@ listed_started es (x ∷ xs) k v rises has = ⊎_elim
     (among_parts (live_name (live_key x) (version_left es x)) (start_names es xs) (name_with k v) has)
   where
     by : live_key x ≡ k → (o : Option Place) → place_at es (live_key x) ≡ o → version_left es x ≡ Some v → IsStarted es (x ∷ xs) k v
-    by e (Some p) at is = let none : version_left es x ≡ None = ap (λ (o : Option Place). cond (is_some o) None (version_by x.fate x.version)) at in absurd (cc (none, is))
+    by e (Some p) at is = let none : version_left es x ≡ None = ap (λ (o : Option Place). cond (is_some o) None (version_by x.fate (entry_version x))) at in absurd (cc (none, is))
     by e None at is = record {
       found = x;
       has = sym (cond-true (live_key x == k) (Some x) (live_at xs k) (eq-eqb (live_key x) k e));
-      version = sym (ap (λ (o : Option Place). cond (is_some o) None (version_by x.fate x.version)) at) ∙ is;
+      version = sym (ap (λ (o : Option Place). cond (is_some o) None (version_by x.fate (entry_version x))) at) ∙ is;
       new = ap (place_at es) (sym e) ∙ at;
     }
 

@@ -20,7 +20,7 @@ use Rattle.core_index.specs.declared.types.Look.{Look}
 use Rattle.core_index.specs.declared.types.Standing.{Standing}
 use Rattle.core_index.specs.Records.{KeyRecord, Shows, ShowsBody, is_dead, is_tombstone, stands_alone, standing_at, standing_with, without}
 use Rattle.core_index.specs.Slots.{Place, alive_at, home_in, count_of}
-use Rattle.core_index.specs.Lives.{AreLives, live_key, body_in, IsWithin, valued, valued_by, IsStanding, live_place, live_at, places_of, with_live_fate, turned, AllLess, KeysRise, IsNotThere}
+use Rattle.core_index.specs.Lives.{entry_version, entry_home, AreLives, live_key, body_in, IsWithin, valued, valued_by, IsStanding, live_place, live_at, places_of, with_live_fate, turned, AllLess, KeysRise, IsNotThere}
 use Rattle.core_index.specs.Index.{place_at, known_in, room_in, known_at, room_at, untold_in, untold_of, all_untold, gone_place, cleared, TurnsAt}
 use Rattle.core_index.proofs.StepLaws.{apart}
 
@@ -182,7 +182,7 @@ less_absent (x ∷ xs) k less = cond-false (live_key x == k) (Some x) (live_at x
 -- The bytes of a value stay where they are when others come behind them.
 
 abbrev pub bare_live : LiveKey
-bare_live = record { high = 0; low = 0; version = 0; home = 0; fate = Moved; held = InBlock 0 }
+bare_live = record { high = 0; low = 0; version_low = 0; version_and_home = 0; fate = Moved; held = InBlock 0 }
 
 part_more : (bytes more : List ℕ) (start size : ℕ) → start + size ≤ length bytes → take size (drop start (bytes ++ more)) ≡ take size (drop start bytes)
 part_more bytes more start size le = ap (take size) (drop-append-le start bytes more (omega (arith, le))) ∙ take-append-le size (drop start bytes) more (omega (arith, le, length-drop start bytes))
@@ -201,7 +201,7 @@ all_within bytes more (x ∷ xs) all = (within_more bytes more x.held all.0, all
 
 pub places_more : (bytes more : List ℕ) (xs : List LiveKey) → AllByRecursion (λ (x : LiveKey). IsWithin bytes x.held) xs → places_of (bytes ++ more) xs ≡ places_of bytes xs
 places_more bytes more [] all = refl
-places_more bytes more (x ∷ xs) all = λ i. (live_key x, record { known = valued_by x.fate x.version x.home (body_more bytes more x.held all.0 i); room = 0 }) ∷ places_more bytes more xs all.1 i
+places_more bytes more (x ∷ xs) all = λ i. (live_key x, record { known = valued_by x.fate (entry_version x) (entry_home x) (body_more bytes more x.held all.0 i); room = 0 }) ∷ places_more bytes more xs all.1 i
 
 pub more_lives : (xs : List LiveKey) (bytes more : List ℕ) → AreLives xs bytes → AreLives xs (bytes ++ more)
 more_lives xs bytes more are = record { rising = are.rising; within = all_within bytes more xs are.within }
@@ -250,10 +250,10 @@ gone_valued Stands v home w b e there = ap (λ (c : Bool). Some (record { versio
 gone_valued Gone v home w b e there = absurd there
 gone_valued Moved v home w b e there = absurd there
 
-pub live_gone : (bytes : List ℕ) (xs : List LiveKey) (k w : ℕ) (x : LiveKey) → Some x ≡ live_at xs k → x.version ≡ w → IsStanding x.fate → TurnsAt (places_of bytes xs) (places_of bytes (turned xs k Gone)) k (option_map (gone_place w) (place_at (places_of bytes xs) k))
+pub live_gone : (bytes : List ℕ) (xs : List LiveKey) (k w : ℕ) (x : LiveKey) → Some x ≡ live_at xs k → entry_version x ≡ w → IsStanding x.fate → TurnsAt (places_of bytes xs) (places_of bytes (turned xs k Gone)) k (option_map (gone_place w) (place_at (places_of bytes xs) k))
 live_gone bytes xs k w x is e there = turned_turns bytes xs k Gone (option_map (gone_place w) (place_at (places_of bytes xs) k)) (
     ap (λ (o : Option LiveKey). option_map (live_place bytes) (option_map (with_live_fate Gone) o)) (sym is)
-    ∙ ap (λ (o : Option KeyRecord). Some (record { known = o; room = 0 })) (gone_valued x.fate x.version x.home w (body_in bytes x.held) e there)
+    ∙ ap (λ (o : Option KeyRecord). Some (record { known = o; room = 0 })) (gone_valued x.fate (entry_version x) (entry_home x) w (body_in bytes x.held) e there)
     ∙ ap (λ (o : Option LiveKey). option_map (gone_place w) (option_map (live_place bytes) o)) is
     ∙ ap (option_map (gone_place w)) (sym (placed_found bytes xs k)))
 

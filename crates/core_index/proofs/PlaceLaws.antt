@@ -16,7 +16,7 @@ use Rattle.core_index.proofs.LiveLaws.{less_absent}
 use Rattle.core_index.proofs.StandingLaws.{count_added, fewer_others}
 use Rattle.log_entry.specs.declared.entry.Body.{Body}
 use Rattle.core_index.specs.Lives.{AllLess}
-use Rattle.core_index.specs.Tombs.{key_of, left_of, AreLess}
+use Rattle.core_index.specs.Tombs.{tomb_home, tomb_version, key_of, left_of, AreLess}
 
 pub place_there : (es : List (ℕ × Place)) (a : StartKeys) (k : ℕ) (p : Place) → place_at es k ≡ Some p → place_at (all_places es a) k ≡ Some p
 place_there es a k p is = place_both es (started a) k ∙ ap (λ (o : Option Place). over o (place_at (started a) k)) is
@@ -235,7 +235,7 @@ only_else es a b k dead none kept = λ w home after.
     inl (subst (λ (o : Option KeyRecord). Awaits o home w) (sym (known_else es a k none)) (kept home w (subst (λ (o : Option KeyRecord). Awaits o home w) (known_else es b k none) after)))
 
 -- what fits into the list of deleted keys
-pub all_fit : (r : Option Tombstone) (es : List (ℕ × Place)) (a : StartKeys) (k v : ℕ) (known : KeyRecord) → place_at es k ≡ None → AllLess a.live.items k → AreLess a.deleted.items k → IfSome r (λ t. key_of t ≡ k) → IfSome r (λ t. t.home < 16) → IfSome r (λ t. left_of t ≡ Some known) → IfSome r (λ t. t.version ≡ v) → IfSome r (IsCompact es a k v known)
+pub all_fit : (r : Option Tombstone) (es : List (ℕ × Place)) (a : StartKeys) (k v : ℕ) (known : KeyRecord) → place_at es k ≡ None → AllLess a.live.items k → AreLess a.deleted.items k → IfSome r (λ t. key_of t ≡ k) → IfSome r (λ t. tomb_home t < 16) → IfSome r (λ t. left_of t ≡ Some known) → IfSome r (λ t. tomb_version t ≡ v) → IfSome r (IsCompact es a k v known)
 all_fit None es a k v known new apart above key home left version = tt
 all_fit (Some t) es a k v known new apart above key home left version = record {
   new = new;

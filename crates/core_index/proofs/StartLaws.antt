@@ -15,8 +15,8 @@ use Rattle.core_index.specs.declared.types.Fate.TheVariants as fates
 use Rattle.core_index.proofs.DeadLaws.{alive_none}
 use Rattle.core_index.specs.Records.{KeyRecord, Awaits, is_dead, is_dead_in, is_empty, is_forgettable, stands_alone, standing_at, standing_with, without}
 use Rattle.core_index.specs.Slots.{Place, count_of, alive_at}
-use Rattle.core_index.specs.Tombs.{Tombs, tomb_places, place_of, found_at, left_by, deleted}
-use Rattle.core_index.specs.Lives.{Lives, body_in, valued, valued_by, live_place, live_at, placed_lives}
+use Rattle.core_index.specs.Tombs.{tomb_version, tomb_home, Tombs, tomb_places, place_of, found_at, left_by, deleted}
+use Rattle.core_index.specs.Lives.{entry_version, entry_home, Lives, body_in, valued, valued_by, live_place, live_at, placed_lives}
 use Rattle.core_index.specs.Starts.{started, IsAhead}
 use Rattle.core_index.specs.Index.{place_at, known_in, room_in, known_at, room_at, over, untold_of, untold_by, all_untold, gone_place, cleared, TurnsAt, Turns, StartTurns}
 use Rattle.core_index.proofs.OverLaws.{place_both, first_place, both_kept, untold_both}
@@ -75,7 +75,7 @@ live_waits a k home w waits = by (live_at a.items k) (subst (λ (o : Option Plac
   where
     by : (o : Option LiveKey) → Awaits (known_in (option_map (live_place a.bytes) o)) home w → ⊥
     by None waits = none_waits home w waits
-    by (Some x) waits = value_waits a.bytes x.held x.fate x.version x.home home w waits
+    by (Some x) waits = value_waits a.bytes x.held x.fate (entry_version x) (entry_home x) home w waits
 
 abbrev pub StaysAhead : StartKeys → StartKeys → Type 0
 StaysAhead a b = (home : ℕ) (n : EntryName) → IsAhead a home n → IsAhead b home n
@@ -135,7 +135,7 @@ deleted_alive ts k = ap (λ (o : Option Place). count_of (alive_at (known_in o))
   where
     by : (o : Option Tombstone) → count_of (alive_at (known_in (option_map place_of o))) ≡ 0
     by None = refl
-    by (Some t) = left_mortal t.fate t.version t.home
+    by (Some t) = left_mortal t.fate (tomb_version t) (tomb_home t)
 
 -- a key with a value that is added
 pub added_live : (a : StartKeys) (l : Lives) (k : ℕ) (p : Place) → TurnsAt (placed_lives a.live) (placed_lives l) k (Some p) → TurnsAt (started a) (started (record { live = l; deleted = a.deleted })) k (Some p)
@@ -176,3 +176,11 @@ start_fewer a b k one two =
     let at = ap (λ (o : Option Place). untold_by (known_in o)) (place_both (placed_lives a.live) (tomb_places a.deleted.items) k) in
     let few = over_untold (place_at (placed_lives a.live) k) (place_at (tomb_places a.deleted.items) k) in
     omega (arith, one, two, x, y, at, few)
+
+-- no entry is dead where the list of deleted keys has none
+pub none_dead : (a : StartKeys) (k w : ℕ) → is_dead_in (known_at (tomb_places a.deleted.items) k) w ≡ false → is_dead_in (known_at (started a) k) w ≡ false
+none_dead a k w none = by (live_at a.live.items k) refl
+  where
+    by : (o : Option LiveKey) → o ≡ live_at a.live.items k → is_dead_in (known_at (started a) k) w ≡ false
+    by None is = ap (λ (r : Option KeyRecord). is_dead_in r w) (known_deleted a k is) ∙ none
+    by (Some x) is = ap (λ (r : Option KeyRecord). is_dead_in r w) (known_live a k x is) ∙ never_dead a.live.bytes x.held x.fate (entry_version x) (entry_home x) w

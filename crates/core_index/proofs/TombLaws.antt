@@ -18,7 +18,7 @@ use Rattle.core_index.specs.declared.types.Tombstone.{Tombstone}
 use Rattle.core_index.specs.Records.{KeyRecord, Awaits, Shows, standing_at, standing_with, told_in, without, live_version, count_untold, standing_of}
 use Rattle.core_index.specs.Slots.{Place}
 use Rattle.core_index.specs.Noted.{name_with}
-use Rattle.core_index.specs.Tombs.{Tombs, key_of, left_of, left_by, deleted, IsThere, place_of, tomb_places, found_at, fated, with_fate, AreLess, Rising, IsMissing, AreTombs, Ahead, passed_at, bare_tombstone}
+use Rattle.core_index.specs.Tombs.{tomb_home, tomb_version, Tombs, key_of, left_of, left_by, deleted, IsThere, place_of, tomb_places, found_at, fated, with_fate, AreLess, Rising, IsMissing, AreTombs, Ahead, passed_at, bare_tombstone}
 use Rattle.core_index.specs.Index.{place_at, known_in, room_in, known_at, room_at, untold_in, untold_of, all_untold, ToldAt, Turns}
 use Rattle.core_index.proofs.StepLaws.{apart}
 
@@ -127,7 +127,7 @@ none_live ts k = ap (λ (o : Option Place). live_version (known_in o)) (placed_f
   where
     by : (o : Option Tombstone) → live_version (known_in (option_map place_of o)) ≡ None
     by None = refl
-    by (Some t) = left_dead t.fate t.version t.home
+    by (Some t) = left_dead t.fate (tomb_version t) (tomb_home t)
 
 -- An entry that has another fate.
 
@@ -170,7 +170,7 @@ length_fated (t ∷ ts) k f = by (key_of t == k) (length_fated ts k f)
 pub fated_tombs : (ts : List Tombstone) (passed : List ℕ) (k : ℕ) (f : Fate) → AreTombs ts passed → AreTombs (fated ts k f) passed
 fated_tombs ts passed k f is = record {
   rising = rising_fated ts k f is.rising;
-  homes = all_fated (λ (t : Tombstone). t.home < 16) ts k f (λ t lt. lt) is.homes;
+  homes = all_fated (λ (t : Tombstone). (tomb_home t) < 16) ts k f (λ t lt. lt) is.homes;
   within = subst (λ (m : ℕ). AllByRecursion (λ (n : ℕ). n ≤ m) passed) (sym (length_fated ts k f)) is.within;
 }
 
@@ -195,8 +195,8 @@ fated_other (t ∷ ts) k j f ne = by (key_of t == k) refl (fated_other ts k j f 
 
 record SameName (x y : Tombstone) : Type 0 where
   key : key_of x ≡ key_of y
-  version : x.version ≡ y.version
-  home : x.home ≡ y.home
+  version : (tomb_version x) ≡ (tomb_version y)
+  home : (tomb_home x) ≡ (tomb_home y)
 
 same_name : (ts : List Tombstone) (k : ℕ) (f : Fate) (i : ℕ) (d : Tombstone) → SameName (get_or (fated ts k f) i d) (get_or ts i d)
 same_name [] k f i d = record { key = refl; version = refl; home = refl }
@@ -239,7 +239,7 @@ fated_fewer (x ∷ ts) k t is new = by (key_of x == k) is (fated_fewer ts k t)
     by : (b : Bool) → cond b (Some x) (found_at ts k) ≡ Some t → (found_at ts k ≡ Some t → t.fate ≡ Untold → all_untold (tomb_places (fated ts k Told)) + 1 ≡ all_untold (tomb_places ts)) → all_untold (tomb_places (cond b (with_fate Told x ∷ ts) (x ∷ fated ts k Told))) + 1 ≡ all_untold (tomb_places (x ∷ ts))
     by true at rest =
         let e : x ≡ t = cc at in
-        let one : untold_in (place_of x) ≡ 1 = ap (λ (f : Fate). count_untold (standing_of (left_by f x.version x.home))) (ap (λ (y : Tombstone). y.fate) e ∙ new) in
+        let one : untold_in (place_of x) ≡ 1 = ap (λ (f : Fate). count_untold (standing_of (left_by f (tomb_version x) (tomb_home x)))) (ap (λ (y : Tombstone). y.fate) e ∙ new) in
         let a = sum_by-cons untold_in (place_of (with_fate Told x)) (values_of (tomb_places ts)) in
         let b = sum_by-cons untold_in (place_of x) (values_of (tomb_places ts)) in
         omega (arith, a, b, one)
@@ -291,10 +291,10 @@ within_more : (passed : List ℕ) (m n : ℕ) → m ≤ n → AllByRecursion (λ
 within_more [] m n le all = tt
 within_more (x ∷ passed) m n le all = ((let own = all.0 in omega (arith, own, le)), within_more passed m n le all.1)
 
-pub pushed_tombs : (ts : List Tombstone) (passed : List ℕ) (t : Tombstone) → AreTombs ts passed → AreLess ts (key_of t) → t.home < 16 → AreTombs (ts ++ t ∷ []) passed
+pub pushed_tombs : (ts : List Tombstone) (passed : List ℕ) (t : Tombstone) → AreTombs ts passed → AreLess ts (key_of t) → (tomb_home t) < 16 → AreTombs (ts ++ t ∷ []) passed
 pushed_tombs ts passed t is less home = record {
   rising = rising_more ts t is.rising less;
-  homes = all_more (λ (x : Tombstone). x.home < 16) ts t is.homes home;
+  homes = all_more (λ (x : Tombstone). (tomb_home x) < 16) ts t is.homes home;
   within = let longer = length-append ts (t ∷ []) in within_more passed (length ts) (length (ts ++ t ∷ [])) (omega (arith, longer)) is.within;
 }
 
@@ -333,11 +333,11 @@ more_ahead a t home n is =
       from = is.from;
       within = omega (arith, longer, lt);
       key = ap key_of same ∙ is.key;
-      version = ap (λ (x : Tombstone). x.version) same ∙ is.version;
-      home_is = ap (λ (x : Tombstone). x.home) same ∙ is.home_is;
+      version = ap tomb_version same ∙ is.version;
+      home_is = ap tomb_home same ∙ is.home_is;
     }
 
-pub own_ahead : (a : Tombs) (t : Tombstone) → passed_at a t.home ≤ length a.items → Ahead (with_more a t) t.home (name_with (key_of t) t.version)
+pub own_ahead : (a : Tombs) (t : Tombstone) → passed_at a (tomb_home t) ≤ length a.items → Ahead (with_more a t) (tomb_home t) (name_with (key_of t) (tomb_version t))
 own_ahead a t le =
     let same = at_end a.items t bare_tombstone in
     let longer = length-append a.items (t ∷ []) in
@@ -346,8 +346,8 @@ own_ahead a t le =
       from = le;
       within = omega (arith, longer);
       key = ap key_of same;
-      version = ap (λ (x : Tombstone). x.version) same;
-      home_is = ap (λ (x : Tombstone). x.home) same;
+      version = ap tomb_version same;
+      home_is = ap tomb_home same;
     }
 
 -- A key that a home was asked about.
@@ -363,8 +363,8 @@ passed_tombs ts passed home is lt = record { rising = is.rising; homes = is.home
     by (x ∷ ps) zero n all le = (le, all.1)
     by (x ∷ ps) (suc i) n all le = (all.0, by ps i n all.1 le)
 
-pub none_far : (a : Tombs) (home : ℕ) (n : EntryName) → AllByRecursion (λ (t : Tombstone). t.home < 16) a.items → 16 ≤ home → Ahead a home n → ⊥
-none_far a home n homes far is = let lt = all_at (λ (t : Tombstone). t.home < 16) a.items is.at bare_tombstone homes is.within in let e = is.home_is in omega (arith, lt, e, far)
+pub none_far : (a : Tombs) (home : ℕ) (n : EntryName) → AllByRecursion (λ (t : Tombstone). (tomb_home t) < 16) a.items → 16 ≤ home → Ahead a home n → ⊥
+none_far a home n homes far is = let lt = all_at (λ (t : Tombstone). (tomb_home t) < 16) a.items is.at bare_tombstone homes is.within in let e = is.home_is in omega (arith, lt, e, far)
 
 pub none_left : (a : Tombs) (home : ℕ) (n : EntryName) → length a.items ≤ passed_at a home → Ahead a home n → ⊥
 none_left a home n past is = let from = is.from in let lt = is.within in omega (arith, past, from, lt)
@@ -382,7 +382,7 @@ set_here (p ∷ ps) zero n lt = refl
 set_here (p ∷ ps) (suc i) n lt = set_here ps i n (omega (arith, lt))
 
 abbrev pub IsOfHome : Tombstone → ℕ → ℕ → EntryName → Type 0
-IsOfHome t home h n = (h ≡ home) × (n ≡ name_with (key_of t) t.version) × (t.home ≡ home)
+IsOfHome t home h n = (h ≡ home) × (n ≡ name_with (key_of t) (tomb_version t)) × ((tomb_home t) ≡ home)
 
 pub passed_one : (a : Tombs) (home : ℕ) (t : Tombstone) → home < length a.passed → t ≡ get_or a.items (passed_at a home) bare_tombstone → (h : ℕ) (n : EntryName) → Ahead a h n → IsOfHome t home h n ⊎ Ahead (passing a home) h n
 passed_one a home t lt is h n ahead = ⊎_elim
@@ -390,8 +390,8 @@ passed_one a home t lt is h n ahead = ⊎_elim
     (λ (at : ahead.at ≡ passed_at a home).
     let e : get_or a.items ahead.at bare_tombstone ≡ t = ap (λ (i : ℕ). get_or a.items i bare_tombstone) at ∙ sym is in
     let key : n.key ≡ key_of t = sym ahead.key ∙ ap key_of e in
-    let version : n.version ≡ t.version = sym ahead.version ∙ ap (λ (x : Tombstone). x.version) e in
-    let own : t.home ≡ home = sym (ap (λ (x : Tombstone). x.home) e) ∙ ahead.home_is ∙ same in
+    let version : n.version ≡ (tomb_version t) = sym ahead.version ∙ ap tomb_version e in
+    let own : (tomb_home t) ≡ home = sym (ap tomb_home e) ∙ ahead.home_is ∙ same in
     inl (same, (λ i. name_with (key i) (version i)), own))
     (λ (ne : ahead.at ≢ passed_at a home).
     let from : passed_at a home ≤ ahead.at = subst (λ (x : ℕ). passed_at a x ≤ ahead.at) same ahead.from in
@@ -423,10 +423,10 @@ gone_left Told v home w e there = ap (λ (b : Bool). Some (deleted v (cond (not 
 gone_left Gone v home w e there = absurd there
 gone_left Moved v home w e there = absurd there
 
-pub gone_turns : (a : Tombs) (k w : ℕ) (t : Tombstone) → Some t ≡ found_at a.items k → t.version ≡ w → IsThere t.fate → Turns a (fated_in a k Gone) k (option_map (without w) (known_at (tomb_places a.items) k))
+pub gone_turns : (a : Tombs) (k w : ℕ) (t : Tombstone) → Some t ≡ found_at a.items k → (tomb_version t) ≡ w → IsThere t.fate → Turns a (fated_in a k Gone) k (option_map (without w) (known_at (tomb_places a.items) k))
 gone_turns a k w t is e there = fated_turns a k Gone (option_map (without w) (known_at (tomb_places a.items) k)) (
     ap (λ (o : Option Tombstone). known_in (option_map place_of (option_map (with_fate Gone) o))) (sym is)
-    ∙ gone_left t.fate t.version t.home w e there
+    ∙ gone_left t.fate (tomb_version t) (tomb_home t) w e there
     ∙ ap (option_map (without w)) (sym (known_found a.items k (Some t) is)))
 
 none_stands : (v home w : ℕ) → Awaits (Some (deleted v [])) home w → ⊥
@@ -437,8 +437,8 @@ none_stands v home w waits =
 
 pub gone_waits : (a : Tombs) (k : ℕ) (t : Tombstone) → Some t ≡ found_at a.items k → (home w : ℕ) → Awaits (known_at (tomb_places (fated a.items k Gone)) k) home w → ⊥
 gone_waits a k t is home w waits =
-    let now : known_at (tomb_places (fated a.items k Gone)) k ≡ Some (deleted t.version []) = known_found (fated a.items k Gone) k (Some (with_fate Gone t)) (ap (option_map (with_fate Gone)) is ∙ sym (fated_here a.items k Gone)) in
-    none_stands t.version home w (subst (λ (o : Option KeyRecord). Awaits o home w) now waits)
+    let now : known_at (tomb_places (fated a.items k Gone)) k ≡ Some (deleted (tomb_version t) []) = known_found (fated a.items k Gone) k (Some (with_fate Gone t)) (ap (option_map (with_fate Gone)) is ∙ sym (fated_here a.items k Gone)) in
+    none_stands (tomb_version t) home w (subst (λ (o : Option KeyRecord). Awaits o home w) now waits)
 
 -- who waits was not told, and is of this name
 pub record OwnName (f : Fate) (v h home w : ℕ) : Type 0 where
@@ -471,21 +471,21 @@ told_left f v home w new e = ap (λ (b : Bool). Some (deleted v (cond b (standin
 
 pub told_tomb : (a : Tombs) (home : ℕ) (n : EntryName) (t : Tombstone) → Some t ≡ found_at a.items n.key → Awaits (left_of t) home n.version → ToldAt (tomb_places a.items) (tomb_places (fated a.items n.key Told)) home n
 told_tomb a home n t is waits =
-    let own = waits_own t.fate t.version t.home home n.version waits in
+    let own = waits_own t.fate (tomb_version t) (tomb_home t) home n.version waits in
     let was : known_at (tomb_places a.items) n.key ≡ left_of t = known_found a.items n.key (Some t) is in
-    let now : known_at (tomb_places (fated a.items n.key Told)) n.key ≡ left_by Told t.version t.home = known_found (fated a.items n.key Told) n.key (Some (with_fate Told t)) (ap (option_map (with_fate Told)) is ∙ sym (fated_here a.items n.key Told)) in
+    let now : known_at (tomb_places (fated a.items n.key Told)) n.key ≡ left_by Told (tomb_version t) (tomb_home t) = known_found (fated a.items n.key Told) n.key (Some (with_fate Told t)) (ap (option_map (with_fate Told)) is ∙ sym (fated_here a.items n.key Told)) in
     let turns = fated_turns a n.key Told (known_at (tomb_places (fated a.items n.key Told)) n.key) (sym (ap known_in (placed_found (fated a.items n.key Told) n.key ∙ ap (option_map place_of) (fated_here a.items n.key Told)))) in
     record {
       tells = record {
         waited = subst (λ (o : Option KeyRecord). Awaits o home n.version) (sym was) waits;
         change = record {
-          here = now ∙ told_left t.fate t.version t.home n.version own.untold own.version ∙ ap (option_map (told_in n.version)) (sym was);
+          here = now ∙ told_left t.fate (tomb_version t) (tomb_home t) n.version own.untold own.version ∙ ap (option_map (told_in n.version)) (sym was);
           others = λ j ne. ap known_in (turns.others j ne);
         };
         room = λ j. no_room (fated a.items n.key Told) j ∙ sym (no_room a.items j);
       };
       others = turns.others;
-      waits = λ w h after. let other = waits_own Told t.version t.home h w (subst (λ (o : Option KeyRecord). Awaits o h w) now after) in let flag = other.untold in absurd (cc flag);
+      waits = λ w h after. let other = waits_own Told (tomb_version t) (tomb_home t) h w (subst (λ (o : Option KeyRecord). Awaits o h w) now after) in let flag = other.untold in absurd (cc flag);
       fewer = fated_fewer a.items n.key t (sym is) own.untold;
     }
 

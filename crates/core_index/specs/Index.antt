@@ -15,7 +15,7 @@ use Rattle.core_index.specs.Noted.{Book, Noted, name_with}
 use Rattle.core_index.specs.declared.start_keys.StartKeys.{StartKeys}
 use Rattle.core_index.specs.Lives.{FitsLive, placed_lives}
 use Rattle.core_index.specs.Starts.{started, IsAhead}
-use Rattle.core_index.specs.Tombs.{Tombs, Ahead, AreLess, key_of, left_of, tomb_places}
+use Rattle.core_index.specs.Tombs.{tomb_home, tomb_version, Tombs, Ahead, AreLess, key_of, left_of, tomb_places}
 
 abbrev pub place_at : List (ℕ × Place) → ℕ → Option Place
 place_at es k = lookup (is_at (nat_cmp k)) es
@@ -142,8 +142,8 @@ pub record IsCompact (es : List (ℕ × Place)) (a : StartKeys) (k v : ℕ) (kno
   pub apart : place_at (placed_lives a.live) k ≡ None
   pub above : AreLess a.deleted.items k
   pub key : key_of t ≡ k
-  pub home : t.home < 16
-  pub version : t.version ≡ v
+  pub home : tomb_home t < 16
+  pub version : tomb_version t ≡ v
   pub left : left_of t ≡ Some known
 
 -- The key fits into the list of keys with a value by this, and is not in the map.

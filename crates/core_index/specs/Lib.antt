@@ -2,6 +2,7 @@ pub mod Records
 pub mod Marks
 pub mod Slots
 pub mod Noted
+pub mod Short
 pub mod Tombs
 pub mod Lives
 pub mod Starts

@@ -5,7 +5,7 @@ use Rattle.core_index.specs.declared.types.LiveFate.{LiveFate}
 use Rattle.core_index.specs.declared.types.LiveFate.TheVariants.{Stands, Gone, Moved}
 use Rattle.core_index.specs.declared.types.LiveKey.{LiveKey}
 use Rattle.core_index.specs.Slots.{Place}
-use Rattle.core_index.specs.Lives.{live_key}
+use Rattle.core_index.specs.Lives.{entry_version, live_key}
 use Rattle.core_index.specs.Index.{place_at, live_name}
 
 abbrev pub version_by : LiveFate → ℕ → Option ℕ
@@ -15,7 +15,7 @@ version_by Moved v = None
 
 -- the version of a live key that the map has no place for
 abbrev pub version_left : List (ℕ × Place) → LiveKey → Option ℕ
-version_left es x = if is_some (place_at es (live_key x)) then None else version_by x.fate x.version
+version_left es x = if is_some (place_at es (live_key x)) then None else version_by x.fate (entry_version x)
 
 -- their names, in the order of the list
 abbrev pub start_names : List (ℕ × Place) → List LiveKey → List EntryName

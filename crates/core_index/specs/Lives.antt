@@ -10,9 +10,17 @@ use Rattle.core_index.specs.declared.types.LiveFate.TheVariants.{Stands, Gone, M
 use Rattle.core_index.specs.declared.types.LiveKey.{LiveKey}
 use Rattle.core_index.specs.Records.{KeyRecord, standing_with}
 use Rattle.core_index.specs.Slots.{Place}
+use Rattle.core_index.specs.Short.{version_of, home_of}
 
 abbrev pub live_key : LiveKey → ℕ
 live_key x = x.high * 4294967296 + x.low
+
+-- the version of the entry, and the core in whose log it stands
+abbrev pub entry_version : LiveKey → ℕ
+entry_version x = version_of x.version_low x.version_and_home
+
+abbrev pub entry_home : LiveKey → ℕ
+entry_home x = home_of x.version_and_home
 
 -- the bytes that a body has beside the key
 abbrev pub bytes_in : Body → List ℕ
@@ -41,7 +49,7 @@ valued_by Moved v home b = None
 
 -- the record of the key, where it is not elsewhere
 abbrev pub valued : List ℕ → LiveKey → Option KeyRecord
-valued bytes x = valued_by x.fate x.version x.home (body_in bytes x.held)
+valued bytes x = valued_by x.fate (entry_version x) (entry_home x) (body_in bytes x.held)
 
 -- the entry stands
 abbrev pub IsStanding : LiveFate → Type 0
@@ -64,8 +72,8 @@ abbrev pub with_live_fate : LiveFate → LiveKey → LiveKey
 with_live_fate f x = record {
   high = x.high;
   low = x.low;
-  version = x.version;
-  home = x.home;
+  version_low = x.version_low;
+  version_and_home = x.version_and_home;
   fate = f;
   held = x.held;
 }

@@ -10,12 +10,20 @@ use Rattle.core_index.specs.declared.types.Standing.{Standing}
 use Rattle.core_index.specs.declared.types.Tombstone.{Tombstone}
 use Rattle.core_index.specs.Records.{KeyRecord, standing_with}
 use Rattle.core_index.specs.Slots.{Place}
+use Rattle.core_index.specs.Short.{version_of, home_of}
 
 abbrev pub key_of : Tombstone → ℕ
 key_of t = t.high * 4294967296 + t.low
 
+-- the version of the entry, and the core in whose log it stands
+abbrev pub tomb_version : Tombstone → ℕ
+tomb_version t = version_of t.version_low t.version_and_home
+
+abbrev pub tomb_home : Tombstone → ℕ
+tomb_home t = home_of t.version_and_home
+
 abbrev pub name_of : Tombstone → EntryName
-name_of t = record { key = key_of t; version = t.version }
+name_of t = record { key = key_of t; version = tomb_version t }
 
 abbrev pub deleted : ℕ → List Standing → KeyRecord
 deleted v ss = record { version = v; body = bodies.Tombstone; standing = ss }
@@ -45,14 +53,14 @@ standing_by Moved v home = None
 
 -- the entry, where it stands
 abbrev pub standing_left : Tombstone → Option Standing
-standing_left t = standing_by t.fate t.version t.home
+standing_left t = standing_by t.fate (tomb_version t) (tomb_home t)
 
 abbrev pub delete_at : ℕ → Head
 delete_at v = record { version = v; body = bodies.Tombstone }
 
 -- the record of the key, where it is not elsewhere
 abbrev pub left_of : Tombstone → Option KeyRecord
-left_of t = left_by t.fate t.version t.home
+left_of t = left_by t.fate (tomb_version t) (tomb_home t)
 
 abbrev pub place_of : Tombstone → Place
 place_of t = record { known = left_of t; room = 0 }
@@ -67,7 +75,7 @@ tomb_places [] = []
 tomb_places (t ∷ ts) = (key_of t, place_of t) ∷ tomb_places ts
 
 abbrev pub with_fate : Fate → Tombstone → Tombstone
-with_fate f t = record { high = t.high; low = t.low; version = t.version; home = t.home; fate = f }
+with_fate f t = record { high = t.high; low = t.low; version_low = t.version_low; version_and_home = t.version_and_home; fate = f }
 
 -- the list, in which a key's entry has another fate
 abbrev pub fated : List Tombstone → ℕ → Fate → List Tombstone
@@ -85,7 +93,7 @@ Rising (t ∷ ts) = AllByRecursion (λ x. key_of t < key_of x) ts × Rising ts
 
 -- the key is there
 abbrev pub bare_tombstone : Tombstone
-bare_tombstone = record { high = 0; low = 0; version = 0; home = 0; fate = Moved }
+bare_tombstone = record { high = 0; low = 0; version_low = 0; version_and_home = 0; fate = Moved }
 
 pub record IsSpot (ts : List Tombstone) (k i : ℕ) : Type 0 where
   pub within : i < length ts
@@ -109,11 +117,11 @@ pub record Ahead (b : Tombs) (home : ℕ) (n : EntryName) : Type 0 where
   pub from : passed_at b home ≤ at
   pub within : at < length b.items
   pub key : key_of (slice_index_or b.items at bare_tombstone) ≡ n.key
-  pub version : (slice_index_or b.items at bare_tombstone).version ≡ n.version
-  pub home_is : (slice_index_or b.items at bare_tombstone).home ≡ home
+  pub version : tomb_version (slice_index_or b.items at bare_tombstone) ≡ n.version
+  pub home_is : tomb_home (slice_index_or b.items at bare_tombstone) ≡ home
 
 -- What is true of the fields of such a list.
 pub record AreTombs (ts : List Tombstone) (passed : List ℕ) : Type 0 where
   pub rising : Rising ts
-  pub homes : AllByRecursion (λ t. t.home < 16) ts
+  pub homes : AllByRecursion (λ t. tomb_home t < 16) ts
   pub within : AllByRecursion (λ n. n ≤ length ts) passed

@@ -4,7 +4,7 @@ ghost use Rattle.log_entry.specs.declared.entry.EntryName.{EntryName};
 ghost use Rattle.core_index.specs.Records.{Awaits};
 ghost use Rattle.core_index.specs.Slots.{count_dead, standee_with};
 ghost use Rattle.core_index.specs.Noted.{Noted, name_with};
-ghost use Rattle.core_index.specs.Tombs.{key_of, name_of};
+ghost use Rattle.core_index.specs.Tombs.{tomb_home, tomb_version, key_of, name_of};
 ghost use Rattle.core_index.specs.Starts.{IsAhead};
 ghost use Rattle.core_index.specs.Index.{IsIndex, Tells, ToldAt, all_places, all_mortal, all_untold, known_at};
 
@@ -12,7 +12,7 @@ use crate::compact::tell_in;
 use crate::notices::Notices;
 use crate::slot::Slot;
 use crate::start_keys::StartKeys;
-use crate::tombstones::name_of;
+use crate::tombstones::{home_of, name_of};
 use crate::types::{Standee, Tombstone};
 use fs_model::Key;
 use log_entry::EntryName;
@@ -99,13 +99,13 @@ fn tell_passed(
         (all_places slots.new.entries start.new) home (name_of tombstone.now) }
     ensures mortal { result ≡ true → all_mortal slots.new.entries ≤ all_mortal slots.old.entries }
     ensures ahead { (h : ℕ) (n : EntryName) → IsAhead start.old h n → IsAhead start.new h n }
-    ensures none { result ≡ false → tombstone.now.home ≡ home → ¬ Awaits
+    ensures none { result ≡ false → tomb_home tombstone.now ≡ home → ¬ Awaits
         (known_at (all_places slots.old.entries start.old) (key_of tombstone.now)) home
-        tombstone.now.version }
+        (tomb_version tombstone.now) }
     ensures unchanged { result ≡ false → slots.new.entries ≡ slots.old.entries }
     ensures unchanged_left { result ≡ false → start.new ≡ start.old }
 {
-    if u32::from(tombstone.home) != home {
+    if home_of(tombstone) != home {
         return false;
     }
     tell_in(slots, start, name_of(tombstone), home)

@@ -10,6 +10,7 @@ mod live_keys;
 mod live_list;
 mod map;
 mod notices;
+mod short_names;
 mod slot;
 mod start_keys;
 mod tombstones;

@@ -11,7 +11,7 @@ ghost use Rattle.core_index.specs.Noted.{name_with};
 ghost use Rattle.core_index.specs.Records.{live_version};
 ghost use Rattle.core_index.specs.Starts.{started};
 
-use crate::live_list::{LiveList, key_of};
+use crate::live_list::{LiveList, key_of, version_of};
 use crate::map::has;
 use crate::slot::Slot;
 use crate::start_keys::StartKeys;
@@ -45,7 +45,7 @@ fn version_left(slots: &BTreeMap<Key, Slot>, live: &LiveKey) -> Option<Version>
     }
     match live.fate {
         LiveFate::Moved => None,
-        _ => Some(u32::from(live.version)),
+        _ => Some(version_of(live)),
     }
 }
 

@@ -6,17 +6,18 @@ ghost use Rattle.core_index.specs.Index.{all_untold, place_at, untold_of, TurnsA
 ghost use Rattle.core_index.specs.Noted.{name_with};
 ghost use Rattle.core_index.specs.Records.{Shows, ShowsBody, without, opened_with, last_of, live_version};
 ghost use Rattle.core_index.specs.Slots.{alive_at, count_of};
-ghost use Rattle.core_index.specs.Lives.{live_key, bytes_in, body_in, IsWithin, valued, IsStanding, live_place, live_at, turned, AllLess, KeysRise, IsLiveSpot, IsNotThere, placed_lives, FitsLive};
+ghost use Rattle.core_index.specs.Lives.{entry_home, entry_version, live_key, bytes_in, body_in, IsWithin, valued, IsStanding, live_place, live_at, turned, AllLess, KeysRise, IsLiveSpot, IsNotThere, placed_lives, FitsLive};
 
+use crate::short_names::{self, short_of};
 use crate::slot::Slot;
-use crate::types::{Holding, LiveFate, LiveKey, Look, Record, SHARE, Standee, VERSIONS};
+use crate::types::{Holding, LiveFate, LiveKey, Look, Record, SHARE, Standee};
 use fs_errors::Memory;
 use fs_model::{Key, Value, Version};
 use log_entry::{Body, EntryName};
 use std::alloc::Global;
 use std::marker::Model;
 
-// The homes below it fit into a byte, and so does the length of every value beside its key.
+// The length of every value beside its key fits into a byte.
 const BYTES: u32 = 256;
 
 /// The keys that had a value at the start, by rising key, and the bytes of all values one behind the other. Only `push`
@@ -42,6 +43,20 @@ pub fn key_of(live: &LiveKey) -> Key
     ensures { result ≡ live_key live.now }
 {
     u64::from(live.high) * SHARE + u64::from(live.low)
+}
+
+/// The version of the entry.
+pub fn version_of(live: &LiveKey) -> Version
+    ensures { result ≡ entry_version live.now }
+{
+    short_names::version_of(live.version_low, live.version_and_home)
+}
+
+// The core in whose log it stands, by its number in the region.
+fn home_of(live: &LiveKey) -> u32
+    ensures { result ≡ entry_home live.now }
+{
+    short_names::home_of(live.version_and_home)
 }
 
 // Where the value will be, once its bytes are behind so many others.
@@ -87,15 +102,16 @@ fn live_key_of(
     let [only] = standing else {
         return None;
     };
-    if version >= VERSIONS || only.version != version || only.home >= BYTES {
+    if only.version != version {
         return None;
     }
+    let (version_low, version_and_home) = short_of(version, only.home)?;
     let held = held_of(body, start)?;
     Some(LiveKey {
         high: (key / SHARE) as u32,
         low: (key % SHARE) as u32,
-        version: version as u16,
-        home: only.home as u8,
+        version_low,
+        version_and_home,
         fate: LiveFate::Stands,
         held,
     })
@@ -103,12 +119,12 @@ fn live_key_of(
 
 // Whether its entry has this version, and stands.
 fn stands(live: &LiveKey, version: Version) -> bool
-    ensures found { result ≡ true → (live.now.version ≡ version) × IsStanding live.now.fate }
+    ensures found { result ≡ true → (entry_version live.now ≡ version) × IsStanding live.now.fate }
     ensures none { (bytes : List ℕ) → result ≡ false → option_map (without version)
         (valued bytes live.now) ≡ valued bytes live.now }
 {
     match live.fate {
-        LiveFate::Stands => u32::from(live.version) == version,
+        LiveFate::Stands => version_of(live) == version,
         _ => false,
     }
 }
@@ -203,14 +219,14 @@ fn slot_of(alloc: Global, bytes: &[u8], live: &LiveKey) -> Result<Slot, Memory>
     ensures { IfOk result (λ slot. slot ≡ record { known = valued bytes.now live.now; room = 1 }) }
 {
     let key = key_of(live);
-    let version = u32::from(live.version);
+    let version = version_of(live);
     match live.fate {
         LiveFate::Moved => Slot::with_room(alloc),
         LiveFate::Gone => slot_with(alloc, key, version, body_of(alloc, bytes, live.held)?, &[]),
         LiveFate::Stands => {
             let only = Standee {
                 version,
-                home: u32::from(live.home),
+                home: home_of(live),
             };
             slot_with(
                 alloc,
@@ -229,7 +245,7 @@ pub fn last_of(live: &LiveKey) -> Version
 {
     match live.fate {
         LiveFate::Moved => 0,
-        _ => u32::from(live.version),
+        _ => version_of(live),
     }
 }
 

@@ -6,12 +6,13 @@ ghost use Rattle.log_entry.specs.declared.entry.EntryName.{EntryName};
 ghost use Rattle.core_index.specs.Marks.{kept};
 ghost use Rattle.core_index.specs.Noted.{Noted, NotedIfDead, count_lively, name_with};
 ghost use Rattle.core_index.specs.Records.{Awaits, is_dead, is_dead_in, standing_of, Shows, settled, opened, told_in, without, last_of, block_of, is_forgettable, live_version};
-ghost use Rattle.core_index.specs.Tombs.{left_of, list_of, standing_left, delete_at};
+ghost use Rattle.core_index.specs.Tombs.{tomb_version, left_of, list_of, standing_left, delete_at};
 ghost use Rattle.core_index.specs.Slots.{alive_at, home_alive, record_with, known_with, mortal, count_of, count_dead, dead_by, died, is_bare, OnlyDead, TellsOne};
 
 use crate::dead_entries::{awaits, is_dead, is_tombstone};
 use crate::entries::Entries;
 use crate::notices::Notices;
+use crate::tombstones::{home_of, version_of};
 use crate::types::{Fate, Head, Look, Marked, Record, Settled, Standee, Standing, Tombstone};
 use fs_errors::Memory;
 use fs_model::{Key, Version};
@@ -82,7 +83,7 @@ impl Slot {
         };
         Ok(Slot {
             head: Some(head),
-            standing: Entries::of_one(alloc, standing_of(tombstone), u32::from(tombstone.version))?,
+            standing: Entries::of_one(alloc, standing_of(tombstone), version_of(tombstone))?,
             room: 1,
             alive: None,
         })
@@ -296,12 +297,12 @@ impl Slot {
 fn head_of(tombstone: &Tombstone) -> Option<Head>
     ensures known { known_with result (list_of (standing_left tombstone.now))
         ≡ left_of tombstone.now }
-    ensures head { IfSome result (λ h. h ≡ delete_at tombstone.now.version) }
+    ensures head { IfSome result (λ h. h ≡ delete_at (tomb_version tombstone.now)) }
 {
     match tombstone.fate {
         Fate::Moved => None,
         _ => Some(Head {
-            version: u32::from(tombstone.version),
+            version: version_of(tombstone),
             body: Body::Tombstone,
         }),
     }
@@ -317,8 +318,8 @@ fn standing_of(tombstone: &Tombstone) -> Option<Standing>
         _ => return None,
     };
     Some(Standing {
-        version: u32::from(tombstone.version),
-        home: u32::from(tombstone.home),
+        version: version_of(tombstone),
+        home: home_of(tombstone),
         told,
     })
 }

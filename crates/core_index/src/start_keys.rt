@@ -5,7 +5,7 @@ ghost use Rattle.core_index.specs.Index.{all_untold, known_at, place_at, untold_
 ghost use Rattle.core_index.specs.Records.{Awaits, Shows, without, last_of, is_dead_in, is_forgettable};
 ghost use Rattle.core_index.specs.Slots.{alive_at, count_of};
 ghost use Rattle.core_index.specs.Starts.{started, IsAhead};
-ghost use Rattle.core_index.specs.Tombs.{key_of, name_of, AreLess, passed_at};
+ghost use Rattle.core_index.specs.Tombs.{tomb_home, key_of, name_of, AreLess, passed_at};
 ghost use Rattle.core_index.specs.Lives.{live_key, live_place, bytes_in, AllLess, IsWithin};
 
 use crate::live_list::{LiveList, count_alive, last_of};
@@ -41,7 +41,7 @@ impl StartKeys {
     /// Adds a deleted key that is above all others.
     pub fn add_deleted(&mut self, tombstone: Tombstone) -> Result<(), Memory>
         requires above { AreLess self.old.deleted.items (key_of tombstone) }
-        requires home { tombstone.home < 16 }
+        requires home { tomb_home tombstone < 16 }
         ensures ok { OnOk result (self.new ≡ record {
           live = self.old.live;
           deleted = record {
@@ -111,8 +111,12 @@ impl StartKeys {
     pub fn is_dead(&self, name: EntryName) -> bool
         ensures { result ≡ is_dead_in (known_at (started self.now) name.key) name.version }
     {
+        // Few entries are dead at the start, so the longer list is looked at for these alone.
+        if !self.deleted.is_dead(name) {
+            return false;
+        }
         match self.live.find(name.key) {
-            None => self.deleted.is_dead(name),
+            None => true,
             Some(_) => false,
         }
     }
@@ -178,7 +182,7 @@ impl StartKeys {
         ensures none { IfNone result ((n : EntryName) → ¬ IsAhead self.old home n) }
         ensures unchanged { IfNone result (self.new ≡ self.old) }
         ensures others { IfSome result (λ t. (h : ℕ) (n : EntryName) → IsAhead self.old h n
-            → ((h ≡ home) × (n ≡ name_of t) × (t.home ≡ home))
+            → ((h ≡ home) × (n ≡ name_of t) × (tomb_home t ≡ home))
             ⊎ IsAhead self.new h n) }
         ensures same { started self.new ≡ started self.old }
         ensures items { self.new.deleted.items ≡ self.old.deleted.items }

@@ -4,17 +4,15 @@ ghost use Rattle.std.specs.Bool.{Decides};
 ghost use Rattle.log_entry.specs.declared.entry.EntryName.{EntryName};
 ghost use Rattle.core_index.specs.Index.{all_untold, known_at, place_at, untold_of, ToldAt, Turns};
 ghost use Rattle.core_index.specs.Records.{Awaits, Shows, without, opened_with, last_of, is_dead_in, is_forgettable};
-ghost use Rattle.core_index.specs.Tombs.{key_of, name_of, left_of, tomb_places, found_at, fated, AreLess, Rising, IsSpot, IsMissing, IsThere, passed_at, Ahead};
+ghost use Rattle.core_index.specs.Tombs.{tomb_home, tomb_version, key_of, name_of, left_of, tomb_places, found_at, fated, AreLess, Rising, IsSpot, IsMissing, IsThere, passed_at, Ahead};
 
-use crate::types::{Fate, Look, SHARE, Standee, Tombstone, VERSIONS};
+use crate::short_names::{self, HOMES, short_of};
+use crate::types::{Fate, Look, SHARE, Standee, Tombstone};
 use fs_errors::Memory;
 use fs_model::{Key, Version};
 use log_entry::{Body, EntryName};
 use std::alloc::Global;
 use std::marker::Model;
-
-// As many as a region has cores at most.
-const HOMES: u32 = 16;
 
 /// The keys that were deleted before the start, by rising key. For each home the first `passed` of them need not be
 /// looked at to tell it of a death. Only `push` takes memory.
@@ -40,13 +38,27 @@ fn key_of(tombstone: &Tombstone) -> Key
     u64::from(tombstone.high) * SHARE + u64::from(tombstone.low)
 }
 
+/// The version of the entry that deleted the key.
+pub fn version_of(tombstone: &Tombstone) -> Version
+    ensures { result ≡ tomb_version tombstone.now }
+{
+    short_names::version_of(tombstone.version_low, tombstone.version_and_home)
+}
+
+/// The core in whose log it stands, by its number in the region.
+pub fn home_of(tombstone: &Tombstone) -> u32
+    ensures { result ≡ tomb_home tombstone.now }
+{
+    short_names::home_of(tombstone.version_and_home)
+}
+
 /// The name of the entry that deleted the key.
 pub fn name_of(tombstone: &Tombstone) -> EntryName
     ensures { result ≡ name_of tombstone.now }
 {
     EntryName {
         key: key_of(tombstone),
-        version: u32::from(tombstone.version),
+        version: version_of(tombstone),
     }
 }
 
@@ -58,10 +70,10 @@ pub fn tombstone_of(
     standing: &[Standee],
 ) -> Option<Tombstone>
     ensures key { IfSome result (λ t. key_of t ≡ key) }
-    ensures home { IfSome result (λ t. t.home < 16) }
+    ensures home { IfSome result (λ t. tomb_home t < 16) }
     ensures left { IfSome result (λ t. left_of t
         ≡ Some (opened_with version body.now standing.now)) }
-    ensures name { IfSome result (λ t. t.version ≡ version) }
+    ensures name { IfSome result (λ t. tomb_version t ≡ version) }
 {
     let Body::Tombstone = body else {
         return None;
@@ -69,14 +81,15 @@ pub fn tombstone_of(
     let [only] = standing else {
         return None;
     };
-    if version >= VERSIONS || only.version != version || only.home >= HOMES {
+    if only.version != version {
         return None;
     }
+    let (version_low, version_and_home) = short_of(version, only.home)?;
     Some(Tombstone {
         high: (key / SHARE) as u32,
         low: (key % SHARE) as u32,
-        version: version as u16,
-        home: only.home as u8,
+        version_low,
+        version_and_home,
         fate: Fate::Untold,
     })
 }
@@ -86,7 +99,7 @@ fn last_of(tombstone: &Tombstone) -> Version
 {
     match tombstone.fate {
         Fate::Moved => 0,
-        _ => u32::from(tombstone.version),
+        _ => version_of(tombstone),
     }
 }
 
@@ -104,19 +117,19 @@ fn is_dead(tombstone: &Tombstone, version: Version) -> bool
     ensures { result ≡ is_dead_in (left_of tombstone.now) version }
 {
     match tombstone.fate {
-        Fate::Untold | Fate::Told => u32::from(tombstone.version) == version,
+        Fate::Untold | Fate::Told => version_of(tombstone) == version,
         _ => false,
     }
 }
 
 // Whether its entry has this version, and stands.
 fn stands(tombstone: &Tombstone, version: Version) -> bool
-    ensures found { result ≡ true → (tombstone.now.version ≡ version) × IsThere tombstone.now.fate }
+    ensures found { result ≡ true → (tomb_version tombstone.now ≡ version) × IsThere tombstone.now.fate }
     ensures none { result ≡ false → option_map (without version) (left_of tombstone.now)
         ≡ left_of tombstone.now }
 {
     match tombstone.fate {
-        Fate::Untold | Fate::Told => u32::from(tombstone.version) == version,
+        Fate::Untold | Fate::Told => version_of(tombstone) == version,
         _ => false,
     }
 }
@@ -126,9 +139,7 @@ fn awaits(tombstone: &Tombstone, version: Version, home: u32) -> bool
     ensures { Decides result (Awaits (left_of tombstone.now) home version) }
 {
     match tombstone.fate {
-        Fate::Untold => {
-            u32::from(tombstone.version) == version && u32::from(tombstone.home) == home
-        }
+        Fate::Untold => { version_of(tombstone) == version && home_of(tombstone) == home }
         _ => false,
     }
 }
@@ -173,7 +184,7 @@ impl Tombstones {
     /// Adds a key that is above all others.
     pub fn push(&mut self, tombstone: Tombstone) -> Result<(), Memory>
         requires above { AreLess self.old.items (key_of tombstone) }
-        requires home { tombstone.home < 16 }
+        requires home { tomb_home tombstone < 16 }
         ensures ok { OnOk result (self.new ≡ record {
           items = self.old.items ++ tombstone ∷ [];
           passed = self.old.passed;
@@ -303,7 +314,7 @@ impl Tombstones {
         ensures none { IfNone result ((n : EntryName) → ¬ Ahead self.old home n) }
         ensures unchanged { IfNone result (self.new ≡ self.old) }
         ensures others { IfSome result (λ t. (h : ℕ) (n : EntryName) → Ahead self.old h n
-            → ((h ≡ home) × (n ≡ name_of t) × (t.home ≡ home))
+            → ((h ≡ home) × (n ≡ name_of t) × (tomb_home t ≡ home))
             ⊎ Ahead self.new h n) }
         ensures items { self.new.items ≡ self.old.items }
         ensures more { IfSome result (λ _. (passed_at self.old home < length self.old.items)

@@ -85,9 +85,6 @@ pub struct Settled {
 /// A key is parted in two halves by this. Pointers and places of values that are kept in half a word are below it.
 pub const SHARE: u64 = 4_294_967_296;
 
-/// The versions below it fit into two bytes.
-pub const VERSIONS: u32 = 65_536;
-
 /// What became of the one entry of a key that was deleted before the start.
 #[derive(Clone, Copy)]
 pub enum Fate {
@@ -102,17 +99,17 @@ pub enum Fate {
 }
 
 /// A key that was deleted before the start, by an entry that stands alone. It takes twelve bytes, so the key is in two
-/// halves, and later versions and homes stand in the map.
+/// halves, and the entry's version and home share three bytes.
 #[derive(Clone, Copy)]
 pub struct Tombstone {
     /// The key divided by 2^32.
     pub high: u32,
     /// The rest.
     pub low: u32,
-    /// That of the entry.
-    pub version: u16,
-    /// The core in whose log it stands, by its number in the region.
-    pub home: u8,
+    /// The lower half of the entry's version.
+    pub version_low: u16,
+    /// The rest of the version, and the core in whose log the entry stands.
+    pub version_and_home: u8,
     /// What became of the entry since.
     pub fate: Fate,
 }
@@ -144,10 +141,10 @@ pub struct LiveKey {
     pub high: u32,
     /// The rest.
     pub low: u32,
-    /// That of the entry.
-    pub version: u16,
-    /// The core in whose log it stands, by its number in the region.
-    pub home: u8,
+    /// The lower half of the entry's version.
+    pub version_low: u16,
+    /// The rest of the version, and the core in whose log the entry stands.
+    pub version_and_home: u8,
     /// What became of the entry since.
     pub fate: LiveFate,
     /// Where the value is.

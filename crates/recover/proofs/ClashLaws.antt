@@ -1,5 +1,5 @@
 -- Entries of one name, and what contradicts them.
-use Rattle.std.proofs.Common.{◌≡◌, inl, inr, ℕ, List, [], ◌∷◌, ◌++◌, refl, sym, ◌∙◌, ap, subst, ◌==◌, ◌&&◌, ◌||◌, not, true, false, cond, Bool, Some, None, append_assoc, append-nil}
+use Rattle.std.proofs.Common.{◌≡◌, inl, inr, List, [], ◌∷◌, ◌++◌, refl, sym, ◌∙◌, ap, subst, ◌==◌, ◌&&◌, ◌||◌, not, true, false, cond, Bool, Some, append_assoc, append-nil}
 use Rattle.std.proofs.lemmas.Bool.{eqb-true, eq-eqb, and_parts, not-false}
 use Rattle.std.proofs.lemmas.Slice.Eq.{bytes_eq-Decides}
 use Rattle.std.specs.List.{list_any}
@@ -8,7 +8,7 @@ use Rattle.log_entry.specs.declared.entry.Body.TheVariants.{Pointer, Embedded, T
 use Rattle.store_image.specs.declared.types.PlacedEntry.{PlacedEntry}
 use Rattle.store_image.specs.Soundness.{same_body, contradicts, clash_after}
 use Rattle.store_image.specs.Facts.{In, Agree}
-use Rattle.store_image.proofs.Clients.{same_bodies, in_front, in_back, no_clash_after}
+use Rattle.store_image.proofs.Clients.{same_bodies, in_front, in_back}
 use Rattle.recover.specs.Clashes.{HasName}
 
 -- what an entry that contradicts another is, and what one is that doesn't
@@ -51,9 +51,9 @@ no_contradiction x y body core =
     let b : same_body x.entry.body y.entry.body ≡ true = ap (same_body x.entry.body) (sym body) ∙ same_itself x.entry.body in
     let c = eq-eqb x.core y.core core in
     (λ t. (x.entry.key == y.entry.key && x.entry.version == y.entry.version && not (b t && c t))) ∙ never (x.entry.key == y.entry.key && x.entry.version == y.entry.version) where
-  never : (b : Bool) → (b && false) ≡ false
-  never true = refl
-  never false = refl
+      never : (b : Bool) → (b && false) ≡ false
+      never true = refl
+      never false = refl
 
 -- the first that contradicts one before it
 pub clash_at : (before xs ys : List PlacedEntry) (x : PlacedEntry) → Agree (before ++ xs) → list_any (contradicts x) (before ++ xs) ≡ true → clash_after before (xs ++ x ∷ ys) ≡ Some x
@@ -62,11 +62,11 @@ clash_at before (z ∷ zs) ys x both any =
     let own = none_here before z zs both in
     let again = clash_at (before ++ z ∷ []) zs ys x (subst Agree (sym (append_assoc before (z ∷ []) zs)) both) (ap (list_any (contradicts x)) (append_assoc before (z ∷ []) zs) ∙ any) in
     ap (λ b. cond b (Some z) (clash_after (before ++ z ∷ []) (zs ++ x ∷ ys))) own ∙ again where
-  not_both : (b : Bool) → b ≡ true → b ≡ false → ⊥
-  not_both b is isnt = cc (sym is ∙ isnt)
+      not_both : (b : Bool) → b ≡ true → b ≡ false → ⊥
+      not_both b is isnt = cc (sym is ∙ isnt)
 
-  fine : (z y : PlacedEntry) → (z.entry.key ≡ y.entry.key → z.entry.version ≡ y.entry.version → (z.entry.body ≡ y.entry.body) × (z.core ≡ y.core)) → contradicts z y ≡ false
-  fine z y r = true_or_false (contradicts z y) (λ is. (let name = contradicts_name z y is in let same = r (sym name.key) (sym name.version) in not_both (contradicts z y) is (no_contradiction z y same.0 same.1)))
+      fine : (z y : PlacedEntry) → (z.entry.key ≡ y.entry.key → z.entry.version ≡ y.entry.version → (z.entry.body ≡ y.entry.body) × (z.core ≡ y.core)) → contradicts z y ≡ false
+      fine z y r = true_or_false (contradicts z y) (λ is. (let name = contradicts_name z y is in let same = r (sym name.key) (sym name.version) in not_both (contradicts z y) is (no_contradiction z y same.0 same.1)))
 
-  none_here : (before : List PlacedEntry) (z : PlacedEntry) (zs : List PlacedEntry) → Agree (before ++ z ∷ zs) → list_any (contradicts z) before ≡ false
-  none_here before z zs both = none_any (contradicts z) before (λ y h. (let r = both z y (in_back z before (z ∷ zs) (inl refl)) (in_front y before (z ∷ zs) h) in fine z y r))
+      none_here : (before : List PlacedEntry) (z : PlacedEntry) (zs : List PlacedEntry) → Agree (before ++ z ∷ zs) → list_any (contradicts z) before ≡ false
+      none_here before z zs both = none_any (contradicts z) before (λ y h. (let r = both z y (in_back z before (z ∷ zs) (inl refl)) (in_front y before (z ∷ zs) h) in fine z y r))

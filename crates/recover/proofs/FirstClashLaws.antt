@@ -1,7 +1,7 @@
 -- The first entry that contradicts one in front of it is found among neighbours by their names.
 use Rattle.std.proofs.Common.{◌≡◌, ◌⊎◌, inl, inr, ℕ, ◌+◌, ◌-◌, ◌<◌, ◌≤◌, List, [], ◌∷◌, ◌++◌, length, get_or, map, refl, sym, ◌∙◌, ap, subst, arith, Bool, true, false, cond, ltb, Option, Some, None}
 use Rattle.std.specs.Prelude.{option_map}
-use Rattle.std.specs.List.{list_any, AllByRecursion}
+use Rattle.std.specs.List.{list_any}
 use Rattle.std.proofs.lemmas.List.{get_or-map, length-map, map-append}
 use Rattle.std.proofs.lemmas.Bool.{ltb-true, ltb-false}
 use Rattle.chunk_map.specs.declared.layouts.Geometry.{Geometry}
@@ -146,11 +146,11 @@ module _ (l : Geometry) (image : ℕ → ℕ) (fs : List Found) where
             let one = at_map (m + 1) d (omega (arith, to, lt)) in
             let other = at_map m d (omega (arith, to, lt)) in
             (λ t. contradicts (one t) (other t)) ∙ true_or_false (contradicts (entry (m + 1)) (entry m)) (λ bad.
-                let b = get_or fs (m + 1) no_found in
-                let same = between (entry i).entry.key (entry i).entry.version b.key b.version (entry j).entry.key (entry j).entry.version (found_above fs order i (m + 1) no_found (omega (arith, from)) (omega (arith, to, lt))) (found_above fs order (m + 1) j no_found (omega (arith, to)) lt) key version in
-                let low = lowest.lowest m (omega (arith, to, lt, all)) bad in
-                let up = words (m + 1) j no_found (omega (arith, to)) lt (sym same.0 ∙ key) (sym same.1 ∙ version) in
-                omega (arith, low, up, below))
+            let b = get_or fs (m + 1) no_found in
+            let same = between (entry i).entry.key (entry i).entry.version b.key b.version (entry j).entry.key (entry j).entry.version (found_above fs order i (m + 1) no_found (omega (arith, from)) (omega (arith, to, lt))) (found_above fs order (m + 1) j no_found (omega (arith, to)) lt) key version in
+            let low = lowest.lowest m (omega (arith, to, lt, all)) bad in
+            let up = words (m + 1) j no_found (omega (arith, to)) lt (sym same.0 ∙ key) (sym same.1 ∙ version) in
+            omega (arith, low, up, below))
 
     apart : (i j : ℕ) → i < length fs → j < length fs → (get_or fs i no_found).at < w → (get_or fs j no_found).at < w → contradicts (entry i) (entry j) ≡ false
     apart i j li lj bi bj = true_or_false (contradicts (entry i) (entry j)) (λ bad. by_order bad (contradicts_name (entry i) (entry j) bad) (ltb i j) refl) where

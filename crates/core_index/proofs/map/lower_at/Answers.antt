@@ -1,4 +1,4 @@
-use Rattle.std.proofs.Common.{◌≡◌, ℕ, ◌-◌, Some, None, sym, ◌∙◌, ap, subst, rules}
+use Rattle.std.proofs.Common.{◌≡◌, ◌-◌, Some, sym, ◌∙◌, subst, rules}
 use Rattle.core_index.specs.Slots.{Place}
 use Rattle.core_index.specs.Index.{Step, place_at, room_at, room_in, known_at, known_in}
 use Rattle.core_index.proofs.StepLaws.{step_set}

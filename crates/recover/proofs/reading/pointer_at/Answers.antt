@@ -1,7 +1,7 @@
-use Rattle.std.proofs.Common.{◌≡◌, ◌+◌, ◌∷◌, [], sym, ◌∙◌, ap, arith}
+use Rattle.std.proofs.Common.{◌∙◌, ap, arith}
 use Rattle.pm_region.specs.Words.{lasts}
-use Rattle.log_entry.specs.Reading.{read, size_of}
-use Rattle.recover.proofs.StandsLaws.{two_read, none_beside, words_left, pointer_read}
+use Rattle.log_entry.specs.Reading.{size_of}
+use Rattle.recover.proofs.StandsLaws.{two_read}
 use Rattle.recover.proofs.reading.pointer_at.Goals as goal
 
 pub returns-in_default : goal.returns-in_default

@@ -1,12 +1,9 @@
-use Rattle.std.proofs.Common.{◌≡◌, ℕ, ◌+◌, ◌-◌, ◌<◌, ◌≤◌, length, refl, sym, ◌∙◌, ap, subst, arith, Option, Some, None}
+use Rattle.std.proofs.Common.{ℕ, ◌+◌, ◌-◌, ◌<◌, length, sym, ◌∙◌, ap, subst, arith, Some}
 use Rattle.pm_region.specs.Words.{lasts}
-use Rattle.recover.specs.FoundEntries.{entries_at, placed_at, Stands}
-use Rattle.recover.specs.FirstClash.{IsFirst}
-use Rattle.recover.proofs.NameLaws.{all_agree}
+use Rattle.recover.specs.FoundEntries.{Stands}
 use Rattle.recover.proofs.ListLaws.{all_at}
-use Rattle.recover.proofs.FoundEntryLaws.{in_order, no_found}
+use Rattle.recover.proofs.FoundEntryLaws.{no_found}
 use Rattle.recover.proofs.FirstClashLaws.{SoFar, none_here, clash_here, all_read}
-use Rattle.std.proofs.lemmas.List.{length-map}
 use Rattle.recover.proofs.sorting.first_clash.Goals.{then-branch, else-branch}
 use Rattle.recover.proofs.sorting.first_clash.Goals as goal
 

@@ -1,5 +1,6 @@
 use Rattle.std.proofs.Common.{ℕ, List, subst}
 use Rattle.std.specs.Prelude.{OnOk}
+use Rattle.core_index.specs.Tombs.{tomb_home}
 use Rattle.core_index.specs.Records.{opened_with}
 use Rattle.core_index.specs.Slots.{Place}
 use Rattle.core_index.specs.Index.{all_places, EntersAs}
@@ -11,7 +12,7 @@ invariant_of-self c =
     let es = c.self.inside.slots.entries in
     let a = c.self.inside.start in
     let known = opened_with c.args.version c.args.body.now c.args.standing.now in
-    pushed_index c.add_deleted.result es a c.add_deleted.new.self c.self.inside.notices c.args.key c.args.version known c.in-Some.tombstone c.in-Some.ensures (c.add_deleted.ensures.room c.in-Some.tombstone.home) c.add_deleted.ensures.ok c.add_deleted.ensures.err c.self.invariant
+    pushed_index c.add_deleted.result es a c.add_deleted.new.self c.self.inside.notices c.args.key c.args.version known c.in-Some.tombstone c.in-Some.ensures (c.add_deleted.ensures.room (tomb_home c.in-Some.tombstone)) c.add_deleted.ensures.ok c.add_deleted.ensures.err c.self.invariant
 
 pub returns-in-Some : goal.returns-in-Some
 returns-in-Some c =

@@ -1,4 +1,5 @@
 use Rattle.std.proofs.Common.{sym, ◌∙◌, ap}
+use Rattle.core_index.specs.Lives.{entry_version, entry_home}
 use Rattle.core_index.specs.Records.{is_forgettable}
 use Rattle.core_index.proofs.StartLaws.{known_live, known_deleted, never_forgettable}
 use Rattle.core_index.proofs.start_keys.StartKeys.is_forgettable.Goals as goal
@@ -10,4 +11,4 @@ pub returns-in-Some : goal.returns-in-Some
 returns-in-Some c =
     let a = c.args.self.now in
     let x = c.in-Some.field-0 in
-    sym (ap is_forgettable (known_live a c.args.key x c.in-Some.ensures.found) ∙ never_forgettable a.live.bytes x.held x.fate x.version x.home)
+    sym (ap is_forgettable (known_live a c.args.key x c.in-Some.ensures.found) ∙ never_forgettable a.live.bytes x.held x.fate (entry_version x) (entry_home x))

@@ -1,7 +1,7 @@
 use Rattle.std.proofs.Common.{Option, None, subst}
 use Rattle.core_index.specs.Records.{KeyRecord, Awaits}
 use Rattle.core_index.specs.Tombs.{tomb_places}
-use Rattle.core_index.specs.Lives.{placed_lives}
+use Rattle.core_index.specs.Lives.{entry_version, entry_home, placed_lives}
 use Rattle.core_index.proofs.OverLaws.{told_second}
 use Rattle.core_index.proofs.StartLaws.{known_live, known_deleted, live_found, value_waits}
 use Rattle.core_index.proofs.start_keys.StartKeys.tell.Goals as goal
@@ -19,4 +19,4 @@ pub returns-in-Some-clause-none : goal.returns-in-Some-clause-none
 returns-in-Some-clause-none c = λ is waits.
     let a = c.args.self.now in
     let x = c.in-Some.field-0 in
-    value_waits a.live.bytes x.held x.fate x.version x.home c.args.home c.args.name.version (subst (λ (o : Option KeyRecord). Awaits o c.args.home c.args.name.version) (known_live a c.args.name.key x c.in-Some.ensures.found) waits)
+    value_waits a.live.bytes x.held x.fate (entry_version x) (entry_home x) c.args.home c.args.name.version (subst (λ (o : Option KeyRecord). Awaits o c.args.home c.args.name.version) (known_live a c.args.name.key x c.in-Some.ensures.found) waits)

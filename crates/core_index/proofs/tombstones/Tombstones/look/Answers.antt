@@ -1,5 +1,5 @@
 use Rattle.std.proofs.Common.{◌≡◌, Option, Some, None, refl, sym, ◌∙◌, ap, subst}
-use Rattle.core_index.specs.Tombs.{left_of}
+use Rattle.core_index.specs.Tombs.{tomb_version, tomb_home, left_of}
 use Rattle.core_index.specs.Records.{KeyRecord, Shows}
 use Rattle.core_index.specs.Tombs.{left_by}
 use Rattle.core_index.specs.declared.types.Fate.{Fate}
@@ -13,10 +13,10 @@ returns-in-None c = subst (λ (o : Option KeyRecord). Shows o looks.Unknown) (sy
 pub returns-in-Moved : goal.returns-in-Moved
 returns-in-Moved c =
     let t = c.in-Some.tombstone in
-    let none : left_of t ≡ None = ap (λ (f : Fate). left_by f t.version t.home) c.in-Moved.is in
+    let none : left_of t ≡ None = ap (λ (f : Fate). left_by f (tomb_version t) (tomb_home t)) c.in-Moved.is in
     subst (λ (o : Option KeyRecord). Shows o looks.Unknown) (sym (known_found c.args.self.now.items c.args.key (Some t) c.in-Some.ensures ∙ none)) refl
 
 pub returns-in_default : goal.returns-in_default
 returns-in_default c =
     let t = c.in-Some.tombstone in
-    subst (λ (o : Option KeyRecord). Shows o looks.Deleted) (sym (known_found c.args.self.now.items c.args.key (Some t) c.in-Some.ensures)) (shows_deleted t.fate t.version t.home c.in_default.not-Moved)
+    subst (λ (o : Option KeyRecord). Shows o looks.Deleted) (sym (known_found c.args.self.now.items c.args.key (Some t) c.in-Some.ensures)) (shows_deleted t.fate (tomb_version t) (tomb_home t) c.in_default.not-Moved)
