@@ -1,11 +1,11 @@
 -- Names are taken out of the records one after another, and then their keys are forgotten one after another.
-use Rattle.std.proofs.Common.{◌≡◌, ◌≢◌, ℕ, zero, suc, ◌+◌, ◌<◌, ◌==◌, ◌&&◌, ◌||◌, not, eqb, Bool, true, false, cond, List, [], ◌∷◌, length, get_or, take, Option, Some, None, option_map, ⊎_elim, refl, sym, ◌∙◌, ap, subst, arith}
+use Rattle.std.proofs.Common.{◌≡◌, ◌≢◌, ℕ, zero, suc, ◌+◌, ◌<◌, ◌≤◌, ◌==◌, ◌&&◌, ◌||◌, not, eqb, Bool, true, false, cond, List, [], ◌∷◌, length, get_or, take, Option, Some, None, option_map, ⊎_elim, refl, sym, ◌∙◌, ap, subst, arith}
 use Rattle.std.specs.List.{filter}
 use Rattle.std.proofs.lemmas.Bool.{cases_eq, eq-eqb, ne_eqb, and_parts}
 use Rattle.log_entry.specs.declared.entry.Entry.{Entry}
 use Rattle.log_entry.specs.declared.entry.EntryName.{EntryName}
 use Rattle.core_index.specs.declared.types.Standing.{Standing}
-use Rattle.core_index.specs.Index.{known_at, SameRoom, Changes}
+use Rattle.core_index.specs.Index.{all_untold, known_at, SameRoom, Changes}
 use Rattle.core_index.specs.Records.{KeyRecord, is_forgettable, without}
 use Rattle.core_index.specs.Slots as slots
 use Rattle.group_laws.specs.Updates.{has}
@@ -63,7 +63,7 @@ lacking_none k None = refl
 lacking_none k (Some r) = ap (λ (ss : List Standing). Some (record { version = r.version; body = r.body; standing = ss })) (sym (filter_all (λ s. true) r.standing (λ s. refl)))
 
 pub lacks_first : (es : List (ℕ × slots.Place)) → Lacks [] es es
-lacks_first es = record { known = λ k. lacking_none k (known_at es k); room = λ k. refl }
+lacks_first es = record { known = λ k. lacking_none k (known_at es k); room = λ k. refl; untold = omega arith }
 
 module _ (ns : List EntryName) (i : ℕ) (lt : i < length ns) where
   abbrev name : EntryName
@@ -89,13 +89,14 @@ module _ (ns : List EntryName) (i : ℕ) (lt : i < length ns) where
       (filter_same (λ s. not (has (take i ns) k s.version)) (λ s. not (has (take (suc i) ns) k s.version)) r.standing
       (λ s. ap not (sym (has_more ns i lt k s.version ∙ ap (λ (b : Bool). has (take i ns) k s.version || (b && eqb name.version s.version)) (ne_eqb name.key k (λ e. ne (sym e))) ∙ or_none (has (take i ns) k s.version)))))
 
-  pub lacks_more : (old mid new : List (ℕ × slots.Place)) → Lacks (take i ns) old mid → Changes mid new name.key (option_map (without name.version) (known_at mid name.key)) → SameRoom mid new → Lacks (take (i + 1) ns) old new
-  lacks_more old mid new L C room = subst (λ (n : ℕ). Lacks (take n ns) old new) (let e : suc i ≡ i + 1 = omega arith in e) (record {
+  pub lacks_more : (old mid new : List (ℕ × slots.Place)) → Lacks (take i ns) old mid → Changes mid new name.key (option_map (without name.version) (known_at mid name.key)) → SameRoom mid new → all_untold new ≤ all_untold mid → Lacks (take (i + 1) ns) old new
+  lacks_more old mid new L C room untold = subst (λ (n : ℕ). Lacks (take n ns) old new) (let e : suc i ≡ i + 1 = omega arith in e) (record {
     known = λ k. ⊎_elim
         (λ e. subst (λ (j : ℕ). known_at new j ≡ option_map (lacking (take (suc i) ns) j) (known_at old j)) (sym e) (C.here ∙ ap (option_map (without name.version)) (L.known name.key) ∙ here (known_at old name.key)))
         (λ ne. C.others k ne ∙ L.known k ∙ other k ne (known_at old k))
         (cases_eq k name.key);
     room = λ k. room k ∙ L.room k;
+    untold = (let before = L.untold in omega (arith, before, untold));
   })
 
 -- which changes are posted is seen through
@@ -114,7 +115,7 @@ out_by test (x ∷ xs) (y ∷ ys) k e at = ap (λ (z : Place). is_out (z ∷ ys)
   by rest (Posted number key lines) = ap (λ (b : Bool). cond (k == key) true b) rest
 
 pub forgets_first : (ps : List Place) (es : List (ℕ × slots.Place)) → Forgets [] ps ps es es
-forgets_first ps es = record { known = λ k. refl; room = λ k. refl; count = refl; places = λ s. by (place_at ps s) } where
+forgets_first ps es = record { known = λ k. refl; room = λ k. refl; untold = omega arith; count = refl; places = λ s. by (place_at ps s) } where
   by : (x : Place) → x ≡ restarted_by (is_forgotten [] ps es) x
   by Free = refl
   by (Staged number entry value) = refl
@@ -211,6 +212,7 @@ module _ (ns : List EntryName) (i : ℕ) (lt : i < length ns) (ps mids qs : List
   forgets_more = subst (λ (n : ℕ). Forgets (take n ns) ps qs old new) (let e : suc i ≡ i + 1 = omega arith in e) (record {
     known = λ k. ⊎_elim (λ e. subst (λ (j : ℕ). known_at new j ≡ cond (is j) None (known_at old j)) (sym e) known_here) (λ ne. known_other k ne) (cases_eq k key);
     room = λ k. K.room k ∙ F.room k;
+    untold = (let before = F.untold in let now = K.untold in omega (arith, before, now));
     count = K.count ∙ F.count;
     places = λ s. K.places s ∙ ap then (F.places s) ∙ place_now (place_at ps s);
   })

@@ -35,9 +35,11 @@ use Rattle.core_worker.specs.Serving.{OnlyServes, KeepsLine}
 use Rattle.core_worker.specs.Finishing.{LetsGo, Settles, Serves, ShortOf, FinishesSlot, reply_back}
 use Rattle.core_worker.specs.Stopping.{WithdrawsOrUnlocks}
 use Rattle.core_worker.specs.Openings.{IsNew}
-use Rattle.core_worker.specs.Turns.{Moment, SameButLeading, UnpledgedAt, PersistsOrLoses, Posts}
+use Rattle.core_worker.specs.Turns.{Moment, SameButLeading, UnpledgedAt, PersistsOrLoses, Posts, Receives}
 use Rattle.core_worker.specs.Turning.{Did, TurnedTo}
-use Rattle.core_worker.proofs.Posts.{busy_by, busy_has}
+use Rattle.core_worker.proofs.Posts.{busy_by, busy_has, busy_same}
+use Rattle.core_worker.specs.GoneNames.{is_forgotten}
+use Rattle.core_worker.proofs.HeardMail.{key_restarted}
 use Rattle.core_worker.proofs.Waiters.{first_key}
 use Rattle.core_worker.proofs.Beginnings.{staged_keeps}
 use Rattle.core_worker.proofs.ServedLines.{begins_one}
@@ -365,6 +367,16 @@ just_withdraws : (s : State) (seat : SeatAt) (before after : Option Group) (v u 
 just_withdraws s seat before after v u w x all (inl W) J = just_stopped x (ap (λ (y : Worker). y.stopped) W.rest ∙ ap (λ (y : Worker). y.stopped) W.puts.2.lets.rest ∙ ap (λ (y : Worker). y.stopped) W.retracts.leads_now ∙ W.stopped)
 just_withdraws s seat before after v u w x all (inr U) J = subst HasJustRoom (sym U.1.same) J
 
+-- what is received makes no room, and makes no key busy
+just_receives : (refused : Bool) (p : groups.Place) (m : ℕ) (a b : Moment) → Receives refused p m a b → HasJustRoom a.worker → HasJustRoom b.worker
+just_receives refused p m a b R J runs works k =
+    let X = R.hears.hears in
+    let had = J R.runs.0 R.runs.1 k in
+    let room = X.heard.room k ∙ X.loses.forgets.room k ∙ X.loses.lacks.room k in
+    let queue = ap (λ (y : Worker). length (waiting y.queue k)) R.hears.same in
+    let busy = ap (λ (c : Bool). cond {A = ℕ} c 1 0) (busy_same a.worker.places.items b.worker.places.items (λ s. ap key_in (X.loses.forgets.places s) ∙ key_restarted (is_forgotten R.hears.notices.gone a.worker.places.items X.loses.mid) (place_at a.worker.places.items s)) k) in
+    omega (arith, had, room, queue, busy)
+
 just_did : (s t : State) (refused : Bool) (before : Option Group) (seat : SeatAt) (a b : Moment) → AreApart a.worker.places.items → Did s t refused before seat a b → HasJustRoom a.worker → HasJustRoom b.worker
 just_did s t refused before seat a b apart (Did.goes_round calm (inl C)) J = same_leading a.worker b.worker C.same J
 just_did s t refused before seat a b apart (Did.goes_round calm (inr R)) J = same_leading a.worker b.worker R.same J
@@ -376,6 +388,7 @@ just_did s t refused before seat a b apart (Did.finishes calm all F) J = just_fi
 just_did s t refused before seat a b apart (Did.posts P plain calm) J = just_posts seat.number a b P J
 just_did s t refused before seat a b apart (Did.loses_block L) J = just_stopped b.worker (ap (λ (y : Worker). y.stopped) L.same)
 just_did s t refused before seat a b apart (Did.drops calm all D) J = just_stopped b.worker (ap (λ (y : Worker). y.stopped) D.drops.rest ∙ ap (λ (y : Worker). y.stopped) D.drops.puts.lets.rest ∙ D.stopped)
+just_did s t refused before seat a b apart (Did.receives calm R) J = just_receives refused seat.place seat.number a b R J
 just_did s t refused before seat a b apart (Did.locks calm L) J = same_leading a.worker b.worker L.same J
 
 pub just_turned : (r : Result Turn Memory) (s t : State) (refused : Bool) (before : Option Group) (seat : SeatAt) (a b : Moment) → AreApart a.worker.places.items → TurnedTo r s t refused before seat a b → HasJustRoom a.worker → HasJustRoom b.worker

@@ -5,14 +5,14 @@ use Rattle.std.proofs.lemmas.Bool.{eq-eqb}
 use Rattle.std.proofs.lemmas.List.{append_cancel_left}
 use Rattle.store_image.specs.Facts.{In}
 use Rattle.group_laws.specs.declared.types.Seen.{Seen}
-use Rattle.group_laws.specs.declared.types.Seen.TheVariants.{Slot as SeenSlot}
+use Rattle.group_laws.specs.declared.types.Seen.TheVariants.{Slot as SeenSlot, Mail as SeenMail}
 use Rattle.group_laws.specs.declared.types.Slot.{Slot}
 use Rattle.group_laws.specs.declared.types.Slot.TheVariants as slots
 use Rattle.group_laws.specs.declared.types.SlotWord.{SlotWord}
 use Rattle.group_laws.specs.declared.types.SlotWord.TheVariants as words
-use Rattle.group_laws.specs.State.{Group, word_shown}
+use Rattle.group_laws.specs.State.{Group, word_shown, is_full}
 use Rattle.group_laws.specs.MemberViews.{View, view_of}
-use Rattle.group_laws.specs.Runs.{Kind, Runs}
+use Rattle.group_laws.specs.Runs.{Kind, IsStep, Runs}
 use Rattle.group_board.specs.Told.{Makes}
 use Rattle.batch_leader.specs.Leading.{MakesAll, IsFrom, taken_by, CollectsAt}
 use Rattle.batch_leader.specs.declared.states.Collecting.{Collecting}
@@ -20,32 +20,43 @@ use Rattle.batch_leader.specs.declared.taken.Taken.{Taken}
 use Rattle.std.specs.List.{AllByRecursion}
 use Rattle.core_worker.specs.declared.worker.Worker.{Worker}
 use Rattle.core_worker.specs.Ties.{LeadsNothing}
-use Rattle.core_worker.specs.Turns.{Moment, SameButLeading, Looked, FindsPosted, looks_at}
+use Rattle.core_worker.specs.Turns.{Moment, SameButLeading, Looked, FindsPosted}
+use Rattle.core_worker.specs.Loads.{Load, load_kind, looks_at}
+use Rattle.core_worker.specs.Loads.Load.{Own, Mailbox}
 use Rattle.core_worker.specs.Left.{leading_left, left, offers, any_offers, HasOffer, under_way, Lowers, NotMore}
 use Rattle.core_worker.proofs.LeftSums.{offers_by, offers_has}
 use Rattle.core_worker.proofs.LeftSteps.{locks_way}
 use Rattle.core_worker.proofs.LeftWorkers.{leading_way}
-use Rattle.core_worker.proofs.LeftLooks.{at_looked, looked_way}
+use Rattle.core_worker.proofs.LeftLooks.{at_looked, load_looked, looked_way}
 
 -- what the loads of own slots add to a view
-abbrev pub seen_in : Group → ℕ → List ℕ → List Seen
-seen_in w m ss = map (λ s. SeenSlot m s (word_shown (w.slot m s))) ss
+abbrev pub seen_of : Group → ℕ → Load → Seen
+seen_of w m (Own s) = SeenSlot m s (word_shown (w.slot m s))
+seen_of w m (Mailbox a b) = SeenMail a b (is_full (w.mail a b))
 
-pub at_seen : (w u : Group) (m : ℕ) (ss : List ℕ) → Runs w (looks_at m ss) u → u.looked m ≡ w.looked m ++ seen_in w m ss
+abbrev pub seen_in : Group → ℕ → List Load → List Seen
+seen_in w m ls = map (λ l. seen_of w m l) ls
+
+load_seen : (w u : Group) (m : ℕ) (l : Load) → IsStep w m (load_kind m l) u → u.looked m ≡ w.looked m ++ seen_of w m l ∷ []
+load_seen w u m (Own s) r = ap (λ (g : Group). g.looked m) r.2 ∙ ap (λ b. cond b (w.looked m ++ seen_of w m (Own s) ∷ []) (w.looked m)) (eq-eqb m m refl)
+load_seen w u m (Mailbox a b) r = ap (λ (g : Group). g.looked m) r.3 ∙ ap (λ c. cond c (w.looked m ++ seen_of w m (Mailbox a b) ∷ []) (w.looked m)) (eq-eqb m m refl)
+
+pub at_seen : (w u : Group) (m : ℕ) (ss : List Load) → Runs w (looks_at m ss) u → u.looked m ≡ w.looked m ++ seen_in w m ss
 at_seen w u m [] r = ap (λ (g : Group). g.looked m) r ∙ sym (append-nil (w.looked m))
-at_seen w u m (s ∷ ss) r =
-    let x = SeenSlot m s (word_shown (w.slot m s)) in
-    let here : r.0.looked m ≡ w.looked m ++ x ∷ [] = ap (λ (g : Group). g.looked m) r.1.2 ∙ ap (λ b. cond b (w.looked m ++ x ∷ []) (w.looked m)) (eq-eqb m m refl) in
-    let same : seen_in r.0 m ss ≡ seen_in w m ss = ap (λ (g : Group). seen_in g m ss) r.1.2 in
+at_seen w u m (l ∷ ss) r =
+    let x = seen_of w m l in
+    let here : r.0.looked m ≡ w.looked m ++ x ∷ [] = load_seen w r.0 m l r.1 in
+    let same : seen_in r.0 m ss ≡ seen_in w m ss = ap (λ (g : Group). seen_in g m ss) (load_looked w r.0 m l r.1).1 in
     at_seen r.0 u m ss r.2 ∙ ap (λ xs. xs ++ seen_in r.0 m ss) here ∙ append_assoc (w.looked m) (x ∷ []) (seen_in r.0 m ss) ∙ ap (λ ys. w.looked m ++ x ∷ ys) same
 
-pub in_seen : (w : Group) (m : ℕ) (ss : List ℕ) (s : ℕ) (word : SlotWord) → In (SeenSlot m s word) (seen_in w m ss) → word ≡ word_shown (w.slot m s)
+pub in_seen : (w : Group) (m : ℕ) (ss : List Load) (s : ℕ) (word : SlotWord) → In (SeenSlot m s word) (seen_in w m ss) → word ≡ word_shown (w.slot m s)
 in_seen w m [] s word i = absurd i
-in_seen w m (t ∷ ss) s word (inl e) = (let same : s ≡ t = cc e in let is : word ≡ word_shown (w.slot m t) = cc e in is ∙ ap (λ n. word_shown (w.slot m n)) (sym same))
+in_seen w m (Mailbox a b ∷ ss) s word (inl e) = absurd (cc e)
+in_seen w m (Own t ∷ ss) s word (inl e) = (let same : s ≡ t = cc e in let is : word ≡ word_shown (w.slot m t) = cc e in is ∙ ap (λ n. word_shown (w.slot m n)) (sym same))
 in_seen w m (t ∷ ss) s word (inr i) = in_seen w m ss s word i
 
 -- What the loads of this turn showed is what stood in the slots, and stands there.
-module _ (g u : Group) (m : ℕ) (ss : List ℕ) (run : Runs g (looks_at m ss) u) (a : Moment) (upto : ℕ) (v : View) (before : a.view ≡ view_of g m) (now : v ≡ view_of u m) (L : Looked m a upto v) where
+module _ (g u : Group) (m : ℕ) (ss : List Load) (run : Runs g (looks_at m ss) u) (a : Moment) (upto : ℕ) (v : View) (before : a.view ≡ view_of g m) (now : v ≡ view_of u m) (L : Looked m a upto v) where
   looks_are : L.looks ≡ seen_in g m ss
   looks_are = append_cancel_left a.view.looked L.looks (seen_in g m ss)
       (sym (ap (λ (x : View). x.looked) L.view) ∙ ap (λ (x : View). x.looked) now ∙ at_seen g u m ss run ∙ ap (λ xs. xs ++ seen_in g m ss) (sym (ap (λ (x : View). x.looked) before)))
@@ -61,25 +72,25 @@ posted_offers (slots.Done d h) n e = absurd (cc e)
 posted_offers (slots.Failed d) n e = absurd (cc e)
 
 -- So where an own slot was found Posted, one is.
-pub found_offers : (g u : Group) (m : ℕ) (ss : List ℕ) (a : Moment) (v : View) → MakesAll (Some g) (looks_at m ss) (Some u) m v → a.view ≡ view_of g m → (L : Looked m a 8 v) → FindsPosted a.worker.places.items L.found 8 → any_offers (u.slot m) 8 ≡ true
+pub found_offers : (g u : Group) (m : ℕ) (ss : List Load) (a : Moment) (v : View) → MakesAll (Some g) (looks_at m ss) (Some u) m v → a.view ≡ view_of g m → (L : Looked m a 8 v) → FindsPosted a.worker.places.items L.found 8 → any_offers (u.slot m) 8 ≡ true
 found_offers g u m ss a v made agrees L F =
     let word = found_is g u m ss made.0 a 8 v agrees made.1 L F.0 (L.found F.0) (L.seen F.0 F.2 F.3) in
     ap (λ (x : Group). any_offers (x.slot m) 8) (at_looked g u m ss made.0).1 ∙ offers_by (g.slot m) 8 F.0 F.2 (posted_offers (g.slot m F.0) F.1 (sym F.4 ∙ word))
 
 -- Loads first, and then what lowers it.
-pub lowers_looked : (before mid after : Option Group) (m : ℕ) (ss : List ℕ) (v : View) (w x : Worker) → MakesAll before (looks_at m ss) mid m v → Lowers mid after w x → Lowers before after w x
+pub lowers_looked : (before mid after : Option Group) (m : ℕ) (ss : List Load) (v : View) (w x : Worker) → MakesAll before (looks_at m ss) mid m v → Lowers mid after w x → Lowers before after w x
 lowers_looked None mid after m ss v w x made less = tt
 lowers_looked (Some g) None after m ss v w x made less = absurd made
 lowers_looked (Some g) (Some u) None m ss v w x made less = absurd less
 lowers_looked (Some g) (Some u) (Some e) m ss v w x made less = (let same = looked_way g u (at_looked g u m ss made.0) in omega (arith, same, less))
 
 -- the same of what lowers it where an own slot is Posted
-pub lowers_found : (before mid after : Option Group) (m : ℕ) (ss : List ℕ) (a : Moment) (v : View) (x : Worker) → MakesAll before (looks_at m ss) mid m v → IfSome before (λ w. a.view ≡ view_of w m) → (L : Looked m a 8 v) → FindsPosted a.worker.places.items L.found 8 → (HasOffer mid m → Lowers mid after a.worker x) → Lowers before after a.worker x
+pub lowers_found : (before mid after : Option Group) (m : ℕ) (ss : List Load) (a : Moment) (v : View) (x : Worker) → MakesAll before (looks_at m ss) mid m v → IfSome before (λ w. a.view ≡ view_of w m) → (L : Looked m a 8 v) → FindsPosted a.worker.places.items L.found 8 → (HasOffer mid m → Lowers mid after a.worker x) → Lowers before after a.worker x
 lowers_found None mid after m ss a v x made agrees L F less = tt
 lowers_found (Some g) None after m ss a v x made agrees L F less = absurd made
 lowers_found (Some g) (Some u) after m ss a v x made agrees L F less = lowers_looked (Some g) (Some u) after m ss v a.worker x made (less (found_offers g u m ss a v made agrees L F))
 
-pub looked_not_more : (before mid after : Option Group) (m : ℕ) (ss : List ℕ) (v : View) (w x : Worker) → MakesAll before (looks_at m ss) mid m v → NotMore mid after w x → NotMore before after w x
+pub looked_not_more : (before mid after : Option Group) (m : ℕ) (ss : List Load) (v : View) (w x : Worker) → MakesAll before (looks_at m ss) mid m v → NotMore mid after w x → NotMore before after w x
 looked_not_more None mid after m ss v w x made less = tt
 looked_not_more (Some g) None after m ss v w x made less = absurd made
 looked_not_more (Some g) (Some u) None m ss v w x made less = absurd less

@@ -6,7 +6,8 @@ use Rattle.group_laws.specs.Runs.{Kind, IsStep, Runs}
 use Rattle.group_laws.specs.Runs.Kind.{Look}
 use Rattle.batch_leader.specs.Rounds.{member_at, slot_at}
 use Rattle.batch_leader.specs.Leading.{looks_upto}
-use Rattle.core_worker.specs.Turns.{looks_at}
+use Rattle.core_worker.specs.Loads.{Load, load_kind, looks_at}
+use Rattle.core_worker.specs.Loads.Load.{Own, Mailbox}
 use Rattle.core_worker.specs.Left.{under_way}
 
 abbrev pub LookedOn : Group → Group → Type 0
@@ -29,9 +30,13 @@ upto_looked w u m a (suc n) r =
     let last = last_step w u (looks_upto m a n) m (Look (member_at m (a + n)) (slot_at (a + n))) r in
     on_then w last.0 u (upto_looked w last.0 m a n last.1) (_, last.2.2)
 
-pub at_looked : (w u : Group) (m : ℕ) (ss : List ℕ) → Runs w (looks_at m ss) u → LookedOn w u
+pub load_looked : (w u : Group) (m : ℕ) (l : Load) → IsStep w m (load_kind m l) u → LookedOn w u
+load_looked w u m (Own s) r = (_, r.2)
+load_looked w u m (Mailbox a b) r = (_, r.3)
+
+pub at_looked : (w u : Group) (m : ℕ) (ls : List Load) → Runs w (looks_at m ls) u → LookedOn w u
 at_looked w u m [] r = (w.looked, r)
-at_looked w u m (s ∷ ss) r = on_then w r.0 u (_, r.1.2) (at_looked r.0 u m ss r.2)
+at_looked w u m (l ∷ ls) r = on_then w r.0 u (load_looked w r.0 m l r.1) (at_looked r.0 u m ls r.2)
 
 pub looked_way : (w u : Group) → LookedOn w u → under_way u ≡ under_way w
 looked_way w u on = ap under_way on.1

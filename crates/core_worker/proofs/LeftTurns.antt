@@ -18,7 +18,8 @@ use Rattle.core_worker.specs.declared.worker.Worker.{Worker}
 use Rattle.core_worker.specs.Posting.{PostsOrStops}
 use Rattle.core_worker.specs.Stopping.{Drops, WithdrawsOrUnlocks}
 use Rattle.core_worker.specs.Ties.{LeadsNothing, HoldsAt}
-use Rattle.core_worker.specs.Turns.{Moment, Looked, FindsPosted, TriesLock, looks_at}
+use Rattle.core_worker.specs.Turns.{Moment, Looked, FindsPosted, TriesLock}
+use Rattle.core_worker.specs.Loads.{Load, looks_at}
 use Rattle.core_worker.specs.Left.{taken_left, leading_left, HasOffer, Lowers, NotMore, Measures, StartsFirst}
 use Rattle.core_worker.proofs.LeadTies.{led_here}
 use Rattle.core_worker.proofs.LeftLocks.{found_offers, lowers_looked, looked_not_more, locks_lower, busy_not_more, first_left}
@@ -44,7 +45,7 @@ found_not_more seat before after v u w x H free had made =
     busy_not_more before after seat.number u w x made (ap (λ (y : View). y.holds) had.0.2 ∙ led.0) free had.1 had.2
 
 -- loads first, and then what is measured
-looked_turn : (r : Result Turn Memory) (g h : Group) (after : Option Group) (m : ℕ) (ss : List ℕ) (v : View) (w x : Worker) → MakesAll (Some g) (looks_at m ss) (Some h) m v → Measures r (Some h) after w x → Measures r (Some g) after w x
+looked_turn : (r : Result Turn Memory) (g h : Group) (after : Option Group) (m : ℕ) (ss : List Load) (v : View) (w x : Worker) → MakesAll (Some g) (looks_at m ss) (Some h) m v → Measures r (Some h) after w x → Measures r (Some g) after w x
 looked_turn (Ok Moved) g h after m ss v w x made less = lowers_looked (Some g) (Some h) after m ss v w x made less
 looked_turn (Ok Idle) g h after m ss v w x made less = looked_not_more (Some g) (Some h) after m ss v w x made less
 looked_turn (Err memory) g h after m ss v w x made less = lowers_looked (Some g) (Some h) after m ss v w x made less
@@ -54,7 +55,7 @@ untold (Ok Moved) after w x = tt
 untold (Ok Idle) after w x = tt
 untold (Err memory) after w x = tt
 
-pub measures_looked : (r : Result Turn Memory) (before mid after : Option Group) (m : ℕ) (ss : List ℕ) (a : Moment) (v : View) (x : Worker) (posted : Bool) → MakesAll before (looks_at m ss) mid m v → IfSome before (λ w. a.view ≡ view_of w m) → (L : Looked m a 8 v)
+pub measures_looked : (r : Result Turn Memory) (before mid after : Option Group) (m : ℕ) (ss : List Load) (a : Moment) (v : View) (x : Worker) (posted : Bool) → MakesAll before (looks_at m ss) mid m v → IfSome before (λ w. a.view ≡ view_of w m) → (L : Looked m a 8 v)
     → MatchBool posted (FindsPosted a.worker.places.items L.found 8) (FindsPosted a.worker.places.items L.found 8 → ⊥) → ((posted ≡ true → HasOffer mid m) → Measures r mid after a.worker x) → Measures r before after a.worker x
 measures_looked r None mid after m ss a v x posted made agrees L found less = untold r after a.worker x
 measures_looked r (Some g) None after m ss a v x posted made agrees L found less = absurd made

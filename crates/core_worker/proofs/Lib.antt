@@ -6,6 +6,7 @@ mod Rounds
 mod Writing
 mod ChunksKept
 mod MailKept
+mod MailTurns
 mod Made
 mod Quiet
 mod Posts
@@ -46,6 +47,11 @@ mod BatchSpends
 pub mod Serving
 mod Heard
 mod HeardNames
+mod HeardDead
+mod HeardMail
+mod HeardStands
+mod HeardMoves
+mod LeftMails
 mod NamesAdded
 mod NamesKnown
 mod Renewing

@@ -43,18 +43,19 @@ name_way a b k n = refl
 
 -- names are told dead one after another
 pub kills_first : (st : StandingState) → KillsNames [] st st
-kills_first st = record { copies = λ k n. refl; settled = refl; room = refl }
+kills_first st = record { copies = λ k n. refl; settled = refl; room = refl; count = refl }
 
 killed_twice : (o : Option Copies) → option_map killed (option_map killed o) ≡ option_map killed o
 killed_twice None = refl
 killed_twice (Some c) = refl
 
 pub kills_more : (ns : List EntryName) (i : ℕ) → i < length ns → (old mid new : StandingState) → KillsNames (take i ns) old mid
-    → Changes mid new (get_or ns i none).key (get_or ns i none).version (option_map killed (copies_at mid (get_or ns i none).key (get_or ns i none).version)) → new.settled ≡ mid.settled → new.room ≡ mid.room → KillsNames (take (i + 1) ns) old new
-kills_more ns i lt old mid new K C settled room = subst (λ (j : ℕ). KillsNames (take j ns) old new) (let e : suc i ≡ i + 1 = omega arith in e) (record {
+    → Changes mid new (get_or ns i none).key (get_or ns i none).version (option_map killed (copies_at mid (get_or ns i none).key (get_or ns i none).version)) → new.settled ≡ mid.settled → new.room ≡ mid.room → length new.entries ≡ length mid.entries → KillsNames (take (i + 1) ns) old new
+kills_more ns i lt old mid new K C settled room count = subst (λ (j : ℕ). KillsNames (take j ns) old new) (let e : suc i ≡ i + 1 = omega arith in e) (record {
   copies = λ k n. C k n ∙ by k n (name_eq (name.key, name.version) (k, n)) refl ∙ ap (λ (b : Bool). cond b (option_map killed (copies_at old k n)) (copies_at old k n)) (sym (has_more ns i lt k n));
   settled = settled ∙ K.settled;
   room = room ∙ K.room;
+  count = count ∙ K.count;
 }) where
   name : EntryName
   name = get_or ns i none

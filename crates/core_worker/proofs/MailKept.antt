@@ -203,6 +203,12 @@ none_waits p m v winds boxes M k n not = by (has (waiting_dead boxes) k n) refl 
   by false e = refl
   by true e = absurd (not (waits_of p m v winds boxes M k n e))
 
+-- a name that stands at the core itself doesn't wait
+pub own_told : (p : Place) (m : ℕ) (v : View) (winds : Bool) (boxes : List Notices) → KeepsMail p m v winds boxes → (k n : ℕ) → v.present k n ≡ Some m → cond (has (waiting_dead boxes) k n) true (v.told k n) ≡ true → v.told k n ≡ true
+own_told p m v winds boxes M k n here t =
+    let off = none_waits p m v winds boxes M k n (λ x. x.other (let there = x.stands in let both : Some x.to ≡ Some m = sym there ∙ here in cc both)) in
+    sym (ap (λ (b : Bool). cond b true (v.told k n)) off) ∙ t
+
 -- the two rules, by what the index has as told
 abbrev pub told_by : List EntryName → (ℕ → ℕ → Bool) → ℕ → ℕ → Bool
 told_by all told k n = cond (has all k n) true (told k n)

@@ -54,6 +54,7 @@ agrees_added p m kept es present told dead A new apart = record {
       (In-append e kept es has_e);
   mine = A.mine;
   dead_told = A.dead_told;
+  stands = A.stands;
 }
 
 -- the two rules were followed
@@ -62,4 +63,5 @@ agrees_tidied p m v last told dead T A = record {
   bodies = A.bodies;
   mine = A.mine;
   dead_told = λ k n own dies. (T.tells k n).1 (⊎_elim (λ before. inl (A.dead_told k n own before)) (λ itself. inr itself) ((T.learns k n).0 dies));
+  stands = λ k n own dies. ⊎_elim (λ before. A.stands k n own before) (λ itself. itself.1) ((T.learns k n).0 dies);
 }

@@ -87,7 +87,7 @@ names_same s m kept present told dead log old new o c same N = record {
 }
 
 -- fewer are filtered out of fewer
-narrow : {X : Type 0} (f g : X → Bool) → ((x : X) → f x ≡ true → g x ≡ true) → (xs : List X) → filter f xs ≡ filter f (filter g xs)
+pub narrow : {X : Type 0} (f g : X → Bool) → ((x : X) → f x ≡ true → g x ≡ true) → (xs : List X) → filter f xs ≡ filter f (filter g xs)
 narrow f g less [] = refl
 narrow f g less (x ∷ xs) = by (g x) refl (narrow f g less xs) where
   off : (b : Bool) → f x ≡ b → g x ≡ false → f x ≡ false

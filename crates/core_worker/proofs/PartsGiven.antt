@@ -1,5 +1,5 @@
 -- A worker of which nothing is pending has what its view has, and no more.
-use Rattle.std.proofs.Common.{◌≡◌, inl, ⊎_elim, ℕ, zero, suc, not, ◌||◌, nat_lt, Bool, true, false, cond, List, [], ◌∷◌, length, Some, is_some, refl, sym, ◌∙◌, ap}
+use Rattle.std.proofs.Common.{◌≡◌, inl, ⊎_elim, ℕ, zero, suc, not, ◌||◌, nat_lt, Bool, true, false, List, [], ◌∷◌, length, is_some, refl, sym, ◌∙◌, ap}
 use Rattle.group_laws.specs.Places.{Place}
 use Rattle.group_laws.specs.MemberViews.{View}
 use Rattle.core_worker.specs.declared.types.Place as places
@@ -12,9 +12,8 @@ use Rattle.core_worker.specs.Order.{InOrder}
 use Rattle.core_worker.specs.Status.{all_free, is_pending}
 use Rattle.core_worker.specs.GivenBack.{IsGivenBack}
 use Rattle.core_worker.specs.StandingTies.{KnowsDead}
-use Rattle.core_worker.specs.Outbox.{as_told, waiting_dead}
-use Rattle.group_laws.specs.Updates.{has}
-use Rattle.core_worker.proofs.MailKept.{waits_of}
+use Rattle.core_worker.specs.Outbox.{as_told}
+use Rattle.core_worker.proofs.MailKept.{own_told}
 
 free_at : (ps : List places.Place) → all_free ps ≡ true → (s : ℕ) → place_at ps s ≡ Free
 free_at [] all zero = refl
@@ -39,18 +38,10 @@ given_back p m v w idle H O runs works = record {
   chunks = H.chunks runs;
   keys = λ k own. H.keys k own (inl runs);
   heard = O.heard;
-  names = record { deaths = L.deaths; buried = L.buried; own = L.own; heard = λ k n here t. L.heard k n here (own_told k n here (has (waiting_dead w.notices.items) k n) refl t) };
+  names = record { deaths = L.deaths; buried = L.buried; own = L.own; heard = λ k n here t. L.heard k n here (own_told p m v w.winds_down w.notices.items H.mail k n here t) };
 } where
   L : KnowsDead m v.kept v.present v.told v.dead w.standing
   L = O.log runs works
-
-  -- what waits for other members doesn't stand in the own log
-  own_told : (k n : ℕ) → v.present k n ≡ Some m → (b : Bool) → has (waiting_dead w.notices.items) k n ≡ b → cond (has (waiting_dead w.notices.items) k n) true (v.told k n) ≡ true → v.told k n ≡ true
-  own_told k n here false e t = sym (ap (λ (b : Bool). cond b true (v.told k n)) e) ∙ t
-  own_told k n here true e t = absurd (
-      let x = waits_of p m v w.winds_down w.notices.items H.mail k n e in
-      let there = x.stands in
-      x.other (let both : Some x.to ≡ Some m = sym there ∙ here in cc both))
 
   free : all_free w.places.items ≡ true
   free = by (all_free w.places.items) refl where

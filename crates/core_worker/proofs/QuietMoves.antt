@@ -1,6 +1,6 @@
 -- A leader's item is a whole move to whoever runs several workers.
 use Rattle.engine_laws.specs.WorkerMoves.{HasDoubt}
-use Rattle.std.proofs.Common.{false, ◌≡◌, ◌⊎◌, inl, ℕ, true, cond, List, [], ◌∷◌, ◌++◌, ◌==◌, map, Option, Some, None, refl, sym, ◌∙◌, ap, append-nil, arith}
+use Rattle.std.proofs.Common.{false, ◌≡◌, ◌⊎◌, inl, ℕ, ◌≤◌, true, cond, List, [], ◌∷◌, ◌++◌, ◌==◌, map, Option, Some, None, refl, sym, ◌∙◌, ap, append-nil, arith}
 use Rattle.std.specs.Prelude.{option_map, option_to_list, IfSome, IsSomeAnd}
 use Rattle.std.specs.List.{filter}
 use Rattle.fs_model.specs.Cells.{key_of}
@@ -45,12 +45,12 @@ runs_in m ks v None after h = tt
 runs_in m ks v (Some a) None h = h
 runs_in m ks v (Some a) (Some b) h = h.0
 
-pub quiet_moves : (p : places.Place) (m : ℕ) (s t : State) (before after : Option Group) (v u : View) (w x : Worker) → Holds p m u x
+pub quiet_moves_low : (p : places.Place) (m : ℕ) (s t : State) (before after : Option Group) (v u : View) (w x : Worker) → Holds p m u x
     → During s t (KeepsOutside (cell_now s) (part_at p m) (part_end p m)) → During s t (Licensed p m v) → (IsTelling t → Licensed p m u (cell_now t)) → Steps before after m u
-    → u.cell ≡ v.cell → u.pending ≡ v.pending → u.blocks ≡ v.blocks → u.last ≡ v.last → u.posted ≡ v.posted → (x.stopped ≡ false → Spends p.layout v.took v.flying u.took u.flying (stock_of w) (stock_of x) None) → ((k : ℕ) → placed_for v x.places.items k ≡ placed_for v w.places.items k) → x.queue ≡ w.queue → x.in_hand ≡ w.in_hand
+    → u.cell ≡ v.cell → u.pending ≡ v.pending → u.blocks ≡ v.blocks → ((k : ℕ) → u.last k ≤ v.last k) → u.posted ≡ v.posted → (x.stopped ≡ false → Spends p.layout v.took v.flying u.took u.flying (stock_of w) (stock_of x) None) → ((k : ℕ) → placed_for v x.places.items k ≡ placed_for v w.places.items k) → x.queue ≡ w.queue → x.in_hand ≡ w.in_hand
     → (x.stopped ≡ true → (w.stopped ≡ true) ⊎ (Rose s.faults t.faults ⊎ (HasDoubt p m u × IfSome before (λ a. (n : ℕ) × (d : Entry) × (a.slot m n ≡ Failed d))))) → (w.stopped ≡ true → x.stopped ≡ true)
     → WorkerMoves p m s t before after v u (hands_of v w) (hands_of u x) [] []
-quiet_moves p m s t before after v u w x H outside moments exit made cell pending blocks last posted spends places queue hand stops stays = record {
+quiet_moves_low p m s t before after v u w x H outside moments exit made cell pending blocks last posted spends places queue hand stops stays = record {
   outside = outside;
   moments = moments;
   exit = exit;
@@ -67,7 +67,7 @@ quiet_moves p m s t before after v u w x H outside moments exit made cell pendin
     doubt = λ d e. inl ((λ i. sym pending i k) ∙ e);
   };
   holds = λ k own. holds_key p m u x H k;
-  refuses = λ k own. quiet_refuses p.layout (stock_of w) (v.last k) (u.last k) (let same = ap (λ (f : ℕ → ℕ). f k) last in omega (arith, same));
+  refuses = λ k own. quiet_refuses p.layout (stock_of w) (v.last k) (u.last k) (last k);
   spends = quiet_in p m v u (hands_of v w) (hands_of u x) [] place_same posted spends;
   stops = stops;
   breaks = H.broken;
@@ -79,3 +79,12 @@ quiet_moves p m s t before after v u w x H outside moments exit made cell pendin
 
     waits_same : (k : ℕ) → (hands_of u x).waits k ≡ (hands_of v w).waits k
     waits_same k = (λ i. map asked_by (filter (λ h. key_of h.request == k) (option_to_list (hand i)) ++ waiting (queue i) k))
+
+-- where no last version is another
+pub quiet_moves : (p : places.Place) (m : ℕ) (s t : State) (before after : Option Group) (v u : View) (w x : Worker) → Holds p m u x
+    → During s t (KeepsOutside (cell_now s) (part_at p m) (part_end p m)) → During s t (Licensed p m v) → (IsTelling t → Licensed p m u (cell_now t)) → Steps before after m u
+    → u.cell ≡ v.cell → u.pending ≡ v.pending → u.blocks ≡ v.blocks → u.last ≡ v.last → u.posted ≡ v.posted → (x.stopped ≡ false → Spends p.layout v.took v.flying u.took u.flying (stock_of w) (stock_of x) None) → ((k : ℕ) → placed_for v x.places.items k ≡ placed_for v w.places.items k) → x.queue ≡ w.queue → x.in_hand ≡ w.in_hand
+    → (x.stopped ≡ true → (w.stopped ≡ true) ⊎ (Rose s.faults t.faults ⊎ (HasDoubt p m u × IfSome before (λ a. (n : ℕ) × (d : Entry) × (a.slot m n ≡ Failed d))))) → (w.stopped ≡ true → x.stopped ≡ true)
+    → WorkerMoves p m s t before after v u (hands_of v w) (hands_of u x) [] []
+quiet_moves p m s t before after v u w x H outside moments exit made cell pending blocks last posted spends places queue hand stops stays =
+    quiet_moves_low p m s t before after v u w x H outside moments exit made cell pending blocks (λ k. let same = ap (λ (f : ℕ → ℕ). f k) last in omega (arith, same)) posted spends places queue hand stops stays

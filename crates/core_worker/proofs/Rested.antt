@@ -22,9 +22,10 @@ use Rattle.core_worker.specs.declared.worker.Worker.{Worker}
 use Rattle.core_worker.specs.OwnPlaces.{place_at, is_staged, is_posted, HasNone}
 use Rattle.core_worker.specs.Status.{has_room, is_leading}
 use Rattle.core_worker.specs.Ties.{Holds, LeadsAt, LeadsNothing}
-use Rattle.core_worker.specs.Turns.{Moment, FindsPosted, PassesItems, PassesPost, SameButLeading, Idles, LooksMade}
+use Rattle.core_worker.specs.Turns.{Moment, FindsPosted, PassesItems, PassesPost, SameButLeading, Idles}
+use Rattle.core_worker.specs.Loads.{LooksMade}
 use Rattle.core_worker.specs.WorkerMoves.{hands_of}
-use Rattle.core_worker.specs.Resting.{IsWithOthers, IsResting, HoldsSame, HasNoMore, OpenFor, LoadsOnly, AtRest, IfIdle, TriedIf}
+use Rattle.core_worker.specs.Resting.{IsWithOthers, IsResting, HoldsSame, HasNoMore, OpenFor, LoadsOnly, AtRest, IfIdle, TriedIf, TriedAfter}
 use Rattle.group_laws.specs.declared.types.Seen.{Seen}
 use Rattle.group_laws.specs.declared.types.Seen.TheVariants.{Holder}
 use Rattle.core_worker.specs.Left.{NotMore}
@@ -32,6 +33,7 @@ use Rattle.core_worker.proofs.LeftWorkers.{leading_way}
 use Rattle.core_worker.proofs.LeftLocks.{looked_not_more, not_more_still, busy_not_more, nothing_left}
 use Rattle.core_worker.proofs.LeftOwn.{own_view}
 use Rattle.core_worker.proofs.QuietMoves.{for_same}
+use Rattle.core_worker.proofs.MailTurns.{passes_more, looks_join}
 use Rattle.core_worker.proofs.RestingLoads.{looks_only, looks_and_try}
 use Rattle.core_worker.proofs.RestingSlots.{busy_slot, with_others}
 use Rattle.core_worker.proofs.RestingPlaces.{slot_of, posted_of, none_waits, room_for_one}
@@ -114,20 +116,20 @@ module _ (p : Place) (refused : Bool) (m : ℕ) (a b : Moment) (seen : View) (P 
 pub holds_same : (p : Place) (m : ℕ) (v u : View) (w x : Worker) → u.pending ≡ v.pending → u.blocks ≡ v.blocks → x.places ≡ w.places → x.queue ≡ w.queue → x.in_hand ≡ w.in_hand → HoldsSame p m (hands_of v w) (hands_of u x)
 holds_same p m v u w x pending blocks same queue hand k own = (for_same v u x.places.items k pending blocks ∙ ap (λ ps. (hands_of v (record w { places = ps })).place k) same, (λ i. (hands_of u (record x { queue = queue i; in_hand = hand i })).waits k))
 
-idle_view : {X : Type 0} (f : View → X) (refused : Bool) (m : ℕ) (a b : Moment) (I : Idles refused m a b) → ((v : View) (xs : List Seen) → f (record v { looked = xs }) ≡ f v) → f b.view ≡ f a.view
-idle_view f refused m a b I same =
+idle_view : {X : Type 0} (f : View → X) (refused : Bool) (p : Place) (m : ℕ) (a b : Moment) (I : Idles refused p m a b) → ((v : View) (xs : List Seen) → f (record v { looked = xs }) ≡ f v) → f b.view ≡ f a.view
+idle_view f refused p m a b I same =
     ⊎_elim (λ no. ap f no.1) (λ busy. ap f busy.1.2 ∙ same I.mid (I.mid.looked ++ Holder busy.1.0 ∷ [])) I.lock
     ∙ ap f I.before.looked.view ∙ same a.view (a.view.looked ++ I.before.looked.looks)
 
-pub idle_same : (p : Place) (refused : Bool) (m : ℕ) (a b : Moment) → Idles refused m a b → HoldsSame p m (hands_of a.view a.worker) (hands_of b.view b.worker)
+pub idle_same : (p : Place) (refused : Bool) (m : ℕ) (a b : Moment) → Idles refused p m a b → HoldsSame p m (hands_of a.view a.worker) (hands_of b.view b.worker)
 idle_same p refused m a b I =
     holds_same p m a.view b.view a.worker b.worker
-    (idle_view (λ (v : View). v.pending) refused m a b I (λ v xs. refl)) (idle_view (λ (v : View). v.blocks) refused m a b I (λ v xs. refl))
+    (idle_view (λ (v : View). v.pending) refused p m a b I (λ v xs. refl)) (idle_view (λ (v : View). v.blocks) refused p m a b I (λ v xs. refl))
     (ap (λ (w : Worker). w.places) I.same) (ap (λ (w : Worker). w.queue) I.same) (ap (λ (w : Worker). w.in_hand) I.same)
 
 -- There is no more to do than before.
-pub idles_not_more : (refused : Bool) (m : ℕ) (a b : Moment) (I : Idles refused m a b) (before mid after : Option Group) → LooksMade before mid m I.mid → (after ≡ mid) ⊎ Makes mid m Kind.Lock after b.view → b.view.holds ≡ false → NotMore before after a.worker b.worker
-idles_not_more refused m a b I before mid after looks tried free =
+pub idles_not_more : (refused : Bool) (p : Place) (m : ℕ) (a b : Moment) (I : Idles refused p m a b) (before mid after : Option Group) → LooksMade before mid m I.mid → (after ≡ mid) ⊎ Makes mid m Kind.Lock after b.view → b.view.holds ≡ false → NotMore before after a.worker b.worker
+idles_not_more refused p m a b I before mid after looks tried free =
     looked_not_more before mid after m looks.0 I.mid a.worker b.worker looks.1
     (⊎_elim (λ no. subst (λ (o : Option Group). NotMore mid o a.worker b.worker) (sym no) (not_more_still mid a.worker b.worker
     (let same = leading_way a.worker b.worker I.same in let was = nothing_left a.worker I.before.free in let now = nothing_left b.worker I.free in omega (arith, same, was, now))))
@@ -136,7 +138,7 @@ idles_not_more refused m a b I before mid after looks tried free =
 
 -- By what a turn answers.
 at_rest : (refused : Bool) (seat : SeatAt) (a b : Moment) (seen : View) (P : PassesItems seat.number a 8 seen) (posted : Bool) → MatchBool posted (FindsPosted a.worker.places.items P.looked.found 8) (FindsPosted a.worker.places.items P.looked.found 8 → ⊥) → (before mid after : Option Group) → LooksMade before mid seat.number seen → TriedIf posted seat.number mid after b.view
-    → Idles refused seat.number a b → Holds seat.place seat.number b.view b.worker → (b.worker.winds_down ≡ false → b.worker.in_hand ≡ None) → Agrees seat.place seat.number a.view before → Agrees seat.place seat.number b.view after → IfSome after (λ w. ∥ Lawful w ∥₁)
+    → Idles refused seat.place seat.number a b → Holds seat.place seat.number b.view b.worker → (b.worker.winds_down ≡ false → b.worker.in_hand ≡ None) → Agrees seat.place seat.number a.view before → Agrees seat.place seat.number b.view after → IfSome after (λ w. ∥ Lawful w ∥₁)
     → AtRest refused seat before after a.view b.view a.worker b.worker
 at_rest refused seat a b seen P posted found before mid after looks tried I H hand entered left lawful =
     let p = seat.place in
@@ -153,9 +155,10 @@ at_rest refused seat a b seen P posted found before mid after looks tried I H ha
       tried_as true f t = inr t
       tried_as false f t = inl (f, t)
 
-pub rests_by : (r : Result Turn Memory) (s t : State) (refused : Bool) (seat : SeatAt) (a b : Moment) (seen : View) (P : PassesItems seat.number a 8 seen) (posted : Bool) → MatchBool posted (FindsPosted a.worker.places.items P.looked.found 8) (FindsPosted a.worker.places.items P.looked.found 8 → ⊥) → (before mid after : Option Group) → LooksMade before mid seat.number seen → IfIdle r (TriedIf posted seat.number mid after b.view)
+pub rests_by : (r : Result Turn Memory) (s t : State) (refused : Bool) (seat : SeatAt) (a b : Moment) (seen : View) (P : PassesItems seat.number a 8 seen) (posted : Bool) → MatchBool posted (FindsPosted a.worker.places.items P.looked.found 8) (FindsPosted a.worker.places.items P.looked.found 8 → ⊥) → (before mid after : Option Group) → LooksMade before mid seat.number seen → IfIdle r (TriedAfter posted seat.number mid after seen b.view)
     → TurnedTo r s t refused before seat a b → Holds seat.place seat.number b.view b.worker → (b.worker.winds_down ≡ false → b.worker.in_hand ≡ None) → Agrees seat.place seat.number a.view before → Agrees seat.place seat.number b.view after → IfSome after (λ w. ∥ Lawful w ∥₁)
     → IfIdle r (AtRest refused seat before after a.view b.view a.worker b.worker)
 rests_by (Ok Moved) s t refused seat a b seen P posted found before mid after looks tried turned H hand entered left lawful = tt
 rests_by (Err memory) s t refused seat a b seen P posted found before mid after looks tried turned H hand entered left lawful = tt
-rests_by (Ok Idle) s t refused seat a b seen P posted found before mid after looks tried turned H hand entered left lawful = at_rest refused seat a b seen P posted found before mid after looks tried turned.1 H hand entered left lawful
+rests_by (Ok Idle) s t refused seat a b seen P posted found before mid after looks T turned H hand entered left lawful =
+    at_rest refused seat a b T.mid (passes_more seat.number a 8 seen T.mid T.looks T.view P) posted found before T.between after (looks_join before mid T.between seat.number seen T.mid looks T.made) T.tried turned.1 H hand entered left lawful

@@ -12,7 +12,8 @@ use Rattle.group_laws.specs.Invariant.{Lawful}
 use Rattle.group_laws.specs.MemberViews.{View, view_of}
 use Rattle.group_laws.specs.Runs.{Kind, IsStep, Runs}
 use Rattle.core_worker.specs.OwnPlaces.{place_at, is_posted}
-use Rattle.core_worker.specs.Turns.{Moment, PassesItems, FindsPosted, IsBack, looks_at}
+use Rattle.core_worker.specs.Turns.{Moment, PassesItems, FindsPosted, IsBack}
+use Rattle.core_worker.specs.Loads.{Load, looks_at}
 use Rattle.core_worker.proofs.LeftLooks.{at_looked}
 use Rattle.core_worker.proofs.LeftLocks.{found_is}
 
@@ -24,7 +25,7 @@ busy_slot h e m step free = ⊎_elim
     step.1
 
 -- From g the loads led to h, and then to e, with no other slots.
-module _ (g h e : Group) (m : ℕ) (ss : List ℕ) (run : Runs g (looks_at m ss) h) (a : Moment) (v : View) (P : PassesItems m a 8 v) (before : a.view ≡ view_of g m) (now : v ≡ view_of h m) (same : e.slot ≡ h.slot)
+module _ (g h e : Group) (m : ℕ) (ss : List Load) (run : Runs g (looks_at m ss) h) (a : Moment) (v : View) (P : PassesItems m a 8 v) (before : a.view ≡ view_of g m) (now : v ≡ view_of h m) (same : e.slot ≡ h.slot)
     (held : FindsPosted a.worker.places.items P.looked.found 8 → (n : ℕ) × (e.holder ≡ Some n)) (lawful : ∥ Lawful e ∥₁) where
   shows : (s : ℕ) → s < 8 → is_posted (place_at a.worker.places.items s) ≡ true → P.looked.found s ≡ word_shown (e.slot m s)
   shows s lt is =

@@ -15,7 +15,7 @@ use Rattle.core_worker.specs.Hearing.{HearsAll}
 use Rattle.core_worker.specs.LogNames.{AreOwnOf}
 use Rattle.core_worker.proofs.GoneKeys.{knows_after}
 
-was_some : (b : Bool) (o : Option ℕ) (h : ℕ) → cond b None o ≡ Some h → o ≡ Some h
+pub was_some : (b : Bool) (o : Option ℕ) (h : ℕ) → cond b None o ≡ Some h → o ≡ Some h
 was_some true o h e = absurd (cc e)
 was_some false o h e = e
 
@@ -40,9 +40,10 @@ pub retires_keys : (p : Place) (m : ℕ) (doomed own : List EntryName) (v u : Vi
 retires_keys p m doomed own v u ps qs es mid ix Q A T X H =
     knows_after p m own v (after_retire p m doomed v) u ps qs es ix Q (lets_retired p m doomed own v u ps qs es mid ix A T X H)
 
-pub receives_keys : (p : Place) (m from : ℕ) (n : Notices) (v u : View) (ps qs : List places.Place) (es mid ix : List (ℕ × slots.Place)) → KnowsAll p m v ps es → IsHeard p m from v n
-    → TidiedIn p m (after_receive p m n v) u → LosesNames n.gone ps qs es mid → HearsAll (core_of p m) mid ix → KnowsAll p m u qs ix
-receives_keys p m from n v u ps qs es mid ix Q A T X H =
+-- what a core was told to be gone leaves its view, and what it knows
+abbrev pub receives_go : (p : Place) (m from : ℕ) (n : Notices) (v u : View) (ps qs : List places.Place) (es mid ix : List (ℕ × slots.Place)) → IsHeard p m from v n
+    → TidiedIn p m (after_receive p m n v) u → LosesNames n.gone ps qs es mid → HearsAll (core_of p m) mid ix → LetsNamesGo p m n.gone v (after_receive p m n v) u ps qs es ix
+receives_go p m from n v u ps qs es mid ix A T X H =
     let left = after_receive p m n v in
     let loses : LosesIn p m n.gone v left = record {
       last = λ k. refl;
@@ -54,4 +55,8 @@ receives_keys p m from n v u ps qs es mid ix Q A T X H =
       was = λ k i h is. was_some (eqb (owner p k) m && has n.gone k i) (v.present k i) h is;
       own = A.own;
     } in
-    knows_after p m n.gone v left u ps qs es ix Q (record { loses = loses; tidied = T; mid = mid; names = X; heard = H })
+    record { loses = loses; tidied = T; mid = mid; names = X; heard = H }
+
+pub receives_keys : (p : Place) (m from : ℕ) (n : Notices) (v u : View) (ps qs : List places.Place) (es mid ix : List (ℕ × slots.Place)) → KnowsAll p m v ps es → IsHeard p m from v n
+    → TidiedIn p m (after_receive p m n v) u → LosesNames n.gone ps qs es mid → HearsAll (core_of p m) mid ix → KnowsAll p m u qs ix
+receives_keys p m from n v u ps qs es mid ix Q A T X H = knows_after p m n.gone v (after_receive p m n v) u ps qs es ix Q (receives_go p m from n v u ps qs es mid ix A T X H)

@@ -25,7 +25,9 @@ use Rattle.core_worker.specs.declared.types.Place.{Place}
 use Rattle.core_worker.specs.declared.worker.Worker.{Worker}
 use Rattle.core_worker.specs.OwnPlaces.{place_at, is_posted}
 use Rattle.core_worker.specs.Ties.{LeadsNothing}
-use Rattle.core_worker.specs.Turns.{PassesItems, IsBack, FoundBack, FindsPosted, looks_at, LooksMade}
+use Rattle.core_worker.specs.Turns.{PassesItems, IsBack, FoundBack, FindsPosted}
+use Rattle.core_worker.specs.Loads.{Load, load_kind, looks_at, LooksMade}
+use Rattle.core_worker.specs.Loads.Load.{Own}
 use Rattle.core_worker.specs.Searching.{Sees, is_given_back, is_out, shows_back, shows_out, Searched, Finds}
 use Rattle.core_worker.specs.declared.search_places.Search.TheVariants.{Out}
 
@@ -37,7 +39,7 @@ searched_none before m p ps v agrees = record {
   seen = λ s lt. absurd (omega (arith, lt));
   none = λ s lt. absurd (omega (arith, lt));
   flag = λ f. absurd (let lt = f.2 in omega (arith, lt));
-  slots = [];
+  loads = [];
   made = no_steps before m p v agrees;
 }
 
@@ -66,13 +68,13 @@ out_word words.Taken b = absurd (cc b)
 out_word (words.Done h) b = absurd (cc b)
 out_word words.Failed b = absurd (cc b)
 
-looks_end : (m slot : ℕ) (ss : List ℕ) → looks_at m (ss ++ slot ∷ []) ≡ looks_at m ss ++ (m, Look m slot) ∷ []
-looks_end m slot ss = map-append {B = ℕ × Kind} (λ s. (m, Look m s)) ss (slot ∷ [])
+looks_end : (m : ℕ) (l : Load) (ss : List Load) → looks_at m (ss ++ l ∷ []) ≡ looks_at m ss ++ (m, load_kind m l) ∷ []
+looks_end m l ss = map-append {B = ℕ × Kind} (λ y. (m, load_kind m y)) ss (l ∷ [])
 
-pub made_more : (before mid after : Option Group) (m slot : ℕ) (ss : List ℕ) (u t : View) → MakesAll before (looks_at m ss) mid m u → Makes mid m (Look m slot) after t → MakesAll before (looks_at m (ss ++ slot ∷ [])) after m t
-made_more before mid after m slot ss u t made step =
-    subst (λ (xs : List (ℕ × Kind)). MakesAll before xs after m t) (sym (looks_end m slot ss))
-    (makes_then before mid after (looks_at m ss) ((m, Look m slot) ∷ []) m u t made (one_step mid after m (Look m slot) t step))
+pub made_more : (before mid after : Option Group) (m : ℕ) (l : Load) (ss : List Load) (u t : View) → MakesAll before (looks_at m ss) mid m u → Makes mid m (load_kind m l) after t → MakesAll before (looks_at m (ss ++ l ∷ [])) after m t
+made_more before mid after m l ss u t made step =
+    subst (λ (xs : List (ℕ × Kind)). MakesAll before xs after m t) (sym (looks_end m l ss))
+    (makes_then before mid after (looks_at m ss) ((m, load_kind m l) ∷ []) m u t made (one_step mid after m (load_kind m l) t step))
 
 module _ (before mid after : Option Group) (m : ℕ) (ps : List Place) (v : View) (slot : ℕ) (posted : Bool) (u t : View) (S : Searched before mid m ps v slot posted u) where
   -- the place isn't posted
@@ -84,8 +86,8 @@ module _ (before mid after : Option Group) (m : ℕ) (ps : List Place) (v : View
     seen = λ s lt is. S.seen s (below s lt is) is;
     none = λ s lt is. S.none s (below s lt is) is;
     flag = by posted S.flag;
-    slots = S.slots;
-    made = subst (λ (g : Option Group). MakesAll before (looks_at m S.slots) g m t) (sym group) (subst (λ (x : View). MakesAll before (looks_at m S.slots) mid m x) (sym same) S.made);
+    loads = S.loads;
+    made = subst (λ (g : Option Group). MakesAll before (looks_at m S.loads) g m t) (sym group) (subst (λ (x : View). MakesAll before (looks_at m S.loads) mid m x) (sym same) S.made);
   } where
     below : (s : ℕ) → s < slot + 1 → is_posted (place_at ps s) ≡ true → s < slot
     below s lt is = ⊎_elim (λ low. low)
@@ -145,8 +147,8 @@ module _ (before mid after : Option Group) (m : ℕ) (ps : List Place) (v : View
           (λ high. let e : s ≡ slot = omega (arith, lt, high) in let both : true ≡ false = sym (back_word word (subst IsBack (here s e) b)) ∙ back in absurd (cc both))
           (cases_lt s slot);
       flag = by posted (is_out (state_of word)) refl S.flag;
-      slots = S.slots ++ slot ∷ [];
-      made = made_more before mid after m slot S.slots u t S.made step;
+      loads = S.loads ++ Own slot ∷ [];
+      made = made_more before mid after m (Own slot) S.loads u t S.made step;
     } where
       by : (b d : Bool) → is_out (state_of word) ≡ d → MatchBool b (FindsPosted ps S.found slot) (FindsPosted ps S.found slot → ⊥) → MatchBool (b || d) (FindsPosted ps now (slot + 1)) (FindsPosted ps now (slot + 1) → ⊥)
       by true d e f = (f.0, f.1, (let lt = f.2 in omega (arith, lt)), f.3, low f.0 f.2 ∙ f.4)
@@ -178,7 +180,7 @@ found_below before mid after m w v slot posted u t nothing S (Some state) sees b
 
 pub found_made : (before mid after : Option Group) (m : ℕ) (w : Worker) (v : View) (slot : ℕ) (posted : Bool) (u t : View) → LeadsNothing w → Searched before mid m w.places.items v slot posted u → (x : Option SlotState) → Sees m slot mid after u t (place_at w.places.items slot) x → shows_back x ≡ true → LooksMade before after m t
 found_made before mid after m w v slot posted u t nothing S None sees back = absurd (cc back)
-found_made before mid after m w v slot posted u t nothing S (Some state) sees back = (S.slots ++ slot ∷ [], made_more before mid after m slot S.slots u t S.made sees.2)
+found_made before mid after m w v slot posted u t nothing S (Some state) sees back = (S.loads ++ Own slot ∷ [], made_more before mid after m (Own slot) S.loads u t S.made sees.2)
 
 -- no place was found given back
 pub searched_all : (before after : Option Group) (m : ℕ) (w : Worker) (v : View) (posted : Bool) (u : View) → LeadsNothing w → Searched before after m w.places.items v 8 posted u → Finds (Out posted) m (record { worker = w; view = v }) u

@@ -407,6 +407,16 @@ module _ (p : Place) (m : ℕ) (v : View) (w : Worker) (H : HoldsAside p m v w) 
         (λ ne. inr (sym (present_other k n ne) ∙ is))
         (cases_eq k key)
 
+    -- what stands in the own log stands there still
+    here_still : (k n : ℕ) → v.present k n ≡ Some m → mid_view.present k n ≡ Some m
+    here_still k n here = ⊎_elim
+        (λ same. ⊎_elim
+        (λ at. absurd (let both : Some m ≡ None = sym here ∙ (λ i. v.present (same i) (at i)) ∙ none_present in cc both))
+        (λ off. ap (λ (i : ℕ). mid_view.present i n) same ∙ present_older n off ∙ ap (λ (i : ℕ). v.present i n) (sym same) ∙ here)
+        (cases_eq n e.version))
+        (λ ne. present_other k n ne ∙ here)
+        (cases_eq k key)
+
     -- no name that waits stands in the own log
     own_told : (k n : ℕ) → mid_view.present k n ≡ Some m → cond (has all k n) true (v.told k n) ≡ true → v.told k n ≡ true
     own_told k n is t = by (has all k n) refl t where
@@ -569,7 +579,7 @@ module _ (p : Place) (m : ℕ) (v : View) (w : Worker) (H : HoldsAside p m v w) 
       answers = room_let_go w done slot key key_was (let eight = H.eight in omega (arith, eight, lt)) R refl refl room O.answers;
       hand = O.hand;
       stops = λ s. subst MayLeadStopped (sym nothing) tt;
-      agrees = agrees_tidied p m mid_view last told dead T (record { bodies = O.agrees.bodies; mine = λ k n h is. ⊎_elim (λ x. ap (owner p) x.0 ∙ own_key) (λ before. O.agrees.mine k n h before) (was_there k n h is); dead_told = O.agrees.dead_told });
+      agrees = agrees_tidied p m mid_view last told dead T (record { bodies = O.agrees.bodies; mine = λ k n h is. ⊎_elim (λ x. ap (owner p) x.0 ∙ own_key) (λ before. O.agrees.mine k n h before) (was_there k n h is); dead_told = O.agrees.dead_told; stands = λ k n own dies. here_still k n (O.agrees.stands k n own dies) });
       log = λ r on. knows_dead (O.log r on);
       names = λ r on. (let had = O.names r on in let more = tells.room in omega (arith, had, more));
     }

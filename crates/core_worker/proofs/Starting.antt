@@ -381,6 +381,7 @@ module _ (p : Place) (m : ℕ) (image : ℕ → ℕ) (start : CoreStart) (layout
       bodies = λ e f has_e has_f key version. ((lawful p image at.place at.rules).logs.one_log m m e f (inl has_e) (inl has_f) key version).1;
       mine = λ k n h is. (mine_of k (home_of p image k n) None (Some h) is (λ none. (let both : None ≡ Some h = none in cc both))).0;
       dead_told = λ k n own dies. sym (dead_told k n own) ∙ dies;
+      stands = λ k n own dies. mine_is k (home_of p image k n) None own ∙ ((lawful p image at.place at.rules).deaths.dead_is m k n dies).1;
     };
     log = λ runs on. knows_dead;
     names = λ runs on. N.names;

@@ -9,7 +9,6 @@ use Rattle.group_laws.specs.declared.types.Slot.{Slot}
 use Rattle.group_laws.specs.declared.types.Slot.TheVariants.{Failed}
 use Rattle.group_laws.specs.State.{Group}
 use Rattle.group_laws.specs.Runs.{Kind, Runs}
-use Rattle.group_laws.specs.Runs.Kind.{Look}
 use Rattle.group_laws.specs.MemberViews.{View, view_of}
 use Rattle.group_board.specs.Seats.{SeatAt}
 use Rattle.group_board.specs.Views.{after_commit}
@@ -39,7 +38,9 @@ use Rattle.core_worker.specs.Ties.{HasSpaceFor}
 use Rattle.core_worker.specs.Supplies.{room_for}
 use Rattle.core_worker.proofs.BatchSpends.{batch_spends}
 use Rattle.core_worker.proofs.LeadTies.{led_here, leads_of}
-use Rattle.core_worker.specs.Turns.{InOrderAt, SameButLeading, Steps, MadeOrStops, UnpledgedAt, Persists, LosesBatch, PersistsOrLoses, PassesItems, looks_at, LooksMade}
+use Rattle.core_worker.proofs.LeftLooks.{at_looked}
+use Rattle.core_worker.specs.Turns.{InOrderAt, SameButLeading, Steps, MadeOrStops, UnpledgedAt, Persists, LosesBatch, PersistsOrLoses, PassesItems}
+use Rattle.core_worker.specs.Loads.{Load, load_kind, looks_at, LooksMade}
 use Rattle.core_worker.specs.declared.types.Place.{Place as WorkerPlace}
 use Rattle.core_worker.specs.Posting.{HasNoBlock, PostsOrStops}
 use Rattle.core_worker.proofs.Given.{adds_none}
@@ -52,7 +53,7 @@ use Rattle.core_worker.proofs.NamesAgreeing.{agrees_added, lacks_taken}
 use Rattle.core_worker.proofs.QuietItems.{IsLed, order_as, order_leading, leading_moves}
 use Rattle.core_worker.proofs.PostMoves.{count_same, facts_of, fault_moves}
 
-nothing_fixed : (seat : SeatAt) (s t : State) (before after : Option Group) (v u : View) (w x : Worker) → x.answers ≡ w.answers → WorkerMoves seat.place seat.number s t before after v u (hands_of v w) (hands_of u x) [] [] → TurnMoves seat s t before after v u w x
+pub nothing_fixed : (seat : SeatAt) (s t : State) (before after : Option Group) (v u : View) (w x : Worker) → x.answers ≡ w.answers → WorkerMoves seat.place seat.number s t before after v u (hands_of v w) (hands_of u x) [] [] → TurnMoves seat s t before after v u w x
 nothing_fixed seat s t before after v u w x same moves = record {
   fixed = [];
   answers = adds_none (IsTelling t) w.answers.items x.answers.items (ap (λ a. a.items) same);
@@ -82,7 +83,7 @@ unpledged_same : (o : Option Entry) (x y : places.Place) → UnpledgedAt o x y �
 unpledged_same None x y is = record { key = ap key_in is; free = ap is_free is; held = λ v. ap (placed_in v) is }
 unpledged_same (Some e) x y is = record { key = ap key_in is.2 ∙ sym (ap key_in is.1); free = ap is_free is.2 ∙ sym (ap is_free is.1); held = λ v. ap (placed_in v) is.2 ∙ sym (ap (placed_in v) is.1) }
 
-held_same : (v : View) (xs ys : List places.Place) → length ys ≡ length xs → ((s : ℕ) → SameChange (place_at xs s) (place_at ys s)) → (k : ℕ) → placed_for v ys k ≡ placed_for v xs k
+pub held_same : (v : View) (xs ys : List places.Place) → length ys ≡ length xs → ((s : ℕ) → SameChange (place_at xs s) (place_at ys s)) → (k : ℕ) → placed_for v ys k ≡ placed_for v xs k
 held_same v [] [] e same k = refl
 held_same v [] (y ∷ ys) e same k = absurd (omega (arith, e))
 held_same v (x ∷ xs) [] e same k = absurd (omega (arith, e))
@@ -235,25 +236,24 @@ posts_did s t refused seat start before after v mid u w x slot passes lowest run
     which
 
 -- loads change no slot, and are steps of the one member
-looks_slots : (w u : Group) (m : ℕ) (ss : List ℕ) → Runs w (looks_at m ss) u → u.slot ≡ w.slot
-looks_slots w u m [] r = ap (λ (x : Group). x.slot) r
-looks_slots w u m (n ∷ ss) r = looks_slots r.0 u m ss r.2 ∙ ap (λ (x : Group). x.slot) r.1.2
+looks_slots : (w u : Group) (m : ℕ) (ss : List Load) → Runs w (looks_at m ss) u → u.slot ≡ w.slot
+looks_slots w u m ss r = ap (λ (x : Group). x.slot) (at_looked w u m ss r).1
 
-abbrev pub kinds_of : List ℕ → ℕ → List Kind
+abbrev pub kinds_of : List Load → ℕ → List Kind
 kinds_of [] m = []
-kinds_of (n ∷ ss) m = Look m n ∷ kinds_of ss m
+kinds_of (l ∷ ss) m = load_kind m l ∷ kinds_of ss m
 
-pub kinds_made : (m : ℕ) (ss : List ℕ) (ks : List Kind) → looks_at m ss ++ map {B = ℕ × Kind} (λ y. (m, y)) ks ≡ map {B = ℕ × Kind} (λ y. (m, y)) (kinds_of ss m ++ ks)
+pub kinds_made : (m : ℕ) (ss : List Load) (ks : List Kind) → looks_at m ss ++ map {B = ℕ × Kind} (λ y. (m, y)) ks ≡ map {B = ℕ × Kind} (λ y. (m, y)) (kinds_of ss m ++ ks)
 kinds_made m [] ks = refl
-kinds_made m (n ∷ ss) ks = ap (λ xs. (m, Look m n) ∷ xs) (kinds_made m ss ks)
+kinds_made m (l ∷ ss) ks = ap (λ xs. (m, load_kind m l) ∷ xs) (kinds_made m ss ks)
 
-looks_then : (before mid after : Option Group) (m : ℕ) (ss : List ℕ) (ks : List Kind) (v : View) → MakesAll before (looks_at m ss) mid m v → IfSome mid (λ a. IsSomeAnd after (λ b. Runs a (map {B = ℕ × Kind} (λ y. (m, y)) ks) b)) → IfSome before (λ a. IsSomeAnd after (λ b. Runs a (map {B = ℕ × Kind} (λ y. (m, y)) (kinds_of ss m ++ ks)) b))
+looks_then : (before mid after : Option Group) (m : ℕ) (ss : List Load) (ks : List Kind) (v : View) → MakesAll before (looks_at m ss) mid m v → IfSome mid (λ a. IsSomeAnd after (λ b. Runs a (map {B = ℕ × Kind} (λ y. (m, y)) ks) b)) → IfSome before (λ a. IsSomeAnd after (λ b. Runs a (map {B = ℕ × Kind} (λ y. (m, y)) (kinds_of ss m ++ ks)) b))
 looks_then None mid after m ss ks v made then = tt
 looks_then (Some a) None after m ss ks v made then = absurd made
 looks_then (Some a) (Some b) None m ss ks v made then = absurd then
 looks_then (Some a) (Some b) (Some d) m ss ks v made then = subst (λ (xs : List (ℕ × Kind)). Runs a xs d) (kinds_made m ss ks) (runs_then a b d (looks_at m ss) (map {B = ℕ × Kind} (λ y. (m, y)) ks) made.0 then)
 
-stood_before : (before mid : Option Group) (m : ℕ) (ss : List ℕ) (v : View) → MakesAll before (looks_at m ss) mid m v → IfSome mid (λ a. (n : ℕ) × (d : Entry) × (a.slot m n ≡ Failed d)) → IfSome before (λ a. (n : ℕ) × (d : Entry) × (a.slot m n ≡ Failed d))
+stood_before : (before mid : Option Group) (m : ℕ) (ss : List Load) (v : View) → MakesAll before (looks_at m ss) mid m v → IfSome mid (λ a. (n : ℕ) × (d : Entry) × (a.slot m n ≡ Failed d)) → IfSome before (λ a. (n : ℕ) × (d : Entry) × (a.slot m n ≡ Failed d))
 stood_before None mid m ss v made stood = tt
 stood_before (Some a) None m ss v made stood = absurd made
 stood_before (Some a) (Some b) m ss v made stood = (stood.0, stood.1, ap (λ (f : ℕ → ℕ → Slot). f m stood.0) (sym (looks_slots a b m ss made.0)) ∙ stood.2)
@@ -271,7 +271,7 @@ spends_seen : {p : _} {m : ℕ} (v u : View) (xs : List Seen) (w x : Hands) (fix
 spends_seen v u xs w x fixed S = record { runs = S.runs; stays = S.stays; begun = S.begun; begins = S.begins; posts = ⊎_elim (λ same. inl same) (λ Q. inr (record { change = Q.change; own = Q.own; was = Q.was; staged = Q.staged; now = Q.now; entry = Q.entry; more = Q.more; few = Q.few })) S.posts; spends = S.spends }
 
 -- what comes after loads is the whole turn's
-module _ (seat : SeatAt) (s t : State) (before mid after : Option Group) (v : View) (xs : List Seen) (u : View) (w x : Worker) (ss : List ℕ) (made : MakesAll before (looks_at seat.number ss) mid seat.number (seen_view v xs)) where
+module _ (seat : SeatAt) (s t : State) (before mid after : Option Group) (v : View) (xs : List Seen) (u : View) (w x : Worker) (ss : List Load) (made : MakesAll before (looks_at seat.number ss) mid seat.number (seen_view v xs)) where
   moments_seen : StaysLicensed s t seat (seen_view v xs) → StaysLicensed s t seat v
   moments_seen M = weaken s t (Licensed seat.place seat.number (seen_view v xs)) (Licensed seat.place seat.number v)
       (λ telling cells licence image may. allowed seat.place seat.number (seen_view v xs) v image (record { kept = refl; flying = refl; doomed = λ k n e. e; blocks = λ q b e. e }) (licence image may)) M

@@ -1,9 +1,9 @@
 -- Names that stand in no log any more: their entries leave the records of their keys, and a key of which nothing stands is forgotten.
-use Rattle.std.specs.Prelude.{◌≡◌, ℕ, ◌==◌, ◌&&◌, not, Bool, true, false, List, [], ◌∷◌, length, Option, Some, None, option_map, if◌then◌else◌}
+use Rattle.std.specs.Prelude.{◌≡◌, ℕ, ◌≤◌, ◌==◌, ◌&&◌, not, Bool, true, false, List, [], ◌∷◌, length, Option, Some, None, option_map, if◌then◌else◌}
 use Rattle.std.specs.List.{filter, list_any}
 use Rattle.log_entry.specs.declared.entry.Entry.{Entry}
 use Rattle.log_entry.specs.declared.entry.EntryName.{EntryName}
-use Rattle.core_index.specs.Index.{known_at, SameRoom}
+use Rattle.core_index.specs.Index.{all_untold, known_at, SameRoom}
 use Rattle.core_index.specs.Records.{KeyRecord, Awaits, is_forgettable}
 use Rattle.core_index.specs.Slots as slots
 use Rattle.group_laws.specs.Updates.{has}
@@ -66,12 +66,14 @@ is_forgotten ns ps es k = names_key ns k && (is_forgettable (known_at es k) && n
 pub record Lacks (ns : List EntryName) (old new : List (ℕ × slots.Place)) : Type 0 where
   pub known : (k : ℕ) → known_at new k ≡ option_map (lacking ns k) (known_at old k)
   pub room : SameRoom old new
+  pub untold : all_untold new ≤ all_untold old
 
 -- The key is forgotten, where it may be, and a staged change of it is its first one; nothing else changed.
 pub record ForgetsKey (k : ℕ) (ps qs : List Place) (old new : List (ℕ × slots.Place)) : Type 0 where
   pub known : (j : ℕ) → known_at new j ≡ (if j == k then recalled (is_out ps k) (known_at old k)
       else known_at old j)
   pub room : SameRoom old new
+  pub untold : all_untold new ≤ all_untold old
   pub count : length qs ≡ length ps
   pub places : (s : ℕ) → place_at qs s
       ≡ (if is_forgettable (known_at old k) && not (is_out ps k) then restarted k (place_at ps s)
@@ -83,6 +85,7 @@ pub record Forgets (ns : List EntryName) (ps qs : List Place) (old new : List (�
   pub known : (k : ℕ) → known_at new k
       ≡ (if is_forgotten ns ps old k then None else known_at old k)
   pub room : SameRoom old new
+  pub untold : all_untold new ≤ all_untold old
   pub count : length qs ≡ length ps
   pub places : (s : ℕ) → place_at qs s ≡ restarted_by (is_forgotten ns ps old) (place_at ps s)
 

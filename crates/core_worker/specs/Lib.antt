@@ -18,6 +18,7 @@ pub mod Hearing
 pub mod Finishing
 pub mod Stopping
 pub mod Accepting
+pub mod Loads
 pub mod Turns
 pub mod Searching
 pub mod WorkerMoves
@@ -59,6 +60,7 @@ pub use Rattle.lazy_alloc.specs.Written
 pub mod PostedPlaces
 pub mod GoneNames
 pub mod LogNames
+pub mod Mails
 pub mod GivingUp
 pub mod Counted
 pub mod CleaningParts

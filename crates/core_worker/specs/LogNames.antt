@@ -79,6 +79,7 @@ pub record KillsNames (ns : List EntryName) (old new : StandingState) : Type 0 w
       else copies_at old k n)
   pub settled : new.settled ≡ old.settled
   pub room : new.room ≡ old.room
+  pub count : length new.entries ≡ length old.entries
 
 -- What another member told is heard: its dead names, then the gone ones, and then the own names that died by these.
 pub record HearsNotices (core : ℕ) (n : Notices) (ps qs : List Place) (es ix : List (ℕ × slots.Place))

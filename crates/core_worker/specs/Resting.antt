@@ -1,8 +1,9 @@
 -- What a core is of which a turn found nothing to do.
-use Rattle.std.specs.Prelude.{◌≡◌, ◌⊎◌, ℕ, Bool, true, false, not, ◌&&◌, List, [], map, Option, Some, None, IfSome, IsSomeAnd, Result, Ok, Err}
+use Rattle.std.specs.Prelude.{◌≡◌, ◌⊎◌, ℕ, Bool, true, false, not, ◌&&◌, List, [], ◌++◌, map, Option, Some, None, IfSome, IsSomeAnd, Result, Ok, Err}
 use Rattle.std.specs.List.{AllByRecursion}
 use Rattle.log_entry.specs.declared.entry.Entry.{Entry}
 use Rattle.group_laws.specs.declared.types.Pending.{Pending}
+use Rattle.group_laws.specs.declared.types.Seen.{Seen}
 use Rattle.group_laws.specs.declared.types.Slot.TheVariants.{Posted, Taken}
 use Rattle.group_laws.specs.Places.{Place, owner}
 use Rattle.group_laws.specs.State.{Group}
@@ -16,6 +17,7 @@ use Rattle.core_worker.specs.declared.types.Turn.{Turn}
 use Rattle.core_worker.specs.declared.types.Turn.TheVariants.{Moved, Idle}
 use Rattle.engine_laws.specs.Workers.{IsLoad}
 use Rattle.core_worker.specs.declared.worker.Worker.{Worker}
+use Rattle.core_worker.specs.Loads.{LooksMade}
 use Rattle.core_worker.specs.Status.{has_room, is_leading}
 use Rattle.core_worker.specs.WorkerMoves.{Placed, Hands, hands_of}
 
@@ -80,3 +82,12 @@ IfIdle (Err memory) X = Unit {0}
 abbrev pub TriedIf : Bool → ℕ → Option Group → Option Group → View → Type 0
 TriedIf true m before after u = Makes before m Lock after u
 TriedIf false m before after u = after ≡ before
+
+-- Other members' mail to this core was looked at, and then the lock was tried, or no other step was made.
+pub record TriedAfter (posted : Bool) (m : ℕ) (before after : Option Group) (v u : View) : Type 0 where
+  pub mid : View
+  pub between : Option Group
+  pub looks : List Seen
+  pub view : mid ≡ record v { looked = v.looked ++ looks }
+  pub made : LooksMade before between m mid
+  pub tried : TriedIf posted m between after u

@@ -18,7 +18,8 @@ use Rattle.core_worker.specs.declared.types.Place.{Place}
 use Rattle.core_worker.specs.declared.search_places.Search.{Search}
 use Rattle.core_worker.specs.declared.search_places.Search.TheVariants.{Back, Out}
 use Rattle.core_worker.specs.OwnPlaces.{place_at, is_posted}
-use Rattle.core_worker.specs.Turns.{Moment, PassesItems, IsBack, FoundBack, FindsPosted, looks_at}
+use Rattle.core_worker.specs.Turns.{Moment, PassesItems, IsBack, FoundBack, FindsPosted}
+use Rattle.core_worker.specs.Loads.{Load, looks_at}
 
 -- the slot of a place is loaded where the place is posted
 abbrev pub Sees : ℕ → ℕ → Option Group → Option Group → View → View → Place → Option SlotState
@@ -60,8 +61,8 @@ pub record Searched (before after : Option Group) (m : ℕ) (ps : List Place) (v
   pub seen : (s : ℕ) → s < upto → is_posted (place_at ps s) ≡ true → In (Slot m s (found s)) looks
   pub none : (s : ℕ) → s < upto → is_posted (place_at ps s) ≡ true → IsBack (found s) → ⊥
   pub flag : MatchBool posted (FindsPosted ps found upto) (FindsPosted ps found upto → ⊥)
-  pub slots : List ℕ
-  pub made : MakesAll before (looks_at m slots) after m u
+  pub loads : List Load
+  pub made : MakesAll before (looks_at m loads) after m u
 
 -- The lowest posted place that is given back, or none is; then also whether a change was found that nobody had taken.
 abbrev pub Finds : Search → ℕ → Moment → View → Type 0

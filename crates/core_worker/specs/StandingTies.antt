@@ -30,13 +30,14 @@ pub record KnowsDead (m : ℕ) (kept : List Entry) (present : ℕ → ℕ → Op
   pub own : (k n : ℕ) → present k n ≡ Some m → IsNamedIn kept k n
   pub heard : (k n : ℕ) → present k n ≡ Some m → told k n ≡ true → dead k n ≡ true
 
--- What a member's view has of names, whatever stands in its log by the region: its certain entries of one name are one, what it believes to stand is of own keys, and it told the own names that are dead in its log.
+-- What a member's view has of names, whatever stands in its log by the region: its certain entries of one name are one, what it believes to stand is of own keys, and the own names that are dead in its log were told and stand there.
 pub record NamesAgree (p : Place) (m : ℕ) (kept : List Entry) (present : ℕ → ℕ → Option ℕ)
     (told dead : ℕ → ℕ → Bool) : Type 0 where
   pub bodies : (e f : Entry) → In e kept → In f kept → e.key ≡ f.key → e.version ≡ f.version
       → e ≡ f
   pub mine : (k n h : ℕ) → present k n ≡ Some h → owner p k ≡ m
   pub dead_told : (k n : ℕ) → owner p k ≡ m → dead k n ≡ true → told k n ≡ true
+  pub stands : (k n : ℕ) → owner p k ≡ m → dead k n ≡ true → present k n ≡ Some m
 
 -- nothing but the number of reserved places differs, and it is no less
 pub record SameNames (old new : StandingState) : Type 0 where

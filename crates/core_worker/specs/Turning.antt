@@ -20,7 +20,7 @@ use Rattle.core_worker.specs.declared.types.Turn.TheVariants.{Moved, Idle}
 use Rattle.core_worker.specs.declared.choose_item.Choice.{Choice}
 use Rattle.core_worker.specs.declared.choose_item.Choice.TheVariants.{Pass, Drop, Post}
 use Rattle.core_worker.specs.OwnPlaces.{is_staged, IsLowest}
-use Rattle.core_worker.specs.Turns.{Moment, InOrderAt, GoesRound, PersistsOrLoses, Marks, Fails, Finishes, Posts, LosesBlock, Locks, Idles, PassesItems, PassesPost, FindsPosted}
+use Rattle.core_worker.specs.Turns.{Moment, InOrderAt, GoesRound, PersistsOrLoses, Marks, Fails, Finishes, Posts, LosesBlock, Receives, Locks, Idles, PassesItems, PassesPost, FindsPosted}
 use Rattle.core_worker.specs.Posting.{PointsNowhere}
 use Rattle.core_worker.specs.Stopping.{Drops, WithdrawsOrUnlocks}
 use Rattle.core_worker.specs.WorkerMoves.{Fixed, hands_of, WorkerMoves}
@@ -80,12 +80,15 @@ pub data Did (s t : State) (refused : Bool) (before : Option Group) (seat : Seat
   loses_block : LosesBlock seat.number a b → Did s t refused before seat a b
   drops : t ≡ s → (all : Bool) → DropsLowest s seat.number a b all
       → Did s t refused before seat a b
-  locks : t ≡ s → Locks refused seat.number a b → Did s t refused before seat a b
+  receives : t ≡ s → Receives refused seat.place seat.number a b
+      → Did s t refused before seat a b
+  locks : t ≡ s → Locks refused seat.place seat.number a b → Did s t refused before seat a b
 
 -- By what a turn answers, it did one of these, or nothing applied.
 abbrev pub Turned : Turn → State → State → Bool → Option Group → SeatAt → Moment → Moment → Type 0
 Turned Moved s t refused before seat a b = Did s t refused before seat a b
-Turned Idle s t refused before seat a b = (t ≡ s) × Idles refused seat.number a b
+Turned Idle s t refused before seat a b = (t ≡ s)
+    × Idles refused seat.place seat.number a b
 
 -- the same where it may find no memory
 abbrev pub TurnedTo : Result Turn Memory → State → State → Bool → Option Group → SeatAt → Moment

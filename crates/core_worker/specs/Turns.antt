@@ -6,13 +6,12 @@ use Rattle.pm_region.specs.State.{State}
 use Rattle.log_entry.specs.declared.entry.Entry.{Entry}
 use Rattle.store_image.specs.Facts.{In}
 use Rattle.group_laws.specs.declared.types.Seen.{Seen}
-use Rattle.group_laws.specs.declared.types.Seen.TheVariants.{Slot, Holder}
+use Rattle.group_laws.specs.declared.types.Seen.TheVariants.{Slot, Holder, Mail}
 use Rattle.group_laws.specs.declared.types.SlotWord.{SlotWord}
 use Rattle.group_laws.specs.declared.types.SlotWord.TheVariants as words
 use Rattle.group_laws.specs.Places.{Place}
 use Rattle.group_laws.specs.State.{Group}
 use Rattle.group_laws.specs.Runs.{Kind}
-use Rattle.group_laws.specs.Runs.Kind.{Look}
 use Rattle.log_entry.specs.Spelling.{words_of}
 use Rattle.core_log.specs.Chunk.{padded}
 use Rattle.core_log.specs.Log.{LogState, with_tail, open_number, open_tail}
@@ -43,6 +42,7 @@ use Rattle.core_worker.specs.StandingTies.{AddsNames}
 use Rattle.core_worker.specs.Order.{InOrder}
 use Rattle.core_worker.specs.Supplies.{room_for, under_way}
 use Rattle.core_worker.specs.Finishing.{FinishesSlot}
+use Rattle.core_worker.specs.Mails.{Hears, PassesMail}
 
 -- some steps of member m lead from the one told state to the other
 abbrev pub Steps : Option Group → Option Group → ℕ → View → Type 0
@@ -224,14 +224,6 @@ abbrev pub FindsPosted : List WorkerPlace → (ℕ → SlotWord) → ℕ → Typ
 FindsPosted ps found upto = (s n : ℕ) × (s < upto) × (is_posted (place_at ps s) ≡ true)
     × (found s ≡ words.Posted n)
 
--- loads of own slots
-abbrev pub looks_at : ℕ → List ℕ → List (ℕ × Kind)
-looks_at m ss = map (λ s. (m, Look m s)) ss
-
--- and no other step
-abbrev pub LooksMade : Option Group → Option Group → ℕ → View → Type 0
-LooksMade before after m v = (slots : List ℕ) × MakesAll before (looks_at m slots) after m v
-
 abbrev pub IsBack : SlotWord → Type 0
 IsBack words.Empty = ⊥
 IsBack (words.Posted n) = ⊥
@@ -290,11 +282,22 @@ pub record LosesBlock (m : ℕ) (a b : Moment) : Type 0 where
 abbrev pub PassesPost : Bool → Worker → Type 0
 PassesPost refused w = HasNone is_staged w.places.items ⊎ ((refused ≡ true) ⊎ (w.winds_down ≡ true))
 
--- Item 7: no cleaning is under way, an own slot was found Posted, and the lock is tried and had.
-pub record Locks (refused : Bool) (m : ℕ) (a b : Moment) : Type 0 where
+-- Item 6: what the lowest member with a full mailbox told is received.
+pub record Receives (refused : Bool) (p : Place) (m : ℕ) (a b : Moment) : Type 0 where
   pub mid : View
   pub before : PassesItems m a SLOTS mid
   pub post : PassesPost refused a.worker
+  pub runs : (a.worker.stopped ≡ false) × (a.worker.winds_down ≡ false)
+  pub from : ℕ
+  pub empty : (h : ℕ) → h < from → h ≢ m → In (Mail h m false) before.looked.looks
+  pub hears : Hears p m from mid b.view a.worker b.worker
+
+-- Item 7: no cleaning is under way, an own slot was found Posted, and the lock is tried and had.
+pub record Locks (refused : Bool) (p : Place) (m : ℕ) (a b : Moment) : Type 0 where
+  pub mid : View
+  pub before : PassesItems m a SLOTS mid
+  pub post : PassesPost refused a.worker
+  pub mail : PassesMail p m a.worker before.looked.looks
   pub clean : under_way a.worker ≡ Nothing
   pub posted : FindsPosted a.worker.places.items before.looked.found SLOTS
   pub view : b.view ≡ after_lock mid
@@ -302,10 +305,11 @@ pub record Locks (refused : Bool) (m : ℕ) (a b : Moment) : Type 0 where
   pub same : SameButLeading a.worker b.worker
 
 -- Item 8: nothing applied. No cleaning is under way, and no own slot was found Posted, or the try found a holder.
-pub record Idles (refused : Bool) (m : ℕ) (a b : Moment) : Type 0 where
+pub record Idles (refused : Bool) (p : Place) (m : ℕ) (a b : Moment) : Type 0 where
   pub mid : View
   pub before : PassesItems m a SLOTS mid
   pub post : PassesPost refused a.worker
+  pub mail : PassesMail p m a.worker before.looked.looks
   pub clean : under_way a.worker ≡ Nothing
   pub lock : ((FindsPosted a.worker.places.items before.looked.found SLOTS → ⊥) × (b.view ≡ mid))
       ⊎ (FindsPosted a.worker.places.items before.looked.found SLOTS

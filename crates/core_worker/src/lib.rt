@@ -18,6 +18,7 @@ mod gone_names;
 mod hearing;
 mod lead_items;
 mod log_names;
+mod mail_items;
 mod open_worker;
 mod outbox;
 mod planning;

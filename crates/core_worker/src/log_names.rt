@@ -1,5 +1,5 @@
 // The names of a core's own log: which are told dead, and what it makes of notices.
-ghost use Rattle.std.specs.Prelude.{◌≡◌, ℕ, ◌+◌, ◌<◌, List, Option, Some, length};
+ghost use Rattle.std.specs.Prelude.{◌≡◌, ℕ, ◌+◌, ◌<◌, ◌≤◌, List, Option, Some, length};
 ghost use Rattle.std.specs.List.{flat_map, AllByRecursion};
 ghost use Rattle.pm_region.specs.State.{State, IsTelling, During, cell_now};
 ghost use Rattle.pm_region.specs.Words.{KeepsOutside};
@@ -25,6 +25,7 @@ ghost use Rattle.group_laws.specs.MemberViews.{View};
 ghost use Rattle.crash_core.specs.Shows.{notices_of};
 ghost use Rattle.group_board.specs.Views.{after_receive, after_retire, TidiedIn};
 ghost use Rattle.group_board.specs.Assurances.{IsHeard};
+ghost use Rattle.core_index.specs.Index.{all_untold};
 ghost use Rattle.core_index.specs.Slots as slots;
 ghost use Rattle.log_standing.specs.NameCounts.{StandingState};
 ghost use Rattle.log_cleaner.specs.Clearing.{ClearingState};
@@ -58,8 +59,10 @@ pub(crate) fn hear_notices(
     notices: &Notices,
 )
     requires eight { length places.old.items ≡ SLOTS }
-    ensures { HearsNotices core (notices_of notices.now) places.old.items places.new.items
+    ensures hears { HearsNotices core (notices_of notices.now) places.old.items places.new.items
         index.old index.new standing.old standing.new }
+    ensures count { length standing.new.entries ≡ length standing.old.entries }
+    ensures untold { all_untold index.new ≤ all_untold index.old }
 {
     kill_names(standing, notices.dead.names());
     lose_names(index, places, notices.gone.names());

@@ -3,7 +3,7 @@ ghost use Rattle.std.specs.Prelude.{◌≡◌, ℕ, ◌<◌, Bool, true, false, 
 ghost use Rattle.group_laws.specs.Places.{members};
 ghost use Rattle.core_worker.specs.OwnPlaces.{place_at};
 ghost use Rattle.core_worker.specs.Ties.{HoldsAt, LeadsNothing};
-ghost use Rattle.core_worker.specs.Turns.{LooksMade};
+ghost use Rattle.core_worker.specs.Loads.{LooksMade};
 ghost use Rattle.batch_leader.specs.TurnSteps.{OnlyLoads};
 ghost use Rattle.core_worker.specs.Searching.{Sees, shows_back, shows_out, Finds};
 

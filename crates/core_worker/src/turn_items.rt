@@ -18,7 +18,8 @@ ghost use Rattle.core_worker.specs.Turns.{InOrderAt, PassesPost, PersistsOrLoses
 ghost use Rattle.core_worker.specs.Turning.{HasBatch, KeepsTurn, TurnMoves, Did, Turned, TurnedTo, Tells, at_entry};
 ghost use Rattle.core_worker.specs.IndexRoom.{HasJustRoom};
 ghost use Rattle.core_worker.specs.Left.{HasOffer, Lowers, Measures, MeasuresTurn, StartsFirst};
-ghost use Rattle.core_worker.specs.Resting.{AtRest, IfIdle, IfIdleTurn, TriedIf};
+ghost use Rattle.core_worker.specs.Mails.{PassesMail};
+ghost use Rattle.core_worker.specs.Resting.{AtRest, IfIdle, IfIdleTurn, TriedAfter, TriedIf};
 
 use crate::choose_item::{Choice, staged_block};
 use crate::gate::Gate;
@@ -118,7 +119,7 @@ impl Worker {
     }
 
     // Tries the lock, where an own change was found that nobody had taken.
-    fn serve_lock<B: Board>(&mut self, board: &mut B, posted: bool) -> Turn
+    pub(crate) fn serve_lock<B: Board>(&mut self, board: &mut B, posted: bool) -> Turn
         requires holds { HoldsAt (B.seat board.old) (B.view board.old) self.old }
         requires order { InOrderAt (B.seat board.old) (B.view board.old) self.old }
         requires nothing { LeadsNothing self.old }
@@ -129,7 +130,9 @@ impl Worker {
             (B.view board.old) (B.view board.new) self.old self.new }
         ensures turned { (s : State) (refused : Bool) (before : Option Group) (v : View)
             → PassesPost refused self.old
-            → Tells posted (B.seat board.old).number self.old v (B.view board.old)
+            → (tells : Tells posted (B.seat board.old).number self.old v (B.view board.old))
+            → PassesMail (B.seat board.old).place (B.seat board.old).number self.old
+            tells.0.looked.looks
             → Turned result s s refused before (B.seat board.old) (at_entry self.old v)
             (at_entry self.new (B.view board.new)) }
         ensures less { (posted ≡ true → HasOffer (B.whole board.old) (B.seat board.old).number)
@@ -152,7 +155,7 @@ impl Worker {
         Turn::Idle
     }
 
-    // Posts the lowest staged change, or tries the lock. A stopped core answers the change instead.
+    // Posts the lowest staged change, or looks at its mail and tries the lock. A stopped core answers the change instead.
     fn serve_staged<R: Region, B: Board, G: Gate>(
         &mut self,
         alloc: Global,
@@ -179,8 +182,8 @@ impl Worker {
         ensures less { (posted ≡ true → HasOffer (B.whole board.old) (B.seat board.old).number)
             → Measures result (B.whole board.old) (B.whole board.new) self.old self.new }
         ensures starts { StartsFirst self.new }
-        ensures tries { IfIdle result (TriedIf posted (B.seat board.old).number
-            (B.whole board.old) (B.whole board.new) (B.view board.new)) }
+        ensures tries { IfIdle result (TriedAfter posted (B.seat board.old).number
+            (B.whole board.old) (B.whole board.new) (B.view board.old) (B.view board.new)) }
         ensures works { OnOk result (self.new.winds_down ≡ self.old.winds_down) }
         ensures steps { TurnSteps (G.may_pass gate.now) (R.state region.old) (R.state region.new)
             (B.view board.old) (B.view board.new)
@@ -189,7 +192,7 @@ impl Worker {
     {
         match self.choose(gate) {
             Choice::Pass => {
-                let turn = self.serve_lock(board, posted);
+                let turn = self.serve_mail(board, posted);
                 return Ok(turn);
             }
             Choice::Drop(slot) => match self.drop_staged(alloc, &*region, slot) {

@@ -14,9 +14,14 @@ use Rattle.store_image.specs.Winners.{winner_in, keys_of, cell_by, recovered}
 use Rattle.store_image.specs.Listing.{ListsCells, with_pair}
 use Rattle.store_image.proofs.Clients.{winner_is, pairs_of, lists_pairs}
 use Rattle.recover.specs.declared.types.RecoverError.{RecoverError}
+use Rattle.store_image.specs.declared.types.Fault.{Fault}
+use Rattle.recover.specs.Causes.{HasCause}
+use Rattle.recover.specs.Gathering.{AreAgreed}
+use Rattle.recover.specs.Judging.{winners_fault}
+use Rattle.recover.proofs.NameLaws.{winners_same}
+use Rattle.recover.proofs.JudgeLaws.{by_winners}
 use Rattle.recover.specs.Winning.{winners_of}
 use Rattle.recover.specs.Live.{pairs_by, HasLeft, Lists}
-use Rattle.recover.proofs.CauseLaws.{memory_cause}
 
 module _ (l : Geometry) (image : ℕ → ℕ) where
   abbrev es : List PlacedEntry
@@ -56,6 +61,14 @@ module _ (l : Geometry) (image : ℕ → ℕ) where
   left_more now more ws all x so_far push is = push ∙ ap (λ ps. ps ++ pairs_by l image (x ∷ [])) so_far ∙ sym (pairs_append ws (x ∷ [])) ∙ ap (pairs_by l image) (sym is)
 
   -- what was listed of winners
-  pub left_lists : (xs : List PlacedEntry) → damage l image ≡ None → winners_of xs ≡ winners_of es → (r : Result (Vec Pair Global) RecoverError) → HasLeft l image xs r → Lists l image r
-  left_lists xs none same (Ok pairs) left = (none, winners_list (winners_of xs) pairs.items same left)
-  left_lists xs none same (Err e) left = memory_cause (damage l image) e left
+  pub left_lists : (xs : List PlacedEntry) → AreAgreed l image xs → (r : Result (Vec Pair Global) RecoverError) → HasLeft l image xs r → Lists l image r
+  left_lists xs agreed r left = by_result r left where
+    same : winners_of xs ≡ winners_of es
+    same = winners_same (all_entries l image) xs agreed.all
+
+    first : damage l image ≡ winners_fault l image [] (winners_of xs)
+    first = by_winners l image (all_entries l image) refl agreed.chunks (winners_fault l image [] (winners_of xs)) (winners_of xs) (sym agreed.clash) same refl
+
+    by_result : (r : Result (Vec Pair Global) RecoverError) → HasLeft l image xs r → Lists l image r
+    by_result (Ok pairs) left = (first ∙ left.0, winners_list (winners_of xs) pairs.items same left.1)
+    by_result (Err e) left = subst (λ (f : Option Fault). HasCause f e) (sym first) left

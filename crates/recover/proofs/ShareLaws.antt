@@ -1,5 +1,5 @@
 -- The shares of the cores, key by key.
-use Rattle.std.proofs.Common.{◌≡◌, ◌≢◌, ◌⊎◌, inl, inr, ⊎_elim, ℕ, ◌<◌, ◌≤◌, ◌==◌, ◌||◌, List, [], ◌∷◌, ◌++◌, length, get_or, set, map, Bool, true, false, Option, Some, None, refl, sym, ◌∙◌, ap, subst}
+use Rattle.std.proofs.Common.{◌≡◌, ◌≢◌, ◌⊎◌, inl, inr, ⊎_elim, ℕ, ◌<◌, ◌≤◌, ◌==◌, ◌||◌, List, [], ◌∷◌, ◌++◌, length, get_or, set, map, Bool, true, false, Option, Some, refl, sym, ◌∙◌, ap, subst}
 use Rattle.std.specs.Prelude.{option_map, slice_index_or, Result, Ok, Err, Vec}
 use Rattle.std.specs.Global.{Global}
 use Rattle.std.specs.Option.{option_to_list}
@@ -12,6 +12,7 @@ use Rattle.log_entry.specs.Spelling.{HasSpelling}
 use Rattle.chunk_map.specs.declared.layouts.Geometry.{Geometry}
 use Rattle.chunk_map.specs.Layouts.{owner}
 use Rattle.store_image.specs.declared.types.PlacedEntry.{PlacedEntry}
+use Rattle.store_image.specs.declared.types.Fault.{Fault}
 use Rattle.store_image.specs.Parts.{all_entries}
 use Rattle.store_image.specs.Soundness.{damage}
 use Rattle.store_image.specs.Winners.{winner_in}
@@ -26,11 +27,14 @@ use Rattle.recover.specs.declared.types.RecoverError.{RecoverError}
 use Rattle.recover.specs.Starts.{KnownAs, named_in}
 use Rattle.recover.specs.ByName.{IsByName}
 use Rattle.recover.specs.Standing.{standee_at}
-use Rattle.recover.specs.Gathering.{AllSpell}
+use Rattle.recover.specs.Gathering.{AllSpell, AreAgreed}
+use Rattle.recover.specs.Causes.{HasCause}
+use Rattle.recover.specs.Winning.{winners_of}
+use Rattle.recover.specs.Judging.{winners_fault}
 use Rattle.recover.specs.Shares.{PointsFor, Shares, GivesShares, IsShare, AreShares, AreSpelledShares, IsEmpty, AreEmpty, Enters, Gives}
 use Rattle.recover.proofs.ListLaws.{any_append, all_at}
-use Rattle.recover.proofs.NameLaws.{winner_same, named_same}
-use Rattle.recover.proofs.CauseLaws.{memory_cause}
+use Rattle.recover.proofs.NameLaws.{winner_same, winners_same, named_same}
+use Rattle.recover.proofs.JudgeLaws.{by_winners}
 use Rattle.recover.proofs.KeyLaws.{LacksKey, HaveKey, winner_behind, winner_front, named_behind, named_front}
 
 -- the pointer of a body in a list of it
@@ -220,6 +224,11 @@ below_map l n [] all = tt
 below_map l n (f ∷ fs) all = (all.0, below_map l n fs all.1)
 
 -- what judged entries give
-pub judged_shares : (l : Geometry) (image : ℕ → ℕ) (xs : List PlacedEntry) → damage l image ≡ None → AllSpell l image → IsByName (all_entries l image) xs → (r : Result (Vec Share Global) RecoverError) → GivesShares l xs r → Shares l image r
-judged_shares l image xs none spell is (Ok shares) given = (none, spell, shares_same l (all_entries l image) xs is shares.items given)
-judged_shares l image xs none spell is (Err e) given = memory_cause (damage l image) e given
+pub judged_shares : (l : Geometry) (image : ℕ → ℕ) (xs : List PlacedEntry) → AreAgreed l image xs → AllSpell l image → (r : Result (Vec Share Global) RecoverError) → GivesShares l image xs r → Shares l image r
+judged_shares l image xs agreed spell r given = by_result r given where
+  first : damage l image ≡ winners_fault l image [] (winners_of xs)
+  first = by_winners l image (all_entries l image) refl agreed.chunks (winners_fault l image [] (winners_of xs)) (winners_of xs) (sym agreed.clash) (winners_same (all_entries l image) xs agreed.all) refl
+
+  by_result : (r : Result (Vec Share Global) RecoverError) → GivesShares l image xs r → Shares l image r
+  by_result (Ok shares) given = (first ∙ given.0, spell, shares_same l (all_entries l image) xs agreed.all shares.items given.1)
+  by_result (Err e) given = subst (λ (f : Option Fault). HasCause f e) (sym first) given

@@ -15,6 +15,7 @@ use Rattle.recover.specs.declared.types.RecoverError.TheVariants as errors
 use Rattle.recover.specs.Causes.{HasCause}
 use Rattle.recover.specs.Recovering.{cells_found}
 use Rattle.recover.specs.Winning.{winners_of}
+use Rattle.recover.specs.Judging.{winners_fault}
 
 -- the pairs of the winners that leave a value
 abbrev pub pairs_by : Geometry → (ℕ → ℕ) → List PlacedEntry → List Pair
@@ -22,11 +23,12 @@ pairs_by l image [] = []
 pairs_by l image (x ∷ xs) = with_pair x.entry.key (cell_by
     (value_in_block l image (owner l x.entry.key)) x.entry.body) (pairs_by l image xs)
 
--- those of the winners of some entries, unless memory was wanting
+-- those of the winners of some entries, or the first one of rules 9 to 11 that a winner breaks
 abbrev pub HasLeft : Geometry → (ℕ → ℕ) → List PlacedEntry → Result (Vec Pair Global) RecoverError
     → Type 0
-HasLeft l image es (Ok pairs) = pairs.items ≡ pairs_by l image (winners_of es)
-HasLeft l image es (Err e) = e ≡ errors.Memory
+HasLeft l image es (Ok pairs) = (winners_fault l image [] (winners_of es) ≡ None)
+    × (pairs.items ≡ pairs_by l image (winners_of es))
+HasLeft l image es (Err e) = HasCause (winners_fault l image [] (winners_of es)) e
 
 -- the pairs of an image that keeps rules 4 to 11, or the first that it breaks
 abbrev pub Lists : Geometry → (ℕ → ℕ) → Result (Vec Pair Global) RecoverError → Type 0

@@ -17,8 +17,9 @@ use Rattle.core_index.specs.Index.{known_at, room_at, EntersAs}
 use Rattle.recover.specs.declared.found_entries.Found.{Found}
 use Rattle.recover.specs.declared.shares.Share.{Share}
 use Rattle.recover.specs.declared.types.RecoverError.{RecoverError}
-use Rattle.recover.specs.declared.types.RecoverError.TheVariants as errors
 use Rattle.recover.specs.Causes.{HasCause}
+use Rattle.recover.specs.Winning.{winners_of}
+use Rattle.recover.specs.Judging.{winners_fault}
 use Rattle.recover.specs.Gathering.{AllSpell}
 use Rattle.recover.specs.Starts.{KnownAs, IsSpelledIndex, named_in}
 
@@ -51,10 +52,12 @@ abbrev pub AreSpelledShares : Geometry → List Share → Type 0
 AreSpelledShares l shares = (c : ℕ) (d : Share) → c < l.cores
     → IsSpelledIndex (slice_index_or shares c d).index
 
--- there is no fault: memory alone may be wanting
-abbrev pub GivesShares : Geometry → List PlacedEntry → Result (Vec Share Global) RecoverError → Type 0
-GivesShares l es (Ok shares) = AreShares l es shares.items
-GivesShares l es (Err e) = e ≡ errors.Memory
+-- what entries give whose winners break none of rules 9 to 11, or the first that one breaks
+abbrev pub GivesShares : Geometry → (ℕ → ℕ) → List PlacedEntry
+    → Result (Vec Share Global) RecoverError → Type 0
+GivesShares l image es (Ok shares) = (winners_fault l image [] (winners_of es) ≡ None)
+    × AreShares l es shares.items
+GivesShares l image es (Err e) = HasCause (winners_fault l image [] (winners_of es)) e
 
 -- the shares of an image that keeps rules 4 to 11, or the first that it breaks
 abbrev pub Shares : Geometry → (ℕ → ℕ) → Result (Vec Share Global) RecoverError → Type 0

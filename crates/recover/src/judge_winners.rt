@@ -96,7 +96,7 @@ fn judge_pointer<R: Region>(
 }
 
 /// Judges a winner by rules 9 to 11. Its value is not read.
-fn judge_winner<R: Region>(
+pub fn judge_winner<R: Region>(
     alloc: Global,
     region: &R,
     layout: &Layout,
@@ -156,7 +156,7 @@ fn clash_fault(layout: &Layout, at: u32) -> Fault
 
 /// All entries of a region in the order of their names, as they are found, or the first broken one of rules 4 to 8.
 /// Of rule 8 the place is that of the first entry that contradicts an earlier one.
-fn agreed_entries<R: Region>(
+pub fn agreed_entries<R: Region>(
     alloc: Global,
     region: &R,
     layout: &Layout,

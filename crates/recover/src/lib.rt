@@ -4,9 +4,11 @@
 //!
 //! The plain and slow program of `image_yardstick` says the same of a list of words; its definitions are the
 //! yardstick here. This one reads the region word by word, chunk by chunk, in time linear in the words up to
-//! the logs' tails. It keeps of each entry its name and its first word, 16 bytes, sorts these once by name, and
-//! reads a body again where it is needed. The heads of the chunks, two words each, are read a second time for the
-//! logs and the allocators, and the logs for the names that stand in them.
+//! the logs' tails. It keeps of each entry its name and its first word, 16 bytes, and sorts these once by name; the
+//! place of the first contradiction comes out of one walk over them. Another walk judges each key's winner and reads
+//! it: since winners by name stand anywhere in the region, the first words of many are loaded side by side. The heads
+//! of the chunks, two words each, are read a second time for the logs and the allocators, and the logs for the names
+//! that stand in them.
 #![tactic(auto)]
 
 mod entry_list;

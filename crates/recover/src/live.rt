@@ -11,7 +11,7 @@ ghost use Rattle.recover.specs.FoundEntries.{placed_at, entries_at, Stands, AreF
 ghost use Rattle.recover.specs.Live.{pairs_by, HasLeft, Lists, ListsLive};
 
 use crate::found_entries::Found;
-use crate::judge_winners::sound_entries;
+use crate::judge_winners::{agreed_entries, judge_winner};
 use crate::key_runs::key_run;
 use crate::look_ahead::look_ahead;
 use crate::reading::{gone_fault, read_at};
@@ -23,6 +23,7 @@ use fs_model::{Pair, Value};
 use log_entry::Body;
 use pm_region::Region;
 use std::alloc::Global;
+use std::collections::BTreeSet;
 use store_image::geometry::owner;
 use store_image::live_pair::push_pair;
 
@@ -75,8 +76,8 @@ fn push_left<R: Region>(
     Ok(())
 }
 
-/// The pairs of the winners that leave a value, by rising key. A winner that stands there no more is answered as
-/// damage.
+/// The pairs of the winners that leave a value, by rising key, or the first one of rules 9 to 11 that a winner breaks.
+/// One that stands there no more is answered as damage.
 fn pairs_left<R: Region>(
     alloc: Global,
     region: &R,
@@ -91,12 +92,15 @@ fn pairs_left<R: Region>(
         (entries_at layout.now (lasts (R.state region.now)) sorted.now) result }
 {
     let mut pairs = Vec::new(alloc);
+    let mut taken = BTreeSet::new(alloc);
     let mut at = 0;
     let mut looked = 0;
     while at < sorted.len() {
         looked = look_ahead(region, layout, sorted, at, looked)?;
         let run = key_run(sorted, at);
-        push_left(alloc, region, layout, &mut pairs, &sorted[run.winner])?;
+        let winner = &sorted[run.winner];
+        judge_winner(alloc, region, layout, &mut taken, winner)?;
+        push_left(alloc, region, layout, &mut pairs, winner)?;
         at = run.end;
     }
     Ok(pairs)
@@ -112,7 +116,7 @@ fn judged_pairs<R: Region>(
     ensures { IsTelling (R.state region.now)
         → Lists layout.now (lasts (R.state region.now)) result }
 {
-    let found = sound_entries(alloc, region, layout)?;
+    let found = agreed_entries(alloc, region, layout)?;
     pairs_left(alloc, region, layout, &found)
 }
 

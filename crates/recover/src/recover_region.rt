@@ -12,7 +12,7 @@ ghost use Rattle.recover.specs.Causes.{AnswersFault};
 ghost use Rattle.recover.specs.Shares.{AreSpelledShares, Shares};
 ghost use Rattle.recover.specs.Recovering.{IsMade, Restores, Recovers, AllStand};
 
-use crate::judge_winners::sound_entries;
+use crate::judge_winners::{agreed_entries, sound_entries};
 use crate::shares::{Share, shares};
 use crate::starts::starts;
 use crate::types::{RecoverError, Recovered};
@@ -69,7 +69,7 @@ fn judged_shares<R: Region>(
     ensures told { IsTelling (R.state region.now)
         → Shares layout.now (lasts (R.state region.now)) result }
 {
-    let found = sound_entries(alloc, region, layout)?;
+    let found = agreed_entries(alloc, region, layout)?;
     shares(alloc, region, layout, &found)
 }
 

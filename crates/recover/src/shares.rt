@@ -14,6 +14,7 @@ ghost use Rattle.recover.specs.Standing.{standee_at};
 ghost use Rattle.recover.specs.Shares.{AreSpelledShares, AreEmpty, Gives, GivesShares};
 
 use crate::found_entries::Found;
+use crate::judge_winners::judge_winner;
 use crate::key_runs::key_run;
 use crate::key_standees::list_standees;
 use crate::look_ahead::look_ahead;
@@ -25,6 +26,7 @@ use fs_errors::Memory;
 use log_entry::Body;
 use pm_region::Region;
 use std::alloc::Global;
+use std::collections::BTreeSet;
 use store_image::geometry::owner;
 
 /// What one core gets.
@@ -127,7 +129,8 @@ fn no_shares(alloc: Global, layout: &Layout) -> Result<Vec<Share>, Memory>
     Ok(shares)
 }
 
-/// What the cores get, in their order, of entries by their names. Each key's winner is read from the region once.
+/// What the cores get, in their order, of entries by their names, or the first one of rules 9 to 11 that a winner breaks.
+/// Each key's winner is judged and read at one time, so that its words are fetched from memory once.
 pub fn shares<R: Region>(
     alloc: Global,
     region: &R,
@@ -140,17 +143,19 @@ pub fn shares<R: Region>(
     ensures spelled { IfOk result (λ shares. AreSpelledShares layout.now shares.items) }
     ensures told { IsTelling (R.state region.now)
         → AreFound layout.now (lasts (R.state region.now)) sorted.now
-        → GivesShares layout.now (entries_at layout.now (lasts (R.state region.now)) sorted.now)
-        result }
+        → GivesShares layout.now (lasts (R.state region.now))
+        (entries_at layout.now (lasts (R.state region.now)) sorted.now) result }
 {
     let mut shares = no_shares(alloc, layout)?;
     let mut standing = Vec::new(alloc);
+    let mut taken = BTreeSet::new(alloc);
     let mut at = 0;
     let mut looked = 0;
     while at < sorted.len() {
         looked = look_ahead(region, layout, sorted, at, looked)?;
         let run = key_run(sorted, at);
         let winner = &sorted[run.winner];
+        judge_winner(alloc, region, layout, &mut taken, winner)?;
         let entries = &sorted[at..run.end];
         give_key(
             alloc,

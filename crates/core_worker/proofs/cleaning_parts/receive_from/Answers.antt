@@ -23,7 +23,7 @@ returns-in-Some-clause-knows g c =
     let p = (g.B.Board.seat c.args.board.now).place in
     let m = (g.B.Board.seat c.args.board.now).number in
     let X : HearsNotices (core_of p m) (notices_of c.in-Some.notices) c.args.places.now.items c.hear_notices.new.places.items c.args.index.now c.hear_notices.new.index c.args.standing.now c.hear_notices.new.standing =
-    subst (λ (x : ℕ). HearsNotices x (notices_of c.in-Some.notices) c.args.places.now.items c.hear_notices.new.places.items c.args.index.now c.hear_notices.new.index c.args.standing.now c.hear_notices.new.standing) c.requires.core c.hear_notices.ensures in
+    subst (λ (x : ℕ). HearsNotices x (notices_of c.in-Some.notices) c.args.places.now.items c.hear_notices.new.places.items c.args.index.now c.hear_notices.new.index c.args.standing.now c.hear_notices.new.standing) c.requires.core c.hear_notices.ensures.hears in
     receives_keys p m c.args.from (notices_of c.in-Some.notices) (g.B.Board.view c.args.board.now) (g.B.Board.view c.receive.new.self) c.args.places.now.items c.hear_notices.new.places.items c.args.index.now X.mid c.hear_notices.new.index
     c.requires.knows c.in-Some.ensures.heard c.in-Some.ensures.view X.loses X.heard
 
@@ -33,4 +33,4 @@ returns-in-Some-clause-names g c names =
     let m = (g.B.Board.seat c.args.board.now).number in
     (received p m c.args.from (notices_of c.in-Some.notices) (g.B.Board.view c.args.board.now) (g.B.Board.view c.receive.new.self) c.args.places.now.items c.hear_notices.new.places.items c.args.index.now c.hear_notices.new.index c.args.standing.now c.hear_notices.new.standing
     c.requires.knows names c.in-Some.ensures.heard c.in-Some.ensures.view
-    (subst (λ (x : ℕ). HearsNotices x (notices_of c.in-Some.notices) c.args.places.now.items c.hear_notices.new.places.items c.args.index.now c.hear_notices.new.index c.args.standing.now c.hear_notices.new.standing) c.requires.core c.hear_notices.ensures)).1
+    (subst (λ (x : ℕ). HearsNotices x (notices_of c.in-Some.notices) c.args.places.now.items c.hear_notices.new.places.items c.args.index.now c.hear_notices.new.index c.args.standing.now c.hear_notices.new.standing) c.requires.core c.hear_notices.ensures.hears)).1

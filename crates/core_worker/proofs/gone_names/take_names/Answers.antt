@@ -5,4 +5,4 @@ pub loop-name-init : goal.loop-name-init
 loop-name-init c = lacks_first c.args.index.now
 
 pub loop-name-preserved : goal.loop-name-preserved
-loop-name-preserved c = lacks_more c.args.names.now c.loop-name.name-index c.loop-name-test.true c.args.index.now c.loop-name.index c.gone.new.self c.loop-name.invariant c.gone.ensures.gone c.gone.ensures.room
+loop-name-preserved c = lacks_more c.args.names.now c.loop-name.name-index c.loop-name-test.true c.args.index.now c.loop-name.index c.gone.new.self c.loop-name.invariant c.gone.ensures.gone c.gone.ensures.room c.gone.ensures.untold

@@ -3,7 +3,10 @@ use Rattle.pm_region.specs.State.{IsTelling}
 use Rattle.pm_region.specs.Words.{lasts}
 use Rattle.recover.specs.FoundEntries.{AreFound, entries_at}
 use Rattle.recover.specs.Shares.{AreShares, AreSpelledShares}
+use Rattle.recover.specs.Winning.{winners_of}
 use Rattle.recover.proofs.KeyLaws.{IsNewKey}
+use Rattle.recover.proofs.RunLaws.{Begins}
+use Rattle.recover.proofs.FaultLaws.{NoneSoFar}
 use Rattle.recover.proofs.shares.shares.Given as goal
 
 -- the keys so far were given
@@ -15,6 +18,9 @@ invariant-loop-at g l = record {
   spelled : AreSpelledShares l.layout l.shares.items;
   told : IsTelling (g.R.Region.state l.region) → AreFound l.layout (lasts (g.R.Region.state l.region)) l.sorted
       → AreShares l.layout (entries_at l.layout (lasts (g.R.Region.state l.region)) (take l.at l.sorted)) l.shares.items;
+  begins : Begins l.sorted l.at;
+  judged : IsTelling (g.R.Region.state l.region) → AreFound l.layout (lasts (g.R.Region.state l.region)) l.sorted
+      → NoneSoFar l.layout (lasts (g.R.Region.state l.region)) l.taken (winners_of (entries_at l.layout (lasts (g.R.Region.state l.region)) (take l.at l.sorted)));
 }
 
 abbrev pub decreases-loop-at : goal.decreases-loop-at

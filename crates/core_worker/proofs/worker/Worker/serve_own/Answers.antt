@@ -15,7 +15,7 @@ use Rattle.core_worker.proofs.LeftTurns.{measures_looked}
 use Rattle.core_worker.proofs.LeftLocks.{lowers_looked}
 use Rattle.core_worker.proofs.LeftTurns.{view_agrees}
 use Rattle.core_worker.specs.Left.{HasOffer}
-use Rattle.core_worker.specs.Resting.{IfIdle, TriedIf}
+use Rattle.core_worker.specs.Resting.{IfIdle, TriedAfter}
 use Rattle.core_worker.proofs.Rested.{Agrees, rests_by}
 use Rattle.batch_leader.proofs.Clients.{loads_then, one_only, turn_of_one, turn_after_loads}
 use Rattle.group_laws.specs.Runs.{Kind}
@@ -180,7 +180,7 @@ returns-in-Out-clause-idles g c =
     let finds = c.in-Out.ensures.finds in
     let K = returns-in-Out-clause-keeps g c in
     rests_by c.serve_staged.result (g.R.Region.state c.args.region.now) (g.R.Region.state c.serve_staged.new.region) (g.G.Gate.may_refuse c.args.gate.now) here (record { worker = c.args.self.now; view = v }) (record { worker = c.serve_staged.new.self; view = u }) (g.B.Board.view c.find_back.new.board) finds.0 c.in-Out.posted finds.1 w0 w1 w2 c.find_back.ensures.looks
-    (subst (λ (q : SeatAt). IfIdle c.serve_staged.result (TriedIf c.in-Out.posted q.number w1 w2 u)) c.find_back.ensures.seat c.serve_staged.ensures.tries)
+    (subst (λ (q : SeatAt). IfIdle c.serve_staged.result (TriedAfter c.in-Out.posted q.number w1 w2 (g.B.Board.view c.find_back.new.board) u)) c.find_back.ensures.seat c.serve_staged.ensures.tries)
     (returns-in-Out-clause-turned g c) K.holds K.order.hand (g.met.B.Board.agrees c.args.board.now)
     (subst (λ (q : SeatAt). Agrees q.place q.number u w2) (c.serve_staged.ensures.seat ∙ c.find_back.ensures.seat) (g.met.B.Board.agrees c.serve_staged.new.board)) (g.met.B.Board.lawful c.serve_staged.new.board)
 

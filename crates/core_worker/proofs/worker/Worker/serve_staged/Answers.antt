@@ -2,7 +2,6 @@
 use Rattle.std.proofs.Common.{Bool, refl, sym, subst}
 use Rattle.std.specs.Prelude.{is_ok}
 use Rattle.core_worker.specs.Turning.Did.{drops}
-use Rattle.core_worker.proofs.CleaningKept.{goes_none}
 use Rattle.core_worker.proofs.TurnLaws.{posts_did}
 use Rattle.core_worker.proofs.ItemLaws.{keeps_drop}
 use Rattle.core_worker.proofs.LeftTurns.{posted_starts}
@@ -12,16 +11,11 @@ use Rattle.batch_leader.proofs.Clients.{no_loads, turn_of_loads}
 use Rattle.batch_leader.specs.TurnSteps.{TurnSteps, trail_with}
 use Rattle.core_worker.proofs.worker.Worker.serve_staged.Goals as goal
 
-pub serve_lock-turn-requires-clause-clean : goal.serve_lock-turn-requires-clause-clean
-serve_lock-turn-requires-clause-clean g c =
-    let seat = g.B.Board.seat c.args.board.now in
-    goes_none seat.place seat.number (g.B.Board.view c.args.board.now) c.args.self.now c.requires.holds.cleaning
-
 pub returns-in-Pass-clause-keeps : goal.returns-in-Pass-clause-keeps
-returns-in-Pass-clause-keeps g c = c.serve_lock-turn.ensures.keeps (g.R.Region.state c.args.region.now) c.requires.stands
+returns-in-Pass-clause-keeps g c = c.serve_mail-turn.ensures.keeps (g.R.Region.state c.args.region.now) c.requires.stands
 
 pub returns-in-Pass-clause-turned : goal.returns-in-Pass-clause-turned
-returns-in-Pass-clause-turned g c before v tells = c.serve_lock-turn.ensures.turned (g.R.Region.state c.args.region.now) (g.G.Gate.may_refuse c.args.gate.now) before v c.in-Pass.ensures tells
+returns-in-Pass-clause-turned g c before v tells = c.serve_mail-turn.ensures.turned (g.R.Region.state c.args.region.now) (g.G.Gate.may_refuse c.args.gate.now) before v c.in-Pass.ensures tells
 
 pub returns-in-Post-clause-turned : goal.returns-in-Post-clause-turned
 returns-in-Post-clause-turned g c before v tells =
@@ -90,7 +84,7 @@ pub returns-in-Post-clause-starts : goal.returns-in-Post-clause-starts
 returns-in-Post-clause-starts g c = posted_starts _ _ _ _ _ c.args.self.now c.post.new.self c.in-Post.slot c.requires.nothing c.post.ensures.posts
 
 pub returns-in-Pass-clause-steps : goal.returns-in-Pass-clause-steps
-returns-in-Pass-clause-steps g c = c.serve_lock-turn.ensures.steps (g.G.Gate.may_pass c.args.gate.now) (g.R.Region.state c.args.region.now)
+returns-in-Pass-clause-steps g c = c.serve_mail-turn.ensures.steps (g.G.Gate.may_pass c.args.gate.now) (g.R.Region.state c.args.region.now)
 
 pub returns-in-Ok-clause-steps : goal.returns-in-Ok-clause-steps
 returns-in-Ok-clause-steps g c = let s = g.R.Region.state c.args.region.now in turn_of_loads (g.G.Gate.may_pass c.args.gate.now) s s _ _ _ _ _ _ (no_loads (g.B.Board.view c.args.board.now) (g.B.Board.trail c.args.board.now))

@@ -1,0 +1,125 @@
+// What a turn does with what other members tell this core.
+ghost use Rattle.std.specs.Prelude.{◌≡◌, ◌<◌, length, Bool, true, false, Option};
+ghost use Rattle.pm_region.specs.State.{State};
+ghost use Rattle.group_laws.specs.declared.group_sizes.TheConstants.{SLOTS};
+ghost use Rattle.group_laws.specs.Places.{members, core_of};
+ghost use Rattle.group_laws.specs.State.{Group};
+ghost use Rattle.group_laws.specs.MemberViews.{View};
+ghost use Rattle.batch_leader.specs.TurnSteps.{TurnSteps, trail_with};
+ghost use Rattle.core_worker.specs.Left.{HasOffer, MeasuresTurn, StartsFirst};
+ghost use Rattle.core_worker.specs.Mails.{MailSteps, ReceivesFirst, ReceivesMail};
+ghost use Rattle.core_worker.specs.Resting.{IfIdleTurn, TriedAfter};
+ghost use Rattle.core_worker.specs.Ties.{HoldsAt, StandsAt, LeadsNothing};
+ghost use Rattle.core_worker.specs.Turning.{KeepsTurn, Tells, Turned, at_entry};
+ghost use Rattle.core_worker.specs.Turns.{InOrderAt, PassesPost};
+
+use crate::log_names::hear_notices;
+use crate::types::Turn;
+use crate::worker::Worker;
+use group_board::Board;
+
+impl Worker {
+    // Receives what a member told, where it told something. Else the mailbox was loaded alone.
+    fn receive_mail<B: Board>(&mut self, board: &mut B, from: u32) -> bool
+        requires member { (B.seat board.old).number < members (B.seat board.old).place }
+        requires sender { from < members (B.seat board.old).place }
+        requires core { self.old.core
+            ≡ core_of (B.seat board.old).place (B.seat board.old).number }
+        requires eight { length self.old.places.items ≡ SLOTS }
+        ensures seat { B.seat board.new ≡ B.seat board.old }
+        ensures received { ReceivesMail result (B.seat board.old).place (B.seat board.old).number
+            from (B.whole board.old) (B.whole board.new) (B.view board.old) (B.view board.new)
+            self.old self.new }
+        ensures steps { MailSteps result (B.view board.old) (B.view board.new)
+            (B.trail board.old) (B.trail board.new) }
+    {
+        match board.receive(from) {
+            None => {
+                return false;
+            }
+            Some(notices) => {
+                hear_notices(
+                    &mut self.index,
+                    &mut self.standing,
+                    &mut self.places,
+                    self.core,
+                    &notices,
+                );
+                return true;
+            }
+        }
+    }
+
+    // The same of a member that may be this one, who tells itself nothing.
+    fn receive_beside<B: Board>(&mut self, board: &mut B, from: u32) -> bool
+        requires member { (B.seat board.old).number < members (B.seat board.old).place }
+        requires sender { from < members (B.seat board.old).place }
+        requires core { self.old.core
+            ≡ core_of (B.seat board.old).place (B.seat board.old).number }
+        requires eight { length self.old.places.items ≡ SLOTS }
+        ensures seat { B.seat board.new ≡ B.seat board.old }
+        ensures received { ReceivesMail result (B.seat board.old).place (B.seat board.old).number
+            from (B.whole board.old) (B.whole board.new) (B.view board.old) (B.view board.new)
+            self.old self.new }
+        ensures steps { MailSteps result (B.view board.old) (B.view board.new)
+            (B.trail board.old) (B.trail board.new) }
+    {
+        if from == board.member() {
+            return false;
+        }
+        self.receive_mail(board, from)
+    }
+
+    // Receives what the lowest member with a full mailbox told.
+    fn receive_first<B: Board>(&mut self, board: &mut B) -> bool
+        requires holds { HoldsAt (B.seat board.old) (B.view board.old) self.old }
+        ensures seat { B.seat board.new ≡ B.seat board.old }
+        ensures received { ReceivesFirst result (B.seat board.old).place
+            (B.seat board.old).number (B.whole board.old) (B.whole board.new)
+            (B.view board.old) (B.view board.new) self.old self.new }
+        ensures steps { MailSteps result (B.view board.old) (B.view board.new)
+            (B.trail board.old) (B.trail board.new) }
+    {
+        for from in 0..board.members() {
+            if self.receive_beside(board, from) {
+                return true;
+            }
+        }
+        false
+    }
+
+    // Receives what a member told, as a core that goes on. Else it tries the lock, where an own change was found that
+    // nobody had taken.
+    pub(crate) fn serve_mail<B: Board>(&mut self, board: &mut B, posted: bool) -> Turn
+        requires holds { HoldsAt (B.seat board.old) (B.view board.old) self.old }
+        requires order { InOrderAt (B.seat board.old) (B.view board.old) self.old }
+        requires nothing { LeadsNothing self.old }
+        ensures seat { B.seat board.new ≡ B.seat board.old }
+        ensures keeps { (s : State) → StandsAt s (B.seat board.old) (B.view board.old) self.old
+            → KeepsTurn (B.seat board.old) s s (B.whole board.old) (B.whole board.new)
+            (B.view board.old) (B.view board.new) self.old self.new }
+        ensures turned { (s : State) (refused : Bool) (before : Option Group) (v : View)
+            → PassesPost refused self.old
+            → Tells posted (B.seat board.old).number self.old v (B.view board.old)
+            → Turned result s s refused before (B.seat board.old) (at_entry self.old v)
+            (at_entry self.new (B.view board.new)) }
+        ensures less { (posted ≡ true → HasOffer (B.whole board.old) (B.seat board.old).number)
+            → MeasuresTurn result (B.whole board.old) (B.whole board.new) self.old self.new }
+        ensures starts { StartsFirst self.new }
+        ensures tries { IfIdleTurn result (TriedAfter posted (B.seat board.old).number
+            (B.whole board.old) (B.whole board.new) (B.view board.old) (B.view board.new)) }
+        ensures works { self.new.winds_down ≡ self.old.winds_down }
+        ensures steps { (passes : Bool) (s : State) → TurnSteps passes s s
+            (B.view board.old) (B.view board.new)
+            (trail_with (B.trail board.old) (B.at board.old))
+            (trail_with (B.trail board.new) (B.at board.new)) }
+    {
+        if self.stopped || self.winds_down {
+            return self.serve_lock(board, posted);
+        }
+        if self.receive_first(board) {
+            return Turn::Moved;
+        }
+        self.serve_lock(board, posted)
+    }
+}
