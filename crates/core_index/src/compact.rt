@@ -40,10 +40,15 @@ pub fn compact(
     ensures { IfSome result (IsCompact slots.now.entries start.now key version
         (opened_with version body.now standing.now)) }
 {
-    if has(slots, key) || !start.live.is_below(key) || !start.deleted.is_below(key) {
+    // The search in the map comes last, since it takes longest.
+    let tombstone = tombstone_of(key, version, body, standing);
+    if tombstone.is_none() || !start.live.is_below(key) || !start.deleted.is_below(key) {
         return None;
     }
-    tombstone_of(key, version, body, standing)
+    if has(slots, key) {
+        return None;
+    }
+    tombstone
 }
 
 /// The same, where it fits into the list of keys with a value.
@@ -58,10 +63,11 @@ pub fn compact_live(
     ensures { IfSome result (IsCompactLive slots.now.entries start.now key body.now
         (opened_with version body.now standing.now)) }
 {
-    if has(slots, key) {
+    let live = start.live.fit(key, version, body, standing);
+    if live.is_none() || has(slots, key) {
         return None;
     }
-    start.live.fit(key, version, body, standing)
+    live
 }
 
 /// Makes room for one more change of a key. It is in the map then.
