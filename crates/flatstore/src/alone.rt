@@ -40,6 +40,7 @@ pub fn flatstore_alone<T: Threads, S: Source, O: Sink, R: SplitRegion + ReadRegi
     sink: &mut O,
     region: &mut R,
 ) -> Report
+    requires open { S.ended source.old ≡ false }
     // The words alone decide on Usage, but for want of memory.
     ensures usage { result.status ≡ statuses.Usage
         → alone_form_of (words_of words.now.items) ≡ None }

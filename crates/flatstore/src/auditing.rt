@@ -40,6 +40,7 @@ fn start_cells<R: SplitRegion + ReadRegion>(
 
 /// Reads the input of an audit to its end, for a region of so many cores.
 fn read<S: Source>(alloc: Global, source: &mut S, cores: u32) -> Result<AuditInput, Status>
+    requires open { S.ended source.old ≡ false }
     ensures ok { IfOk result (IsReadAudit
         (source_use S.coming S.fault_count source.old source.new) cores) }
     ensures err { IfErr result (IsUnreadAudit
@@ -77,6 +78,7 @@ fn judged_from<T: Threads + Sync, S: Source, R: SplitRegion + ReadRegion>(
     recovered: &Recovered,
     workers: u32,
 ) -> Result<Verdict, Status>
+    requires open { S.ended source.old ≡ false }
     requires stands { StandsAsFound (R.state region.now) (R.word region.now) recovered.now }
     requires some { 1 ≤ workers }
     requires few { workers ≤ 16 }
@@ -107,6 +109,7 @@ fn judged<T: Threads + Sync, S: Source, R: SplitRegion + ReadRegion>(
     region: &R,
     workers: u32,
 ) -> Result<Verdict, Status>
+    requires open { S.ended source.old ≡ false }
     requires whole { StandsWhole (R.state region.now) }
     requires some { 1 ≤ workers }
     requires few { workers ≤ 16 }
@@ -157,6 +160,7 @@ pub fn audit_region<T: Threads + Sync, S: Source, O: Sink, R: SplitRegion + Read
     region: &mut R,
     workers: Workers,
 ) -> Report
+    requires open { S.ended source.old ≡ false }
     ensures promise { Audits (R.state region.old) (R.state region.new) (R.found region.old)
         (R.word region.new)
         (source_use S.coming S.fault_count source.old source.new)

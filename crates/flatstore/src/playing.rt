@@ -21,6 +21,7 @@ pub fn replay_region<S: Source, O: Sink, R: SplitRegion + ReadRegion>(
     sink: &mut O,
     region: &mut R,
 ) -> Report
+    requires open { S.ended source.old ≡ false }
     ensures attaches { AttachesToRun (R.state region.old) (R.state region.new)
         (R.found region.old) result }
 

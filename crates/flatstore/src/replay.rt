@@ -31,6 +31,7 @@ pub fn unread(error: InputError) -> Status
 
 /// Reads the input to its end, and gives its lines, to a region of so many cores.
 fn read<S: Source>(alloc: Global, source: &mut S, cores: u32) -> Result<Input, Status>
+    requires open { S.ended source.old ≡ false }
     ensures ok { IfOk result (IsRead (source_use S.coming S.fault_count source.old source.new)
         cores) }
     ensures within { IfOk result (λ input. IsWithin cores input) }
@@ -66,6 +67,7 @@ pub fn prepared<S: Source, R: SplitRegion + ReadRegion>(
     source: &mut S,
     region: &R,
 ) -> Result<(Recovered, Input), Status>
+    requires open { S.ended source.old ≡ false }
     requires whole { StandsWhole (R.state region.now) }
     ensures ready { IfOk result (λ x. IsReady (R.state region.now) (R.word region.now)
         (source_use S.coming S.fault_count source.old source.new) x.0 x.1) }
@@ -91,6 +93,7 @@ pub fn replay<S: Source, R: SplitRegion + ReadRegion>(
     source: &mut S,
     region: &mut R,
 ) -> Result<Outcome, Status>
+    requires open { S.ended source.old ≡ false }
     requires whole { StandsWhole (R.state region.old) }
     ensures played { IfOk result (Played (R.state region.old) (R.word region.old)
         (R.state region.new)

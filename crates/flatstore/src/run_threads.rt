@@ -80,6 +80,7 @@ fn run_cores<T: Threads + Wait + Sync, S: Source, R: SplitRegion + ReadRegion, G
     region: &mut R,
     gate: &G,
 ) -> Result<Outcome, NotRun>
+    requires open { S.ended source.old ≡ false }
     requires whole { StandsWhole (R.state region.old) }
     ensures played { IfOk result (PlayedApart (R.state region.old) (R.word region.old)
         (G.may_refuse gate.now)
@@ -106,6 +107,7 @@ pub fn run_region<
     R: SplitRegion + ReadRegion,
     G: Gate + Sync,
 >(rt: &T, alloc: Global, source: &mut S, sink: &mut O, region: &mut R, gate: &G) -> Report
+    requires open { S.ended source.old ≡ false }
     ensures attaches { AttachesToSplit (R.state region.old) (R.state region.new)
         (R.found region.old) result }
 

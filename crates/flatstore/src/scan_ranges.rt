@@ -38,6 +38,7 @@ pub struct Scan {
 
 /// Reads the input to its end, and gives its queries.
 fn read<S: Source>(alloc: Global, source: &mut S) -> Result<Queries, Status>
+    requires open { S.ended source.old ≡ false }
     ensures ok { IfOk result (AreAsked (source_use S.coming S.fault_count source.old source.new)) }
     ensures err { IfErr result (AreUnread (source_use S.coming S.fault_count source.old
         source.new)) }
@@ -55,6 +56,7 @@ fn prepared<S: Source, R: SplitRegion + ReadRegion>(
     source: &mut S,
     region: &R,
 ) -> Result<Scan, Status>
+    requires open { S.ended source.old ≡ false }
     requires whole { StandsWhole (R.state region.now) }
     ensures ready { IfOk result (IsReadyFor (R.state region.now) (R.word region.now)
         (source_use S.coming S.fault_count source.old source.new)) }
@@ -188,6 +190,7 @@ pub fn scan_region<S: Source, O: Sink, R: SplitRegion + ReadRegion>(
     sink: &mut O,
     region: &mut R,
 ) -> Report
+    requires open { S.ended source.old ≡ false }
     ensures promise { Scans (R.state region.old) (R.state region.new) (R.found region.old)
         (R.word region.new)
         (source_use S.coming S.fault_count source.old source.new)

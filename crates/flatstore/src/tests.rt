@@ -1,4 +1,6 @@
 // The worked rows of a replay on one core, on the top call.
+ghost use Rattle.std.specs.Prelude.{◌≡◌, false};
+
 use crate::alone::flatstore_alone;
 use crate::change_tests::put;
 use crate::command_line;
@@ -67,7 +69,9 @@ pub fn call<S: Source, O: Sink, R: SplitRegion + ReadRegion>(
     source: &mut S,
     sink: &mut O,
     region: &mut R,
-) -> Result<Report, AllocError> {
+) -> Result<Report, AllocError>
+    requires open { S.ended source.old ≡ false }
+{
     let alloc = rt.alloc();
     let line = command(alloc, words)?;
     Ok(flatstore_alone(rt, alloc, &line, source, sink, region))

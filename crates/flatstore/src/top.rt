@@ -50,6 +50,7 @@ pub fn flatstore<
     region: &mut R,
     gate: &G,
 ) -> Report
+    requires open { S.ended source.old ≡ false }
     // The words alone decide on Usage, but for want of memory.
     ensures usage { result.status ≡ statuses.Usage → form_of (words_of words.now.items) ≡ None }
     ensures no_form { form_of (words_of words.now.items) ≡ None → (result.status ≡ statuses.Usage)

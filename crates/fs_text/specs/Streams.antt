@@ -1,5 +1,5 @@
 -- What a source and a sink say of themselves, where they do, and what a call makes of it.
-use Rattle.std.specs.Prelude.{◌≡◌, ◌⊎◌, ℕ, ◌<◌, List, [], ◌++◌, length, Option, Some, None}
+use Rattle.std.specs.Prelude.{◌≡◌, ◌⊎◌, ℕ, ◌<◌, ◌==◌, ◌&&◌, nat_lt, List, [], ◌++◌, length, Bool, Option, Some, None}
 use Rattle.fs_text.specs.declared.input_limits.TheConstants.{MOST_INPUT_BYTES}
 
 -- What a source has left: these bytes come, and then what it has left then. One that tells goes on telling.
@@ -12,6 +12,10 @@ Gives (Some coming) (Some rest) bytes = coming ≡ bytes ++ rest
 abbrev pub IsAtEnd : Option (List ℕ) → Type 0
 IsAtEnd None = Unit {0}
 IsAtEnd (Some coming) = coming ≡ []
+
+-- a read answered with so many bytes, for so much room, that it is at its end
+abbrev pub is_end : ℕ → ℕ → Bool
+is_end count room = count == 0 && nat_lt 0 room
 
 -- It was read to its end, or past the bytes that an input may have.
 abbrev pub IsReadOut : Option (List ℕ) → Option (List ℕ) → Type 0

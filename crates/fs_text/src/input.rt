@@ -1,5 +1,5 @@
 // A whole input.
-ghost use Rattle.std.specs.Prelude.{◌≡◌, ℕ, ◌≤◌, List, true, OnOk, IfOk, IfSome, IsErrOf, Ok};
+ghost use Rattle.std.specs.Prelude.{◌≡◌, ℕ, ◌≤◌, List, true, false, OnOk, IfOk, IfSome, IsErrOf, Ok};
 ghost use Rattle.fs_errors.specs.Counts.{Rose};
 ghost use Rattle.fs_text.specs.Bounds.{IsWithin};
 ghost use Rattle.fs_text.specs.Input.{line_at, input_of};
@@ -134,6 +134,7 @@ pub fn parse_input(alloc: Global, bytes: &[u8], cores: u32) -> Result<Input, Inp
 /// Reads a source to its end, and gives its lines, or the first one that breaks a rule. A source of more bytes than an
 /// input may have is read up to one byte past them.
 pub fn read_input<S: Source>(alloc: Global, source: &mut S, cores: u32) -> Result<Input, InputError>
+    requires open { S.ended source.old ≡ false }
     ensures exact { IfSome (S.coming source.old) (λ bytes. Answers result (input_of cores bytes)) }
     ensures some { (bytes : List ℕ) × Answers result (input_of cores bytes) }
     ensures within { IfOk result (λ input. IsWithin cores input) }

@@ -1,5 +1,5 @@
 // A source in memory whose reads fail by a list.
-ghost use Rattle.std.specs.Prelude.{◌≡◌, ◌<◌, Some};
+ghost use Rattle.std.specs.Prelude.{◌≡◌, ◌<◌, false, Some};
 
 use crate::feed::Feed;
 use crate::source::{Source, SourceFault};
@@ -11,30 +11,35 @@ pub struct MemSource {
     fails: Vec<u64>,
     calls: u64,
     faults: u64,
+    ended: bool,
 }
 
 impl MemSource {
-    ghost use Rattle.fs_text.specs.MemorySources.{mem_coming, mem_source_faults};
+    ghost use Rattle.fs_text.specs.MemorySources.{mem_coming, mem_ended, mem_source_faults};
 
     /// A source that gives these bytes, at most `most` a call. The reads with the numbers in `fails` fail.
     pub fn new(bytes: Vec<u8>, most: u64, fails: Vec<u64>) -> MemSource
         requires { 0 < most }
         ensures coming { mem_coming result ≡ Some bytes.items }
         ensures faults { mem_source_faults result ≡ 0 }
+        ensures open { mem_ended result ≡ false }
     {
         MemSource {
             feed: Feed::new(bytes, most),
             fails,
             calls: 0,
             faults: 0,
+            ended: false,
         }
     }
 }
 
 impl Source for MemSource {
-    ghost use Rattle.fs_text.specs.MemorySources.{mem_coming, mem_source_faults};
+    ghost use Rattle.fs_text.specs.MemorySources.{mem_coming, mem_ended, mem_source_faults};
 
     ghost coming = { mem_coming };
+
+    ghost ended = { mem_ended };
 
     ghost fault_count = { mem_source_faults };
 
@@ -44,7 +49,9 @@ impl Source for MemSource {
             self.faults = self.faults.saturating_add(1);
             return Err(SourceFault);
         }
-        Ok(self.feed.give(buf))
+        let count = self.feed.give(buf);
+        self.ended = count == 0 && !buf.is_empty();
+        Ok(count)
     }
 
     fn faults(&self) -> u64 {

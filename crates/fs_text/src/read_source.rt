@@ -1,5 +1,5 @@
 // A whole source.
-ghost use Rattle.std.specs.Prelude.{◌≡◌, ◌+◌, ◌<◌, ◌≤◌, length, take, drop, IfOk, OnOk, OnErr, IsErrOf};
+ghost use Rattle.std.specs.Prelude.{◌≡◌, ◌≢◌, ◌+◌, ◌<◌, ◌≤◌, false, length, take, drop, IfOk, OnOk, OnErr, IsErrOf};
 ghost use Rattle.fs_errors.specs.Counts.{Rose};
 ghost use Rattle.fs_text.specs.Streams.{Gives, IsAtEnd};
 
@@ -64,13 +64,15 @@ fn read_behind<S: Source>(
     bytes: &mut Vec<u8>,
     filled: usize,
 ) -> Result<usize, SourceFault>
-    requires { filled < length bytes.old.items }
+    requires open { S.ended source.old ≡ false }
+    requires room { filled < length bytes.old.items }
     ensures size { length bytes.new.items ≡ length bytes.old.items }
     ensures within { IfOk result (λ n. filled + n ≤ length bytes.old.items) }
     ensures kept { take filled bytes.new.items ≡ take filled bytes.old.items }
     ensures gives { IfOk result (λ n. Gives (S.coming source.old) (S.coming source.new)
         (take n (drop filled bytes.new.items))) }
     ensures end { IfOk result (λ n. n ≡ 0 → IsAtEnd (S.coming source.new)) }
+    ensures goes_on { IfOk result (λ n. n ≢ 0 → S.ended source.new ≡ false) }
     ensures cause { OnErr result (Rose (S.fault_count source.old) (S.fault_count source.new)) }
     ensures count { S.fault_count source.old ≤ S.fault_count source.new }
 {
@@ -79,6 +81,7 @@ fn read_behind<S: Source>(
 
 /// The bytes of a source up to its end, or the first `most` of them.
 pub fn read_all<S: Source>(alloc: Global, source: &mut S, most: usize) -> Result<Vec<u8>, ReadError>
+    requires open { S.ended source.old ≡ false }
     ensures gives { IfOk result (λ bytes. Gives (S.coming source.old) (S.coming source.new)
         bytes.items) }
     ensures most { IfOk result (λ bytes. length bytes.items ≤ most) }

@@ -1,5 +1,5 @@
 // A reader of std as a source.
-ghost use Rattle.std.specs.Prelude.{◌≡◌, ◌<◌, ◌≤◌, [], length, take, IfSome, IfNone};
+ghost use Rattle.std.specs.Prelude.{◌≡◌, ◌<◌, ◌≤◌, [], false, length, take, IfSome, IfNone};
 ghost use Rattle.fs_text.specs.Streams.{Gives, IsAtEnd};
 
 use crate::source::{Source, SourceFault};
@@ -10,6 +10,7 @@ use std::io::{ErrorKind, Read};
 pub struct StdSource<T: Read + Drop> {
     reader: T,
     faults: u64,
+    ended: bool,
 }
 
 impl<T: Read + Drop> StdSource<T> {
@@ -17,19 +18,29 @@ impl<T: Read + Drop> StdSource<T> {
     pub fn over(reader: T) -> StdSource<T>
         ensures reader { result.reader ≡ reader }
         ensures faults { result.faults ≡ 0 }
+        ensures open { result.ended ≡ false }
     {
-        StdSource { reader, faults: 0 }
+        StdSource {
+            reader,
+            faults: 0,
+            ended: false,
+        }
     }
 }
 
 impl<T: Read + Drop> Source for StdSource<T> {
     ghost coming = { λ s. T.remaining s.reader };
 
+    ghost ended = { λ s. s.ended };
+
     ghost fault_count = { λ s. s.faults };
 
     fn read(&mut self, buf: &mut [u8]) -> Result<usize, SourceFault> {
         match read_retrying(&mut self.reader, buf) {
-            Some(count) => Ok(count),
+            Some(count) => {
+                self.ended = count == 0 && !buf.is_empty();
+                Ok(count)
+            }
             None => {
                 self.faults = self.faults.saturating_add(1);
                 Err(SourceFault)

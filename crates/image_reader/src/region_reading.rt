@@ -1,5 +1,5 @@
 // The top call: a region from a source to a sink.
-ghost use Rattle.std.specs.Prelude.{◌≡◌, ◌≤◌};
+ghost use Rattle.std.specs.Prelude.{◌≡◌, ◌≤◌, false};
 ghost use Rattle.pm_region.specs.State.{Rose};
 ghost use Rattle.image_reader.specs.declared.ending.Ending.TheVariants as endings;
 ghost use Rattle.image_reader.specs.Endings.{Tells};
@@ -12,6 +12,7 @@ use std::alloc::Global;
 
 /// Reads a region from a source, and writes its live pairs to a sink where it is sound.
 pub fn read_region<S: Source, O: Sink>(alloc: Global, source: &mut S, sink: &mut O) -> Ending
+    requires open { S.ended source.old ≡ false }
     ensures tells { Tells result (S.coming source.old) (S.coming source.new) (O.taken sink.old)
         (O.taken sink.new) }
     ensures source_fault { result ≡ endings.SourceFault

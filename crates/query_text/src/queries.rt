@@ -1,5 +1,5 @@
 // A whole input of queries.
-ghost use Rattle.std.specs.Prelude.{◌≡◌, ℕ, ◌≤◌, List, true, IfOk, IfSome, IsErrOf};
+ghost use Rattle.std.specs.Prelude.{◌≡◌, ℕ, ◌≤◌, List, true, false, IfOk, IfSome, IsErrOf};
 ghost use Rattle.fs_errors.specs.Counts.{Rose};
 ghost use Rattle.fs_text.specs.Reading.{Answers, is_said, numbered};
 ghost use Rattle.fs_text.specs.Streams.{IsReadOut};
@@ -85,6 +85,7 @@ pub fn parse_queries(alloc: Global, bytes: &[u8]) -> Result<Queries, InputError>
 /// Reads a source to its end, and gives its queries, or the first line that breaks a rule. A source of more bytes than
 /// an input may have is read up to one byte past them.
 pub fn read_queries<S: Source>(alloc: Global, source: &mut S) -> Result<Queries, InputError>
+    requires open { S.ended source.old ≡ false }
     ensures exact { IfSome (S.coming source.old) (λ bytes. Answers result (queries_of bytes)) }
     ensures some { (bytes : List ℕ) × Answers result (queries_of bytes) }
     ensures whole { is_said result ≡ true → IsReadOut (S.coming source.old) (S.coming source.new) }

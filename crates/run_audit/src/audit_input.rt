@@ -1,5 +1,5 @@
 // The input of an audit.
-ghost use Rattle.std.specs.Prelude.{◌≡◌, ℕ, ◌+◌, ◌≤◌, List, Ok, OnOk, IfOk, IfSome, IsErrOf, true, length};
+ghost use Rattle.std.specs.Prelude.{◌≡◌, ℕ, ◌+◌, ◌≤◌, List, Ok, OnOk, IfOk, IfSome, IsErrOf, true, false, length};
 ghost use Rattle.std.specs.List.{filter_map};
 ghost use Rattle.fs_errors.specs.Counts.{Rose};
 ghost use Rattle.fs_model.specs.declared.model.Reply.{Reply};
@@ -93,6 +93,7 @@ pub fn read_audit<S: Source>(
     source: &mut S,
     cores: u32,
 ) -> Result<AuditInput, InputError>
+    requires open { S.ended source.old ≡ false }
     ensures exact { IfSome (S.coming source.old)
         (λ bytes. Answers (listed result) (audit_input_of cores bytes)) }
     ensures some { (bytes : List ℕ) × Answers (listed result) (audit_input_of cores bytes) }

@@ -10,5 +10,6 @@ loop-filled-preserved g c = record {
   gives = gives_behind (g.S.Source.coming c.args.source.now) (g.S.Source.coming c.loop-filled.source) (g.S.Source.coming c.read_behind.new.source)
       c.loop-filled.bytes.items c.read_behind.new.bytes.items c.loop-filled.filled c.in_ok-count.count
       (c.in_ok-count.ensures.kept ∙ c.in_ok-make_room.ensures.kept) c.loop-filled.invariant.gives c.in_ok-count.ensures.gives;
+  open_ = c.in_ok-count.ensures.goes_on c.if-count-eq0.false;
   count = le_trans c.loop-filled.invariant.count c.in_ok-count.ensures.count;
 }

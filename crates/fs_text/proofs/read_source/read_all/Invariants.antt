@@ -1,4 +1,4 @@
-use Rattle.std.proofs.Common.{◌-◌, ◌≤◌, length, take}
+use Rattle.std.proofs.Common.{◌≡◌, ◌-◌, ◌≤◌, false, length, take}
 use Rattle.fs_text.specs.Streams.{Gives}
 use Rattle.fs_text.proofs.read_source.read_all.Given as goal
 
@@ -7,6 +7,7 @@ invariant-loop-filled g l = record {
   within : l.filled ≤ length l.bytes.items;
   most : length l.bytes.items ≤ l.fn.most;
   gives : Gives (g.S.Source.coming l.fn.source) (g.S.Source.coming l.source) (take l.filled l.bytes.items);
+  open_ : g.S.Source.ended l.source ≡ false;
   count : g.S.Source.fault_count l.fn.source ≤ g.S.Source.fault_count l.source;
 }
 
