@@ -39,6 +39,7 @@ order_accepted p m v w x H known leading stopped hand winds same halts answers O
   heard = λ k n waits. O.heard k n (subst (λ o. Awaits o (core_of p m) n) (known k) waits);
   told = O.told;
   versions = λ k n s is. subst (λ o. n ≤ last_of o) (sym (known k)) (O.versions k n s (ap (λ o. standing_at (standing_of o) n) (sym (known k)) ∙ is));
+  mine = λ k n s is. O.mine k n s (ap (λ o. standing_at (standing_of o) n) (sym (known k)) ∙ is);
   next = O.next;
   spelled = O.spelled;
   recalls = λ k own busy none. ap is_forgettable (known k) ∙ by w.stopped k own busy none refl;
@@ -87,8 +88,8 @@ order_begun_now p m v w u b k B room hand few only known line less H N O =
 
 -- an answer was given out
 pub given_order : (p : Place) (m : ℕ) (v : View) (w : Worker) (a : VecDeque Answer Global) → deque_len a ≤ deque_len w.answers → deque_capacity a ≡ deque_capacity w.answers → InOrder p m v w → InOrder p m v (record w { answers = a })
-given_order p m v w a fewer same O = record { owned = O.owned; single = O.single; distinct = O.distinct; heard = O.heard; told = O.told; versions = O.versions; next = O.next; spelled = O.spelled; recalls = O.recalls; answers = (let room = O.answers in omega (arith, room, fewer, same)); hand = O.hand; stops = O.stops; agrees = O.agrees; log = O.log; names = O.names }
+given_order p m v w a fewer same O = record { owned = O.owned; single = O.single; distinct = O.distinct; heard = O.heard; told = O.told; versions = O.versions; mine = O.mine; next = O.next; spelled = O.spelled; recalls = O.recalls; answers = (let room = O.answers in omega (arith, room, fewer, same)); hand = O.hand; stops = O.stops; agrees = O.agrees; log = O.log; names = O.names }
 
 -- it winds down
 pub wound_order : (p : Place) (m : ℕ) (v : View) (w : Worker) → InOrder p m v w → InOrder p m v (record w { winds_down = true })
-wound_order p m v w O = record { owned = O.owned; single = O.single; distinct = O.distinct; heard = O.heard; told = O.told; versions = O.versions; next = O.next; spelled = O.spelled; recalls = O.recalls; answers = O.answers; hand = λ on. absurd (cc on); stops = O.stops; agrees = O.agrees; log = λ r on. absurd (cc on); names = λ r on. absurd (cc on) }
+wound_order p m v w O = record { owned = O.owned; single = O.single; distinct = O.distinct; heard = O.heard; told = O.told; versions = O.versions; mine = O.mine; next = O.next; spelled = O.spelled; recalls = O.recalls; answers = O.answers; hand = λ on. absurd (cc on); stops = O.stops; agrees = O.agrees; log = λ r on. absurd (cc on); names = λ r on. absurd (cc on) }

@@ -123,6 +123,7 @@ module _ (p : groups.Place) (m : ℕ) (v : View) (w : Worker) (H : Holds p m v w
       heard = O.heard;
       told = O.told;
       versions = O.versions;
+      mine = O.mine;
       single = λ q b has same. subst (λ (k : ℕ). (block_of (known_at w.index k) ≡ Some q) ⊎ PointsAt (v.pending k) q) same (O.single q b has);
       distinct = λ q points is. O.distinct e.key q points is;
       next = λ q has. absurd (let none = facts.2 in let both : None ≡ Some q = sym none ∙ has in cc both);

@@ -9,7 +9,7 @@ use Rattle.core_index.specs.Records.{Awaits, last_of, standing_of, standing_at, 
 use Rattle.core_index.specs.declared.types.Standing.{Standing}
 use Rattle.group_laws.specs.declared.types.Block.{Block}
 use Rattle.group_laws.specs.declared.types.Pending.{Pending}
-use Rattle.group_laws.specs.Places.{Place, core_of}
+use Rattle.group_laws.specs.Places.{Place, core_of, owner}
 use Rattle.group_laws.specs.MemberViews.{View}
 use Rattle.core_worker.specs.declared.types.Place.TheVariants.{Free}
 use Rattle.core_worker.specs.declared.types.Place as places
@@ -31,6 +31,7 @@ pub record FreesInOrder (p : Place) (m key : ℕ) (v u : View) (w x : Worker) : 
   pub heard : (k n : ℕ) → Awaits (known_at x.index k) (core_of p m) n → ⊥
   pub told : (k n : ℕ) → u.present k n ≡ None → u.told k n ≡ false
   pub versions : (k n : ℕ) (s : Standing) → standing_at (standing_of (known_at x.index k)) n ≡ Some s → n ≤ last_of (known_at x.index k)
+  pub mine : (k n : ℕ) (s : Standing) → standing_at (standing_of (known_at x.index k)) n ≡ Some s → owner p k ≡ m
   pub single : (q : ℕ) (b : Block) → u.blocks q ≡ Some b → b.key ≡ key → (block_of (known_at x.index key) ≡ Some q) ⊎ PointsAt (u.pending key) q
   pub distinct : (q : ℕ) → PointsAt (u.pending key) q → block_of (known_at x.index key) ≡ Some q → ⊥
   pub next : (q : Pending) → u.pending key ≡ Some q → (q.entry.version ≡ u.last key + 1) × HasSpelling q.entry
@@ -66,6 +67,7 @@ module _ (p : Place) (m key slot : ℕ) (v u : View) (w x : Worker) (H : HoldsAs
     log = G.log;
     names = G.names;
     versions = G.versions;
+    mine = G.mine;
     next = λ k q has. ⊎_elim
         (λ same. (G.next q (ap u.pending (sym same) ∙ has)).0 ∙ ap (λ (n : ℕ). u.last n + 1) (sym same))
         (λ ne. let before = sym (F.pending k ne) ∙ has in O.next k q before ∙ ap (λ (n : ℕ). n + 1) (sym (G.last k q ne before)))

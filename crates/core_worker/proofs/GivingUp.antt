@@ -142,6 +142,7 @@ module _ (p : Place) (m : ℕ) (v : View) (w : Worker) (H : HoldsAside p m v w) 
       heard = O.heard;
       told = told_still;
       versions = O.versions;
+      mine = O.mine;
       single = λ q d has same. ⊎_elim
           (λ is. inl (ap (λ (n : ℕ). block_of (known_at w.index n)) (sym same) ∙ is))
           (λ points. inr (subst (λ (o : Option Pending). PointsAt o q) (sym (here key refl)) (subst (λ (o : Option Pending). PointsAt o q) (ap v.pending same ∙ pends) points)))

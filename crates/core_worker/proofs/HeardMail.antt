@@ -140,6 +140,10 @@ spelled_lost es ix S change k r is = ⊎_elim
         let both : (r.version, r.body) ≡ (y.version, y.body) = (let q : Some (last_change r) ≡ Some (last_change y) = e ∙ ap (option_map last_change) at in cc q) in
         subst (λ (c : ℕ × Body). HasSpelling (record { key = k; version = c.0; body = c.1 })) (sym both) (S k y at)
 
+-- words can spell the records still, where no last change is another
+pub spelled_same : (es ix : List (ℕ × slots.Place)) → IsSpelledIndex es → ((k : ℕ) → option_map last_change (known_at ix k) ≡ option_map last_change (known_at es k)) → IsSpelledIndex ix
+spelled_same es ix S same = spelled_lost es ix S (λ k. inr (same k))
+
 module _ (p : Place) (m from : ℕ) (v : View) (w : Worker) (H : Holds p m v w) (O : InOrder p m v w) (runs : w.stopped ≡ false) (nothing : LeadsNothing w) (n : Notices) (A : IsHeard p m from v n)
     (ps : Vec places.Place Global) (ix : List (ℕ × slots.Place)) (st : StandingState) (X : HearsNotices (core_of p m) n w.places.items ps.items w.index ix w.standing st)
     (last : ℕ → ℕ) (told dead : ℕ → ℕ → Bool) (T : IsTidyIn p m (after_receive p m n v) last told dead) where

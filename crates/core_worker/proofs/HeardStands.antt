@@ -143,6 +143,21 @@ module _ (home : ℕ) (ns : List EntryName) (ps qs : List places.Place) (es mid 
     by_mid None at = absurd (let eq = A.standing k i in let both : Some s ≡ None = sym is ∙ eq ∙ ap (option_map (heard_at home (known_at mid k) i)) at in cc both)
     by_mid (Some t) at = (let le = by_test (is_forgotten ns ps L.mid k) (L.forgets.known k) t at in let eq = last_is in omega (arith, le, eq))
 
+  -- what stands stood
+  pub stood_lost : (k i : ℕ) (s : Standing) → standing_at (standing_of (known_at ix k)) i ≡ Some s → (t : Standing) × (standing_at (standing_of (known_at es k)) i ≡ Some t)
+  stood_lost k i s is = by_mid (standing_at (standing_of (known_at mid k)) i) refl where
+    by_has : (b : Bool) → has ns k i ≡ b → (t : Standing) → cond (has ns k i) None (standing_at (standing_of (known_at es k)) i) ≡ Some t → (u : Standing) × (standing_at (standing_of (known_at es k)) i ≡ Some u)
+    by_has true e t at = absurd (let both : None ≡ Some t = sym (ap (λ (b : Bool). cond b None (standing_at (standing_of (known_at es k)) i)) e) ∙ at in cc both)
+    by_has false e t at = (t, sym (ap (λ (b : Bool). cond b None (standing_at (standing_of (known_at es k)) i)) e) ∙ at)
+
+    by_test : (b : Bool) → known_at mid k ≡ cond b None (known_at L.mid k) → (t : Standing) → standing_at (standing_of (known_at mid k)) i ≡ Some t → (u : Standing) × (standing_at (standing_of (known_at es k)) i ≡ Some u)
+    by_test true e t at = absurd (let both : None ≡ Some t = sym (ap (λ (o : Option KeyRecord). standing_at (standing_of o) i) e) ∙ at in cc both)
+    by_test false e t at = by_has (has ns k i) refl t (sym (standing_lacking ns k i (known_at es k)) ∙ sym (ap (λ (o : Option KeyRecord). standing_at (standing_of o) i) (e ∙ L.lacks.known k)) ∙ at)
+
+    by_mid : (o : Option Standing) → standing_at (standing_of (known_at mid k)) i ≡ o → (u : Standing) × (standing_at (standing_of (known_at es k)) i ≡ Some u)
+    by_mid None at = absurd (let eq = A.standing k i in let both : Some s ≡ None = sym is ∙ eq ∙ ap (option_map (heard_at home (known_at mid k) i)) at in cc both)
+    by_mid (Some t) at = by_test (is_forgotten ns ps L.mid k) (L.forgets.known k) t at
+
 module _ (p : Place) (m from : ℕ) (v : View) (w : Worker) (H : Holds p m v w) (O : InOrder p m v w) (runs : w.stopped ≡ false) (nothing : LeadsNothing w) (n : Notices) (A : IsHeard p m from v n)
     (ps : Vec places.Place Global) (ix : List (ℕ × slots.Place)) (st : StandingState) (X : HearsNotices (core_of p m) n w.places.items ps.items w.index ix w.standing st)
     (last : ℕ → ℕ) (told dead : ℕ → ℕ → Bool) (T : IsTidyIn p m (after_receive p m n v) last told dead) where
@@ -265,6 +280,7 @@ module _ (p : Place) (m from : ℕ) (v : View) (w : Worker) (H : Holds p m v w) 
     heard = (mail.knows_now p m from v w H O runs nothing n A ps ix st X last told dead T).heard;
     told = told_still;
     versions = low_lost (core_of p m) n.gone w.places.items ps.items w.index X.mid ix X.loses X.heard O.versions;
+    mine = λ k i s is. let t = stood_lost (core_of p m) n.gone w.places.items ps.items w.index X.mid ix X.loses X.heard k i s is in O.mine k i t.0 t.1;
     next = λ k q has. O.next k q has ∙ ap (λ (i : ℕ). i + 1) (sym (last_pending k q has));
     spelled = O.spelled;
     recalls = λ k own busy none. (mail.knows_now p m from v w H O runs nothing n A ps ix st X last told dead T).remembers k own none;

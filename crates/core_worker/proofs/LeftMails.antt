@@ -45,11 +45,10 @@ receives_way w u m from n can tidied =
     let same = ap under_way tidied.4 in
     omega (arith, sum, was, same)
 
-pub sends_way : (w : Group) (m to : ℕ) (n : Notices) → m < members w.place → to < members w.place → w.mail m to ≡ None → under_way (sends w m to n) ≡ under_way w + (1 + notices_left n)
-sends_way w m to n mine theirs none =
+pub sends_way : (w : Group) (m to : ℕ) (n : Notices) → m < members w.place → to < members w.place → under_way (sends w m to n) ≤ under_way w + (1 + notices_left n)
+sends_way w m to n mine theirs =
     let sum = mail_with (members w.place) m to w.mail (Some n) mine theirs in
-    let was = ap mailbox_left none in
-    omega (arith, sum, was)
+    omega (arith, sum)
 
 -- what is received is less to do, where the core itself has no more
 pub receives_lower : (before after : Option Group) (m from : ℕ) (v : View) (w x : Worker) → MakesBoth before m (Kind.LookMail from m) (Kind.Receive from) after v → left x ≤ left w → Lowers before after w x
@@ -60,3 +59,15 @@ receives_lower (Some a) (Some b) m from v w x made low =
     let looked = ap under_way steps.1.3 in
     let way = receives_way steps.0 b m from steps.2.0 steps.2.1 steps.2.2 in
     omega (arith, looked, way, low)
+
+-- and so is what is sent, which counts more where it waits
+pub sends_lower : (before after : Option Group) (m to : ℕ) (n : Notices) (v : View) (w x : Worker) → MakesBoth before m (Kind.LookMail m to) (Kind.Send to n) after v → left x + (1 + notices_left n) < left w → Lowers before after w x
+sends_lower None after m to n v w x made low = tt
+sends_lower (Some a) None m to n v w x made low = absurd made
+sends_lower (Some a) (Some b) m to n v w x made low =
+    let steps = made.0 in
+    let looked = ap under_way steps.1.3 in
+    let can = steps.2.0 in
+    let now = ap under_way steps.2.1 in
+    let way = sends_way steps.0 m to n can.member can.receiver in
+    omega (arith, looked, now, way, low)

@@ -5,6 +5,7 @@ mod OutboxLaws
 mod Rounds
 mod Writing
 mod ChunksKept
+mod ListedNames
 mod MailKept
 mod MailTurns
 mod Made
@@ -51,6 +52,8 @@ mod HeardDead
 mod HeardMail
 mod HeardStands
 mod HeardMoves
+mod ReadiedMail
+mod SentMail
 mod LeftMails
 mod NamesAdded
 mod NamesKnown

@@ -7,7 +7,7 @@ use Rattle.log_entry.specs.declared.entry.Entry.{Entry}
 use Rattle.log_entry.specs.declared.entry.EntryName.{EntryName}
 use Rattle.core_index.specs.Records.{KeyRecord}
 use Rattle.crash_core.specs.declared.names.Notices.{Notices}
-use Rattle.crash_core.proofs.NameLists.{has_append}
+use Rattle.core_worker.proofs.ListedNames.{has_append}
 use Rattle.group_laws.specs.Places.{Place, members, owner}
 use Rattle.group_laws.specs.Updates.{has}
 use Rattle.group_laws.specs.MemberViews.{View}
@@ -111,7 +111,7 @@ still_finished p m v e home next = record {
         dies
   ]
 
-nothing_sends : (p : Place) (m to : ℕ) (v : View) (n : Notices) → TellsNothing n → MayTell p m to v n
+pub nothing_sends : (p : Place) (m to : ℕ) (v : View) (n : Notices) → TellsNothing n → MayTell p m to v n
 nothing_sends p m to v n none = record {
   dead = record {
     own = λ k i t. absurd (not_dead k i t);

@@ -49,9 +49,9 @@ pub looks_join : (before mid after : Option Group) (m : ℕ) (v u : View) → Lo
 looks_join before mid after m v u a b = (a.0 ++ b.0, subst (λ (xs : List (ℕ × Kind)). MakesAll before xs after m u) (sym (looks_append m a.0 b.0)) (makes_then before mid after (looks_at m a.0) (looks_at m b.0) m v u a.1 b.1))
 
 -- one load
-pub one_load : (m from : ℕ) (full : Bool) (v u : View) (old new : List TrailStep) → u ≡ after_find (Mail from m full) v → new ≡ step_with (Kind.LookMail from m) u ∷ old → OnlyLoads v u old new
-one_load m from full v u old new is more = record {
-  made = step_with (Kind.LookMail from m) u ∷ [];
+pub one_load : (a b : ℕ) (full : Bool) (v u : View) (old new : List TrailStep) → u ≡ after_find (Mail a b full) v → new ≡ step_with (Kind.LookMail a b) u ∷ old → OnlyLoads v u old new
+one_load a b full v u old new is more = record {
+  made = step_with (Kind.LookMail a b) u ∷ [];
   more = more;
   loads = (refl, is ∙ ap (λ (xs : List Seen). record v { looked = xs }) (sym (ap (λ (y : View). y.looked) is)), tt);
   ends = refl;
@@ -120,11 +120,11 @@ both_steps before after m one two v made = (one ∷ two ∷ [], by before after 
   by (Some a) (Some b) made = ((made.0.0, made.0.1, (b, made.0.2, refl)), made.1)
 
 -- a load, and one step more
-pub load_then : (m from : ℕ) (kind : Kind) (v u : View) (old new : List TrailStep) → is_handed kind ≡ false → new ≡ step_with kind u ∷ step_with (Kind.LookMail from m) (after_find (Mail from m true) v) ∷ old → LoadsThenOne v u old new
-load_then m from kind v u old new bare more = record {
-  mid = after_find (Mail from m true) v;
-  before = step_with (Kind.LookMail from m) (after_find (Mail from m true) v) ∷ old;
-  loads = one_load m from true v (after_find (Mail from m true) v) old (step_with (Kind.LookMail from m) (after_find (Mail from m true) v) ∷ old) refl refl;
+pub load_then : (a b : ℕ) (full : Bool) (kind : Kind) (v u : View) (old new : List TrailStep) → is_handed kind ≡ false → new ≡ step_with kind u ∷ step_with (Kind.LookMail a b) (after_find (Mail a b full) v) ∷ old → LoadsThenOne v u old new
+load_then a b full kind v u old new bare more = record {
+  mid = after_find (Mail a b full) v;
+  before = step_with (Kind.LookMail a b) (after_find (Mail a b full) v) ∷ old;
+  loads = one_load a b full v (after_find (Mail a b full) v) old (step_with (Kind.LookMail a b) (after_find (Mail a b full) v) ∷ old) refl refl;
   step = step_with kind u;
   more = more;
   leaves = refl;

@@ -53,6 +53,7 @@ order_noted p m v w O = record {
   heard = O.heard;
   told = O.told;
   versions = O.versions;
+  mine = O.mine;
   next = O.next;
   spelled = O.spelled;
   recalls = O.recalls;

@@ -225,6 +225,7 @@ module _ (p : Place) (m : ℕ) (v : View) (w : Worker) (H : Holds p m v w) (slot
       heard = λ k n waits. O.heard k n (subst (λ i. Awaits (known_at i k) (core_of p m) n) index waits);
       told = O.told;
       versions = λ k n s is. subst (λ i. n ≤ last_of (known_at i k)) (sym index) (O.versions k n s (ap (λ i. standing_at (standing_of (known_at i k)) n) (sym index) ∙ is));
+      mine = λ k n s is. O.mine k n s (ap (λ i. standing_at (standing_of (known_at i k)) n) (sym index) ∙ is);
       next = λ k q is. ⊎_elim (λ same. next_here k q same (sym (here k same) ∙ is)) (λ ne. O.next k q (sym (other k ne) ∙ is)) (cases_eq k e.key);
       spelled = λ k q is. ⊎_elim (λ same. spelled_here q (sym (here k same) ∙ is)) (λ ne. O.spelled k q (sym (other k ne) ∙ is)) (cases_eq k e.key);
       recalls = λ k own busy none. ap (λ i. is_forgettable (known_at i k)) index ∙ ⊎_elim
@@ -385,6 +386,7 @@ fault_order p m v w x same nothing O = subst (λ (y : Worker). InOrder p m v y) 
   heard = O.heard;
   told = O.told;
   versions = O.versions;
+  mine = O.mine;
   next = O.next;
   spelled = O.spelled;
   recalls = O.recalls;

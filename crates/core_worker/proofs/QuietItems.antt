@@ -85,6 +85,7 @@ order_as p m v w kept flying taken broken holds looked took log allocator l st s
   heard = O.heard;
   told = O.told;
   versions = O.versions;
+  mine = O.mine;
   next = O.next;
   spelled = O.spelled;
   recalls = λ k own is none. O.recalls k own (sym (busy k) ∙ is) none;

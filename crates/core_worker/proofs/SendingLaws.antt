@@ -3,7 +3,8 @@ use Rattle.std.proofs.Common.{◌≡◌, ◌≢◌, ⊎_elim, ℕ, ◌+◌, ◌|
 use Rattle.std.proofs.lemmas.Bool.{cases_eq}
 use Rattle.log_entry.specs.declared.entry.EntryName.{EntryName}
 use Rattle.core_index.specs.Index.{known_at, all_untold, Tells}
-use Rattle.core_index.specs.Records.{KeyRecord, told_in}
+use Rattle.core_index.specs.declared.types.Standing.{Standing}
+use Rattle.core_index.specs.Records.{KeyRecord, standing_at, standing_of, standing_with, told_in}
 use Rattle.core_index.specs.Slots as slots
 use Rattle.group_laws.specs.Places.{Place, core_of, owner}
 use Rattle.group_laws.specs.Updates.{has}
@@ -11,6 +12,8 @@ use Rattle.group_laws.specs.MemberViews.{View}
 use Rattle.core_worker.specs.KeyTies.{KnowsKey}
 use Rattle.core_worker.specs.Outbox.{mailing, AreToSend}
 use Rattle.core_worker.specs.Sending.{TellsAll, TakesNames}
+use Rattle.core_worker.proofs.Heard.{Hears, hears_none, hears_more}
+use Rattle.core_worker.proofs.HeardNames.{stands_by}
 use Rattle.core_worker.proofs.OutboxLaws.{noted, sendable}
 
 abbrev Index : Type 0
@@ -20,6 +23,14 @@ Index = List (ℕ × slots.Place)
 tells_more : (home : ℕ) (es mid ix : Index) (ns : List EntryName) (n : EntryName) → TellsAll home es ns mid → Tells mid ix home n → TellsAll home es (ns ++ n ∷ []) ix
 tells_more home es mid ix [] n tells one = (ix, subst (λ (e : Index). Tells e ix home n) tells one, refl)
 tells_more home es mid ix (x ∷ ns) n tells one = (tells.0, tells.1, tells_more home tells.0 mid ix ns n tells.2 one)
+
+-- what stands stood, where names were told
+pub stood_by : (home : ℕ) (es ix : Index) → Hears home es ix → (k n : ℕ) (s : Standing) → standing_at (standing_of (known_at ix k)) n ≡ Some s → (t : Standing) × (standing_at (standing_of (known_at es k)) n ≡ Some t)
+stood_by home es ix H k n s is = ⊎_elim (λ same. (s, sym same ∙ is)) (λ other. (standing_with n home false, other.0)) (H.each k n)
+
+pub hears_then : (home : ℕ) (first es ix : Index) (ns : List EntryName) → Hears home first es → TellsAll home es ns ix → Hears home first ix
+hears_then home first es ix [] H tells = subst (Hears home first) (sym tells) H
+hears_then home first es ix (n ∷ ns) H tells = hears_then home first tells.0 ix ns (hears_more home first es tells.0 n H tells.1) tells.2
 
 pub takes_none : (home : ℕ) (es : Index) (ns : List EntryName) → TakesNames home es es ns ns
 takes_none home es ns = record { names = []; list = sym (append-nil ns); tells = refl; count = omega arith }
@@ -45,10 +56,10 @@ takes_then home es mid ix old ns new T U = record {
 }
 
 -- Lists that have the same names are the same mail.
-abbrev SameHas : List EntryName → List EntryName → Type 0
+abbrev pub SameHas : List EntryName → List EntryName → Type 0
 SameHas xs ys = (k n : ℕ) → has xs k n ≡ has ys k n
 
-knows_by : (p : Place) (v : View) (xs ys : List EntryName) (k : ℕ) (o : Option KeyRecord) → SameHas xs ys → KnowsKey p (mailing xs v) k o → KnowsKey p (mailing ys v) k o
+pub knows_by : (p : Place) (v : View) (xs ys : List EntryName) (k : ℕ) (o : Option KeyRecord) → SameHas xs ys → KnowsKey p (mailing xs v) k o → KnowsKey p (mailing ys v) k o
 knows_by p v xs ys k o same K = record {
   last = K.last;
   cell = K.cell;
@@ -109,3 +120,24 @@ module _ (p : Place) (m to : ℕ) (v : View) (others : List EntryName) where
       let more = sendable p m to v (old ++ others) es tells.0 n tells.1 (K n.key) mine old A in
       let here = sends_by p m to v (n ∷ old) (old ++ n ∷ []) (λ k i. ap (λ (xs : List EntryName). has (n ∷ xs) k i) (sym (append-nil old)) ∙ moved old [] n k i) more in
       subst (AreToSend p m to v) (append_assoc old (n ∷ []) ns) (waits_all ns (old ++ n ∷ []) tells.0 ix tells.2 (taken_one es tells.0 old n tells.1 K) (own_still es tells.0 n tells.1 own) here)
+
+  -- the same of one key, and of own keys alone
+  one_at : (k : ℕ) (es ix : Index) (old : List EntryName) (n : EntryName) → Tells es ix (core_of p to) n → KnowsKey p (mailing (old ++ others) v) k (known_at es k) → KnowsKey p (mailing ((old ++ n ∷ []) ++ others) v) k (known_at ix k)
+  one_at k es ix old n one K =
+      let there = noted p m to v (old ++ others) es ix n one k K in
+      subst (λ (xs : List EntryName). KnowsKey p (mailing xs v) k (known_at ix k)) (sym (append_assoc old (n ∷ []) others)) (knows_by p v (n ∷ (old ++ others)) (old ++ n ∷ others) k (known_at ix k) (moved old others n) there)
+
+  pub knows_at : (k : ℕ) (ns old : List EntryName) (es ix : Index) → TellsAll (core_of p to) es ns ix → KnowsKey p (mailing (old ++ others) v) k (known_at es k) → KnowsKey p (mailing ((old ++ ns) ++ others) v) k (known_at ix k)
+  knows_at k [] old es ix tells K = subst (λ (xs : List EntryName). KnowsKey p (mailing (xs ++ others) v) k (known_at ix k)) (sym (append-nil old)) (subst (λ (e : Index). KnowsKey p (mailing (old ++ others) v) k (known_at e k)) (sym tells) K)
+  knows_at k (n ∷ ns) old es ix tells K = subst (λ (xs : List EntryName). KnowsKey p (mailing (xs ++ others) v) k (known_at ix k)) (append_assoc old (n ∷ []) ns) (knows_at k ns (old ++ n ∷ []) tells.0 ix tells.2 (one_at k es tells.0 old n tells.1 K))
+
+  abbrev Mine : Index → Type 0
+  Mine es = (k n : ℕ) (s : Standing) → standing_at (standing_of (known_at es k)) n ≡ Some s → owner p k ≡ m
+
+  pub waits_at : (ns old : List EntryName) (es ix : Index) → TellsAll (core_of p to) es ns ix → ((k : ℕ) → owner p k ≡ m → KnowsKey p (mailing (old ++ others) v) k (known_at es k)) → Mine es → AreToSend p m to v old → AreToSend p m to v (old ++ ns)
+  waits_at [] old es ix tells K own A = subst (AreToSend p m to v) (sym (append-nil old)) A
+  waits_at (n ∷ ns) old es ix tells K own A =
+      let mine = own n.key n.version _ (stands_by (known_at es n.key) (core_of p to) n.version tells.1.waited) in
+      let more = sendable p m to v (old ++ others) es tells.0 n tells.1 (K n.key mine) mine old A in
+      let here = sends_by p m to v (n ∷ old) (old ++ n ∷ []) (λ k i. ap (λ (xs : List EntryName). has (n ∷ xs) k i) (sym (append-nil old)) ∙ moved old [] n k i) more in
+      subst (AreToSend p m to v) (append_assoc old (n ∷ []) ns) (waits_at ns (old ++ n ∷ []) tells.0 ix tells.2 (λ k is. one_at k es tells.0 old n tells.1 (K k is)) (λ k i s is. let t = stood_by (core_of p to) es tells.0 (hears_more (core_of p to) es es tells.0 n (hears_none (core_of p to) es) tells.1) k i s is in own k i t.0 t.1) here)

@@ -87,6 +87,7 @@ order_kept p m v w u known leading stopped standing works recalls answers hand O
   heard = λ k n waits. O.heard k n (subst (λ o. Awaits o (groups.core_of p m) n) (known k) waits);
   told = O.told;
   versions = λ k n s is. subst (λ o. n ≤ last_of o) (sym (known k)) (O.versions k n s (ap (λ o. standing_at (standing_of o) n) (sym (known k)) ∙ is));
+  mine = λ k n s is. O.mine k n s (ap (λ o. standing_at (standing_of o) n) (sym (known k)) ∙ is);
   next = O.next;
   spelled = O.spelled;
   recalls = recalls;

@@ -397,6 +397,15 @@ module _ (p : Place) (m : ℕ) (v : View) (w : Worker) (H : HoldsAside p m v w) 
       by None at = absurd (let eq = A.standing k n in let both : Some s ≡ None = sym is ∙ eq ∙ ap (option_map (heard_at (core_of p m) (known_at mid k) n)) at in cc both)
       by (Some x) at = (let low = mid_low x at in let eq = last_is in omega (arith, low, eq))
 
+    mine_now : (k n : ℕ) (s : Standing) → standing_at (standing_of (known_at ix k)) n ≡ Some s → owner p k ≡ m
+    mine_now k n s is = by (standing_at (standing_of (known_at mid k)) n) refl where
+      by : (o : Option Standing) → standing_at (standing_of (known_at mid k)) n ≡ o → owner p k ≡ m
+      by None at = absurd (let eq = A.standing k n in let both : Some s ≡ None = sym is ∙ eq ∙ ap (option_map (heard_at (core_of p m) (known_at mid k) n)) at in cc both)
+      by (Some x) at = ⊎_elim
+          (λ same. ap (owner p) same ∙ own_key)
+          (λ ne. O.mine k n x (ap (λ (o : Option KeyRecord). standing_at (standing_of o) n) (sym (C.others k ne)) ∙ at))
+          (cases_eq k key)
+
     -- a name of the view after the change is the change's own, or was there
     was_there : (k n h : ℕ) → mid_view.present k n ≡ Some h → ((k ≡ key) × (n ≡ e.version) × (home ≡ h)) ⊎ (v.present k n ≡ Some h)
     was_there k n h is = ⊎_elim
@@ -573,6 +582,7 @@ module _ (p : Place) (m : ℕ) (v : View) (w : Worker) (H : HoldsAside p m v w) 
       heard = A.none;
       told = told_still;
       versions = versions_now;
+      mine = mine_now;
       single = λ q d has same. inl (block_here ∙ ap pointer_of (blocks_new q d has same));
       distinct = λ q points is. subst (λ (o : Option Pending). PointsAt o q) (gone_here key refl) points;
       next = λ q has. absurd (let both : Some q ≡ None = sym has ∙ gone_here key refl in cc both);

@@ -370,6 +370,10 @@ module _ (p : Place) (m : ℕ) (image : ℕ → ℕ) (start : CoreStart) (layout
       | inl mine ↦ start_keys.below p image at.place at.rules m at.member start.index at.found.index k (own_of p m k (some_group p image at.place at.rules) at.member mine) w.index start.core core_is N.index n s now
       | inr other ↦ absurd (others k n s other now)
     ];
+    mine = λ k n s now. elim (cases_eq (layouts.owner p.layout k) c) [
+      | inl mine ↦ own_of p m k (some_group p image at.place at.rules) at.member mine
+      | inr other ↦ absurd (others k n s other now)
+    ];
     answers =
         let none = N.answers.1 in
         let places = free_count w.places.items N.free in

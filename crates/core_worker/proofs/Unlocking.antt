@@ -40,6 +40,7 @@ order_unlocked p m v w l O may = record {
   heard = O.heard;
   told = O.told;
   versions = O.versions;
+  mine = O.mine;
   next = O.next;
   spelled = O.spelled;
   recalls = O.recalls;

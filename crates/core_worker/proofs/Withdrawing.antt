@@ -152,6 +152,7 @@ module _ (p : groups.Place) (m : ℕ) (v : View) (w : Worker) (H : Holds p m v w
       heard = O.heard;
       told = O.told;
       versions = O.versions;
+      mine = O.mine;
       single = λ q b has same. ⊎_elim
           (λ is. inl (ap (λ (k : ℕ). block_of (known_at w.index k)) (sym same) ∙ is))
           (λ points. absurd (rest_off e.body v.blocks q b has (subst (λ (o : Option Pending). PointsAt o q) (ap v.pending same ∙ pends) points)))

@@ -55,6 +55,9 @@ pub record InOrder (p : Place) (m : ℕ) (v : View) (w : Worker) : Type 0 where
   -- no entry stands above the last version of its key
   pub versions : (k n : ℕ) (s : Standing) → standing_at (standing_of (known_at w.index k)) n
       ≡ Some s → n ≤ last_of (known_at w.index k)
+  -- and none of another member's key
+  pub mine : (k n : ℕ) (s : Standing) → standing_at (standing_of (known_at w.index k)) n
+      ≡ Some s → owner p k ≡ m
   -- a change under way is the next one of its key, and words can spell it
   pub next : (k : ℕ) (q : Pending) → v.pending k ≡ Some q → q.entry.version ≡ v.last k + 1
   pub spelled : (k : ℕ) (q : Pending) → v.pending k ≡ Some q → HasSpelling q.entry

@@ -25,6 +25,7 @@ mod planning;
 mod post_item;
 mod posted_places;
 mod search_places;
+mod send_items;
 mod sending;
 mod status;
 mod stop_worker;

@@ -9,6 +9,7 @@ ghost use Rattle.group_laws.specs.MemberViews.{View};
 ghost use Rattle.group_board.specs.Conditions.{MaySend};
 ghost use Rattle.core_worker.specs.KeyTies.{KnowsKey};
 ghost use Rattle.core_worker.specs.Outbox.{mailing, AreToSend, HasSpare, TellsNothing};
+ghost use Rattle.core_worker.specs.Mails.{MailSteps};
 ghost use Rattle.core_worker.specs.Sending.{NoneAwaits, Sends, TakesNames};
 
 use core_index::CoreIndex;
@@ -112,6 +113,8 @@ pub(crate) fn send_waiting<B: Board>(
         waiting.new (B.whole board.old) (B.whole board.new) (B.view board.old)
         (B.view board.new)) }
     ensures spare { HasSpare waiting.old → HasSpare waiting.new }
+    ensures steps { IfOk result (λ sent. MailSteps sent (B.view board.old) (B.view board.new)
+        (B.trail board.old) (B.trail board.new)) }
     ensures err { OnErr result ((board.new ≡ board.old) × (waiting.new ≡ waiting.old)) }
 {
     let empty = empty_notices(alloc)?;

@@ -10,7 +10,7 @@ use thread_engine::crew::work_all;
 fn no_core_has_work(rt: HostRuntime) -> Result<(), Fail> {
     let alloc = rt.alloc();
     let mut jobs: Vec<CoreJob<CoreSeat<'_>, SteadyPiece>> = Vec::new(alloc);
-    work_all(&rt, alloc, &mut jobs, &OpenGate);
+    work_all(&rt, alloc, &mut jobs, &OpenGate, false);
     assert!(rt; jobs.is_empty());
     Ok(())
 }

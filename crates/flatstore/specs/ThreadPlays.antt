@@ -4,6 +4,7 @@ use Rattle.pm_region.specs.State.{State, Faulted, Rose}
 use Rattle.pm_region.specs.Split.{Stays}
 use Rattle.recover.specs.declared.types.Recovered.{Recovered}
 use Rattle.fs_text.specs.declared.line.Line.{Line}
+use Rattle.engine_laws.specs.Ran.{asked_in}
 use Rattle.group_engine.specs.declared.run_outcome.Outcome.{Outcome}
 use Rattle.thread_engine.specs.RanApart.{RanApart}
 use Rattle.flatstore.specs.Ends.{SourceUse}
@@ -21,7 +22,7 @@ pub record PlayedApart (s : State) (word : ℕ → ℕ) (refused : Bool) (t : St
   pub recovered : Recovered
   pub lines : List Line
   pub ready : IsReady s word source recovered lines
-  pub ran : RanApart s word refused recovered lines t x
+  pub ran : RanApart s word refused recovered (asked_in lines) t x
 
 -- The region was ready for the run, and a split of it failed.
 pub record HasNotSplit (s : State) (word : ℕ → ℕ) (t : State)

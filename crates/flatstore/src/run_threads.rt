@@ -20,6 +20,7 @@ use pm_region::{AttachError, ReadRegion, SplitRegion};
 use std::alloc::Global;
 use std::sync::Wait;
 use std::thread::Threads;
+use thread_engine::requests::TraceRequests;
 use thread_engine::run_apart;
 
 /// Why no core ran.
@@ -95,7 +96,8 @@ fn run_cores<T: Threads + Wait + Sync, S: Source, R: SplitRegion + ReadRegion, G
         → source.new ≡ source.old) }
 {
     let (recovered, input) = prepared(alloc, source, region)?;
-    Ok(run_apart::run(rt, alloc, region, recovered, input, gate)?)
+    let mut requests = TraceRequests::of(input);
+    Ok(run_apart::run(rt, alloc, region, recovered, &mut requests, gate)?)
 }
 
 /// Attaches the region, reads the input, runs a worker for each core in a thread of its own, and writes the replies in

@@ -1,12 +1,9 @@
 -- A run on threads: from its supplies, the pieces of the split, what the cores gave back and the joined region to what it comes to.
-use Rattle.std.proofs.Common.{◌≡◌, ℕ, ◌+◌, ◌-◌, ◌*◌, ◌/◌, ◌<◌, Bool, true, false, List, [], ◌++◌, length, Option, Some, None, refl, sym, ◌∙◌, ap, subst, arith, nat_lt, slice_index_or}
+use Rattle.std.proofs.Common.{◌≡◌, ℕ, ◌+◌, ◌-◌, ◌*◌, ◌/◌, ◌<◌, Bool, true, false, List, [], ◌++◌, length, Option, Some, None, refl, sym, ◌∙◌, ap, subst, arith, append-nil, nat_lt, slice_index_or}
 use Rattle.std.specs.List.{slice_get}
 use Rattle.std.proofs.lemmas.Bool.{ltb-true, lt-ltb}
 use Rattle.std.proofs.lemmas.Nat.{div-add-mod'}
-use Rattle.std.specs.Global.{Global}
-use Rattle.std.specs.declared.collections.VecDeque.{VecDeque}
 use Rattle.fs_model.specs.declared.model.Request.{Request}
-use Rattle.fs_text.specs.declared.line.Line.{Line}
 use Rattle.pm_region.specs.State.{State, Frame, IsTold, InRange, cell_now}
 use Rattle.pm_region.specs.Split.{IsPiece, Parted, Joined, TakesPiece, CameFrom, IsBetween, ComesNext}
 use Rattle.chunk_map.specs.declared.layouts.Geometry.{Geometry}
@@ -29,16 +26,16 @@ use Rattle.atomic_board.specs.Tokens.{member_at}
 use Rattle.core_worker.specs.declared.worker.Worker.{Worker}
 use Rattle.engine_laws.specs.Origins.{Origin}
 use Rattle.engine_laws.specs.Parts.{Groups, group_of, member_of}
-use Rattle.engine_laws.specs.Ran.{asked_in}
 use Rattle.engine_laws.proofs.Clients.{group_low, member_low, member_core}
 use Rattle.group_engine.specs.declared.run_outcome.Outcome.{Outcome}
 use Rattle.group_engine.specs.Replayed.{StandsAsFound, BeginsAt, report_in}
 use Rattle.group_engine.specs.Reports.{IsReport}
 use Rattle.thread_engine.specs.declared.muster.Returned.{Returned}
 use Rattle.thread_engine.specs.declared.run_apart.Supplies.{Supplies}
-use Rattle.thread_engine.specs.CoreRuns.{requests_to, HasView, LoadsLook}
+use Rattle.thread_engine.specs.CoreRuns.{HasView, LoadsLook}
+use Rattle.thread_engine.specs.Windows.{dealt_from}
 use Rattle.thread_engine.specs.Cuts.{steps_of, IsShown}
-use Rattle.thread_engine.specs.Collected.{stored_all, HaveAllPlaces, any_short, any_stopped, end_by}
+use Rattle.thread_engine.specs.Collected.{stored_all, HaveAllPlaces, any_stopped, end_by}
 use Rattle.thread_engine.specs.RanApart.{RanApart}
 use Rattle.thread_engine.specs.Manned.{AreTokensOf, AllEnded}
 use Rattle.thread_engine.specs.Returns.{IsCrew, AllAtWork, AllWent, Went, core_stands}
@@ -49,19 +46,16 @@ use Rattle.thread_engine.proofs.Doubts.{one_of}
 use Rattle.thread_engine.proofs.LastState.{CoreEnd, IsEnd, ChainLaw, OpeningKeys, OpeningDoubts, RefusalLaw, MomentLaw, CutLaw, have_places, ran}
 use Rattle.thread_engine.proofs.Rejoining.{region_rejoined, region_superblock, next_joined}
 use Rattle.thread_engine.proofs.Places.{get_low, get_at, get_index}
-use Rattle.thread_engine.proofs.RunEnds.{shown_groups, shown_reached, shown_view, first_works, core_end}
+use Rattle.thread_engine.proofs.RunEnds.{shown_groups, shown_reached, shown_view, owns, first_works, core_end}
 use Rattle.thread_engine.proofs.Stops.{chain_frame, chain_tells}
 use Rattle.thread_engine.proofs.Supplying.{start_there, seat_there}
 
-module _ {P : Type 0} (state : P → State) (refused : Bool) (s : State) (word : ℕ → ℕ) (o : Origin) (r : Recovered) (lines : List Line) (x : Supplies) (F : StandsAsFound s word r) (B : BeginsAt s word o) (S : IsSupplied o r lines x) where
+module _ {P : Type 0} (state : P → State) (refused : Bool) (s : State) (word : ℕ → ℕ) (o : Origin) (r : Recovered) (given : List Request) (x : Supplies) (F : StandsAsFound s word r) (B : BeginsAt s word o) (S : IsSupplied o r (length given) x) where
   abbrev l : Geometry
   l = layout_of o.found
 
   pub is_layout : IsLayout l
   is_layout = subst IsLayout S.recovered F.made.layout
-
-  abbrev given : List Request
-  given = asked_in lines
 
   abbrev tables : List GroupTable
   tables = x.tables.items
@@ -75,17 +69,11 @@ module _ {P : Type 0} (state : P → State) (refused : Bool) (s : State) (word :
   worker_count : length x.crew.workers.items ≡ l.cores
   worker_count = S.worker_count ∙ ap (λ (g : Geometry). g.cores) S.layout
 
-  queue_count : length x.crew.queues.items ≡ l.cores
-  queue_count = S.queue_count ∙ ap (λ (g : Geometry). g.cores) S.layout
-
   whole : groups_in l * l.group ≡ l.cores
   whole = (let split = div-add-mod' l.cores l.group in let none = (numbers_of l is_layout).divides in omega (arith, split, none))
 
   token_count : length x.crew.tokens.items ≡ l.cores
   token_count = S.manned.count ∙ ap (λ n. n * l.group) table_count ∙ whole
-
-  queues_are : (c : ℕ) (q : VecDeque (ℕ × Request) Global) → slice_get x.crew.queues.items c ≡ Some q → q.items ≡ requests_to l c given
-  queues_are c q at = S.queues c q at ∙ ap (λ (g : Geometry). requests_to g c given) S.layout
 
   pub group_is : x.layout.group ≡ l.group
   group_is = ap (λ (g : Geometry). g.group) S.layout
@@ -105,24 +93,27 @@ module _ {P : Type 0} (state : P → State) (refused : Bool) (s : State) (word :
     crew_is = record {
       tokens = token_count ∙ sym piece_count;
       workers = worker_count ∙ sym piece_count;
-      queues = queue_count ∙ sym piece_count;
+      any = (let some = (numbers_of l is_layout).cores_low in let n = piece_count in omega (arith, some, n));
       some_ = (let some = (numbers_of l is_layout).group_low in let g = group_is in omega (arith, some, g));
       within = λ c low. subst (λ n. c / n < length tables) (sym group_is) (subst (λ n. c / l.group < n) (sym table_count) (group_low l is_layout c (let n = piece_count in omega (arith, low, n))));
       seats = λ c t b at_t at_b. ap (λ (y : SeatAt). y.table) (S.manned.seats (group_of l c) (member_of l c) b t (ap (λ n. slice_get tables (c / n)) (sym group_is) ∙ at_b) (member_low l is_layout c) (ap (slice_get x.crew.tokens.items) (div-add-mod' c l.group) ∙ at_t));
     }
 
     pub all_work : AllAtWork state pieces x.crew
-    all_work c p t w q at_p at_t at_w at_q =
-        first_works state refused o r is_layout given tables x.crew pieces x.cuts.items S.manned table_count S.workers.each (seat_there s word r o F B x.crew.workers.items S.seated worker_count) (start_there s word r o F B) queues_are piece_at cuts_are
-        c (core_low c p at_p) p t w q at_p at_t at_w at_q
+    all_work c p t w at_p at_t at_w = (
+      owns state refused o r is_layout given tables x.crew pieces x.cuts.items S.manned table_count S.workers.each (seat_there s word r o F B x.crew.workers.items S.seated worker_count) (start_there s word r o F B) given [] (sym (append-nil given)) piece_count piece_at cuts_are
+          c (core_low c p at_p) p t w at_p at_t at_w,
+      first_works state refused o r is_layout given tables x.crew pieces x.cuts.items S.manned table_count S.workers.each (seat_there s word r o F B x.crew.workers.items S.seated worker_count) (start_there s word r o F B) given [] (sym (append-nil given)) piece_count piece_at cuts_are
+          c (core_low c p at_p) p t w at_p at_t at_w,
+    )
 
     -- what they gave back
-    module _ (back : Returned P) (A : AllWent state refused pieces x.crew back) where
+    module _ (back : Returned P) (in_all : Bool) (A : AllWent state refused pieces x.crew given in_all back) where
       -- of one core
       abbrev One : ℕ → Type 0
-      One c = (p : P) × (t : SeatToken) × (w : Worker) × (k : VecDeque (ℕ × Request) Global) × (q : P) × (u : SeatToken) × (y : Worker)
-          × (slice_get pieces c ≡ Some p) × (slice_get x.crew.tokens.items c ≡ Some t) × (slice_get x.crew.workers.items c ≡ Some w) × (slice_get x.crew.queues.items c ≡ Some k)
-          × (slice_get back.pieces.items c ≡ Some q) × (slice_get back.tokens.items c ≡ Some u) × (slice_get back.workers.items c ≡ Some y) × Went state refused p t w k.items q u y
+      One c = (p : P) × (t : SeatToken) × (w : Worker) × (q : P) × (u : SeatToken) × (y : Worker)
+          × (slice_get pieces c ≡ Some p) × (slice_get x.crew.tokens.items c ≡ Some t) × (slice_get x.crew.workers.items c ≡ Some w)
+          × (slice_get back.pieces.items c ≡ Some q) × (slice_get back.tokens.items c ≡ Some u) × (slice_get back.workers.items c ≡ Some y) × Went state refused p t w (dealt_from (length pieces) c 0 A.dealt) q u y
 
       one : (c : ℕ) → c < l.cores → One c
       one c low =
@@ -130,11 +121,10 @@ module _ {P : Type 0} (state : P → State) (refused : Bool) (s : State) (word :
           let a = get_at pieces c (omega (arith, low, n)) in
           let b = get_at x.crew.tokens.items c (let m = token_count in omega (arith, low, m)) in
           let d = get_at x.crew.workers.items c (let m = worker_count in omega (arith, low, m)) in
-          let f = get_at x.crew.queues.items c (let m = queue_count in omega (arith, low, m)) in
           let g = get_at back.pieces.items c (let m = A.pieces_count in omega (arith, low, m, n)) in
           let h = get_at back.tokens.items c (let m = A.tokens_count in omega (arith, low, m, n)) in
           let j = get_at back.workers.items c (let m = A.workers_count in omega (arith, low, m, n)) in
-          (a.0, b.0, d.0, f.0, g.0, h.0, j.0, a.1, b.1, d.1, f.1, g.1, h.1, j.1, A.each c a.0 b.0 d.0 f.0 g.0 h.0 j.0 a.1 b.1 d.1 f.1 g.1 h.1 j.1)
+          (a.0, b.0, d.0, g.0, h.0, j.0, a.1, b.1, d.1, g.1, h.1, j.1, A.each c a.0 b.0 d.0 g.0 h.0 j.0 a.1 b.1 d.1 g.1 h.1 j.1)
 
       -- the tokens, table by table
       pub tokens_back : AreTokensOf x.layout.group tables back.tokens.items
@@ -148,7 +138,7 @@ module _ {P : Type 0} (state : P → State) (refused : Bool) (s : State) (word :
               let c = g * l.group + m in
               let g_low : g < groups_in l = (let lt = get_low tables g b at in let n = table_count in omega (arith, lt, n)) in
               let O = one c (member_core l is_layout g m g_low low) in
-              ap (λ (y : SeatToken). seat_of y.own) (one_of u O.5 (sym there ∙ O.12)) ∙ O.14.seat ∙ S.manned.seats g m b O.1 at low O.8
+              ap (λ (y : SeatToken). seat_of y.own) (one_of u O.4 (sym there ∙ O.10)) ∙ O.12.seat ∙ S.manned.seats g m b O.1 at low O.7
               ∙ ap (λ p. member_at (id_of b) p m) (sym (ap (λ (w : Group). w.place) (S.manned.opened_on g b at)))
 
       -- the pieces came from the split
@@ -157,21 +147,21 @@ module _ {P : Type 0} (state : P → State) (refused : Bool) (s : State) (word :
           let n = piece_count in
           let m = A.pieces_count in
           let O = one i (omega (arith, low, m, n)) in
-          let W = O.14 in
-          let same : slice_index_or back.pieces.items i p ≡ O.4 = get_index back.pieces.items i O.4 p O.11 in
-          let Q = piece_at i O.0 O.7 in
-          let first = core_stands state O.0 O.1 O.2 O.3.items in
-          let last = core_stands state O.4 O.5 O.6 W.left in
-          let frame : (state O.4).frame ≡ (state O.0).frame = chain_frame (seat_of O.1.own) refused first W.works.works.path last W.works.works.leads in
+          let W = O.12 in
+          let same : slice_index_or back.pieces.items i p ≡ O.3 = get_index back.pieces.items i O.3 p O.9 in
+          let Q = piece_at i O.0 O.6 in
+          let first = core_stands state O.0 O.1 O.2 [] in
+          let last = core_stands state O.3 O.4 O.5 W.left in
+          let frame : (state O.3).frame ≡ (state O.0).frame = chain_frame (seat_of O.1.own) refused first W.works.works.path last W.works.works.leads in
           let told = chain_tells (seat_of O.1.own) refused first W.works.works.path last W.works.works.leads in
-          let since : (state O.4).frame.since ≡ (state O.0).stamp = ap (λ (f : Frame). f.since) frame ∙ Q.since ∙ sym Q.stamp in
+          let since : (state O.3).frame.since ≡ (state O.0).stamp = ap (λ (f : Frame). f.since) frame ∙ Q.since ∙ sym Q.stamp in
           let since' : (state O.0).frame.since ≡ (state O.0).stamp = Q.since ∙ sym Q.stamp in
           subst (λ (y : P). CameFrom t i (state y)) (sym same) (record {
             between = subst (λ (f : Frame). IsBetween f t.frame.cuts i) (sym frame) (subst (λ cs. IsBetween (state O.0).frame cs i) (sym D.cuts_are) Q.between);
             began = λ is_told w at.
-                let here : IsTold (state O.4) (state O.0).stamp = subst (IsTold (state O.4)) since is_told in
+                let here : IsTold (state O.3) (state O.0).stamp = subst (IsTold (state O.3)) since is_told in
                 let back_then = told.1 (state O.0).stamp (omega arith) here (omega (arith, since')) in
-                ap (λ n. (state O.4).cells n w) since ∙ back_then.1 w ∙ Q.cells w (subst (λ (f : Frame). InRange f w) frame at)
+                ap (λ n. (state O.3).cells n w) since ∙ back_then.1 w ∙ Q.cells w (subst (λ (f : Frame). InRange f w) frame at)
                 ∙ ap (λ (y : State). cell_now y w) B.region ∙ sym (ap (λ n. t.cells n w) D.stamp ∙ D.cells s.stamp w);
           })
 
@@ -200,21 +190,21 @@ module _ {P : Type 0} (state : P → State) (refused : Bool) (s : State) (word :
         -- core c's end, its worker, its piece, and its steps
         abbrev Full : ℕ → CoreEnd refused → Type 0
         Full c y = IsEnd o r refused t shown given c y × (slice_get back.workers.items c ≡ Some y.last.worker) × ((q : P) × (slice_get back.pieces.items c ≡ Some q) × (state q ≡ y.last.region))
-            × (steps_of (order (group_of l c)) (member_of l c) ≡ y.last.trail.steps) × (y.later ≡ [])
+            × (steps_of (order (group_of l c)) (member_of l c) ≡ y.last.trail.steps) × (A.rest ≡ [] → y.later ≡ [])
 
         ended : (c : ℕ) → c < l.cores → (y : CoreEnd refused) × Full c y
         ended c low =
             let O = one c low in
             let g_low = group_low l is_layout c low in
             let b = get_at tables (group_of l c) (let n = table_count in omega (arith, g_low, n)) in
-            let at_u : slice_get back.tokens.items (group_of l c * l.group + member_of l c) ≡ Some O.5 = ap (slice_get back.tokens.items) (div-add-mod' c l.group) ∙ O.12 in
-            let view : HasView (shown (group_of l c)) (member_of l c) (view_at O.5.own) = shown_view l.group tables back.tokens.items E (opened (place_at l 0) o.found) (λ g y at. S.manned.sizes g y at) (group_of l c) (member_of l c) b.0 O.5 b.1 (member_low l is_layout c) at_u in
-            let made = orders_made l.group tables back.tokens.items E (λ g y at. S.manned.sizes g y at) (group_of l c) (member_of l c) b.0 O.5 b.1 (member_low l is_layout c) at_u in
-            let loads = subst (λ (w : Group). LoadsLook (view_of w (member_of l c)) (trail_at O.5.own)) (S.manned.opened_on (group_of l c) b.0 b.1) made.1 in
-            let taken : TakesPiece t (state O.4) = subst (λ (y : P). TakesPiece t (state y)) (get_index back.pieces.items c O.4 O.4 O.11) (takes c O.4 (get_low back.pieces.items c O.4 O.11)) in
-            let end = core_end state refused o r is_layout given tables x.crew pieces x.cuts.items S.manned table_count S.workers.each (seat_there s word r o F B x.crew.workers.items S.seated worker_count) (start_there s word r o F B) queues_are piece_at cuts_are
-            c low O.0 O.1 O.2 O.3 O.7 O.8 O.9 O.10 t shown O.4 O.5 O.6 O.14 taken view loads in
-            (end.0, (end.1, O.13, (O.4, O.11, refl), made.0, refl))
+            let at_u : slice_get back.tokens.items (group_of l c * l.group + member_of l c) ≡ Some O.4 = ap (slice_get back.tokens.items) (div-add-mod' c l.group) ∙ O.10 in
+            let view : HasView (shown (group_of l c)) (member_of l c) (view_at O.4.own) = shown_view l.group tables back.tokens.items E (opened (place_at l 0) o.found) (λ g y at. S.manned.sizes g y at) (group_of l c) (member_of l c) b.0 O.4 b.1 (member_low l is_layout c) at_u in
+            let made = orders_made l.group tables back.tokens.items E (λ g y at. S.manned.sizes g y at) (group_of l c) (member_of l c) b.0 O.4 b.1 (member_low l is_layout c) at_u in
+            let loads = subst (λ (w : Group). LoadsLook (view_of w (member_of l c)) (trail_at O.4.own)) (S.manned.opened_on (group_of l c) b.0 b.1) made.1 in
+            let taken : TakesPiece t (state O.3) = subst (λ (y : P). TakesPiece t (state y)) (get_index back.pieces.items c O.3 O.3 O.9) (takes c O.3 (get_low back.pieces.items c O.3 O.9)) in
+            let end = core_end state refused o r is_layout given tables x.crew pieces x.cuts.items S.manned table_count S.workers.each (seat_there s word r o F B x.crew.workers.items S.seated worker_count) (start_there s word r o F B) A.dealt A.rest A.split piece_count piece_at cuts_are
+            c low O.0 O.1 O.2 O.6 O.7 O.8 t shown O.3 O.4 O.5 O.12 taken view loads in
+            (end.0, (end.1, O.11, (O.3, O.9, refl), made.0, λ none. ap (dealt_from l.cores c (length A.dealt)) none))
 
         chosen_by : (c : ℕ) (b : Bool) → nat_lt c l.cores ≡ b → Option (CoreEnd refused)
         chosen_by c true e = Some (ended c (ltb-true c l.cores e)).0
@@ -242,11 +232,11 @@ module _ {P : Type 0} (state : P → State) (refused : Bool) (s : State) (word :
 
           -- what it comes to
           pub run_ran : (mid : State) → Parted s mid x.cuts.items → Joined mid t → ComesNext state mid t back.pieces.items → s.frame.parted ≡ false → mid.frame.opens ≡ s.frame.opens → mid.frame.refusals ≡ s.frame.refusals → t.frame.opens ≡ mid.frame.opens
-              → RefusalLaw → MomentLaw → CutLaw → (out : Outcome) → IsReport (stored_all back.workers.items t.stamp x.answers.items) (report_in out) → out.end ≡ end_by (any_short back.workers.items) (any_stopped back.workers.items) → RanApart s word refused r lines t out
+              → RefusalLaw → MomentLaw → CutLaw → (out : Outcome) → IsReport (stored_all back.workers.items t.stamp x.answers.items) (report_in out) → out.end ≡ end_by in_all (any_stopped back.workers.items) → RanApart s word refused r given t out
           run_ran mid D J N whole_is opens refusals opens' refusal moment at_cut out report end =
               ran chain keys_open doubts_open o B.is is_layout r refused t shown given groups ends all back.workers.items x.answers.items (λ c low. (full c low).2.1) few S.places S.blank
-              s word lines refl out B (region_rejoined s word r o F B x.cuts.items cuts_are mid t D J whole_is opens refusals opens') (λ g low. (at_group g low).2)
+              s word out B (region_rejoined s word r o F B x.cuts.items cuts_are mid t D J whole_is opens refusals opens') (λ g low. (at_group g low).2)
               (region_superblock s word r o F B x.cuts.items cuts_are mid t D J) (λ c low. (full c low).2.0.piece.piece.faults)
               (next_joined s mid t x.cuts.items D J state back.pieces.items l.cores (λ c low. (full c low).0.last.region) N (A.pieces_count ∙ piece_count)
               (λ c low q at. (let f = (full c low).2.2 in ap state (one_of q f.0 (sym at ∙ f.1)) ∙ f.2)))
-              report end refusal moment at_cut order (λ c low. (full c low).2.3) order_shown (λ not_memory c low. (full c low).2.4)
+              report in_all end refusal moment at_cut order (λ c low. (full c low).2.3) order_shown (λ is c low. A.memory is c (full c low).0.last.worker (full c low).2.1) (λ is c low. (full c low).2.4 (A.whole is))

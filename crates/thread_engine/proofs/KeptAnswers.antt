@@ -15,8 +15,7 @@ use Rattle.core_worker.specs.Answering.{IsGiven, AreGiven}
 use Rattle.core_worker.specs.Beginning.{answers_of}
 use Rattle.group_engine.specs.declared.types.Stamped.{Stamped}
 use Rattle.group_engine.specs.Answers.{kept_at, stored, HavePlaces}
-use Rattle.thread_engine.specs.Collected.{stored_all, HaveAllPlaces}
-use Rattle.thread_engine.specs.Dealt.{AreBlank}
+use Rattle.thread_engine.specs.Collected.{AreBlank, stored_all, HaveAllPlaces}
 use Rattle.thread_engine.specs.RanApart.{stamped}
 use Rattle.thread_engine.proofs.Doubts.{none_some, one_of}
 

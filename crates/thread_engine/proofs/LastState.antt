@@ -9,7 +9,6 @@ use Rattle.fs_model.specs.declared.model.Request.{Request}
 use Rattle.fs_model.specs.Cells.{key_of}
 use Rattle.fs_model.specs.Lawful.{cell_of, stopped_of}
 use Rattle.fs_model.specs.Changes.{requests_of}
-use Rattle.fs_text.specs.declared.line.Line.{Line}
 use Rattle.pm_region.specs.State.{State, Frame, IsTold, IsTelling, MayLeave, cell_now, counted, Rose}
 use Rattle.pm_region.specs.Split.{TakesPiece, TellsFrom}
 use Rattle.log_entry.specs.declared.entry.Entry.{Entry}
@@ -36,7 +35,6 @@ use Rattle.engine_laws.specs.Parts.{Groups, AllLicensed, HasSuperblock, group_of
 use Rattle.engine_laws.specs.Idle.{IsDrained}
 use Rattle.engine_laws.specs.Ceasing.{HasCeased}
 use Rattle.engine_laws.specs.Causes.{Causes}
-use Rattle.engine_laws.specs.Ran.{asked_in}
 use Rattle.headline.specs.Headline.{Recovers}
 use Rattle.engine_laws.specs.Reports.{AllAnswered, told_of}
 use Rattle.engine_laws.specs.WorkerMoves.{Placed, request_placed, Hands, Fixed, asked, replied, fixed_of, requests_for, line_in, HasDoubt}
@@ -61,8 +59,7 @@ use Rattle.group_engine.specs.Answers.{ShowsAnswer, kept_at, HavePlaces}
 use Rattle.group_engine.specs.Replayed.{BeginsAt, report_in}
 use Rattle.group_engine.specs.Reports.{IsReport}
 use Rattle.group_engine.proofs.Clients.{reports_by}
-use Rattle.thread_engine.specs.Collected.{stored_all, HaveAllPlaces, any_short, any_stopped, end_by}
-use Rattle.thread_engine.specs.Dealt.{AreBlank}
+use Rattle.thread_engine.specs.Collected.{AreBlank, stored_all, HaveAllPlaces, any_stopped, end_by}
 use Rattle.thread_engine.specs.RanApart.{stamped, KeepsAnswers, Rejoined, RanApart}
 use Rattle.thread_engine.proofs.Places.{any_at, any_in}
 use Rattle.thread_engine.proofs.KeptAnswers.{Lacks, Apart, given_for, fixed_for, there_kept, from_all, blank_none, apart_by_keys, all_long}
@@ -178,14 +175,18 @@ CutLaw = (o : Origin) (r : Recovered) (refused : Bool) (e : Engine) → IsOrigin
 
 -- what the end says of the workers
 faulted : (a b : Bool) → end_by a b ≡ closings.RegionFault → b ≡ true
-faulted true b e = absurd (cc e)
-faulted false true e = refl
-faulted false false e = absurd (cc e)
+faulted false b e = absurd (cc e)
+faulted true true e = refl
+faulted true false e = absurd (cc e)
 
 completed : (a b : Bool) → end_by a b ≡ closings.Complete → b ≡ false
-completed true b e = absurd (cc e)
-completed false true e = absurd (cc e)
-completed false false e = refl
+completed false b e = absurd (cc e)
+completed true true e = absurd (cc e)
+completed true false e = refl
+
+had_memory : (a b : Bool) → (end_by a b ≡ closings.Memory → ⊥) → a ≡ true
+had_memory true b no_ = refl
+had_memory false b no_ = absurd (no_ refl)
 
 -- the front of rising numbers, and no numbers
 up_front : (xs ys : List (ℕ × Request)) → IsUp (xs ++ ys) → IsUp xs
@@ -683,25 +684,22 @@ module _ (chain : ChainLaw) (keys_open : OpeningKeys) (doubts_open : OpeningDoub
       gave_is c low = ap (λ outs. outs ++ answers_of (x c low).last.worker) (X c low).kept
 
     -- What the run comes to.
-    module _ (s : State) (word : ℕ → ℕ) (lines : List Line) (given_are : given ≡ asked_in lines) (out : Outcome) (begins : BeginsAt s word o) (rejoined : Rejoined s t) (reached : (g : ℕ) → g < groups_in l → (steps : List (ℕ × Kind)) × Runs (opened (place_at l g) o.found) steps (group g))
+    module _ (s : State) (word : ℕ → ℕ) (out : Outcome) (begins : BeginsAt s word o) (rejoined : Rejoined s t) (reached : (g : ℕ) → g < groups_in l → (steps : List (ℕ × Kind)) × Runs (opened (place_at l g) o.found) steps (group g))
         (superblock : IsTelling t → HasSuperblock o.found (cell_now t)) (first_faults : (c : ℕ) (low : c < l.cores) → (x c low).first.region.faults ≡ o.region.faults)
         (next : IsTelling s → ((c : ℕ) (low : c < l.cores) → TellsFrom s (x c low).last.region) → (latest : ℕ) → s.stamp ≤ latest → ((c : ℕ) (low : c < l.cores) → (x c low).last.region.stamp ≤ latest) → t.stamp ≤ counted latest)
-        (report : IsReport kept (report_in out)) (end : out.end ≡ end_by (any_short workers) (any_stopped workers)) (refusal : RefusalLaw) (moment : MomentLaw) (at_cut : CutLaw) (order : ℕ → List (ℕ × TrailStep))
+        (report : IsReport kept (report_in out)) (in_all : Bool) (end : out.end ≡ end_by in_all (any_stopped workers)) (refusal : RefusalLaw) (moment : MomentLaw) (at_cut : CutLaw) (order : ℕ → List (ℕ × TrailStep))
         (made : (c : ℕ) (low : c < l.cores) → steps_of (order (group_of l c)) (member_of l c) ≡ (x c low).last.trail.steps)
         (order_shown : (g : ℕ) → g < groups_in l → (late early : List (ℕ × TrailStep)) → order g ≡ late ++ early → (w : Group) × IsShown (place_at l g) o.found early w)
-        (all_dealt : out.end ≢ closings.Memory → (c : ℕ) (low : c < l.cores) → (x c low).later ≡ []) where
+        (memory : in_all ≡ true → (c : ℕ) (low : c < l.cores) → (x c low).last.worker.winds_down ≡ false) (all_dealt : in_all ≡ true → (c : ℕ) (low : c < l.cores) → (x c low).later ≡ []) where
+      with_memory : out.end ≢ closings.Memory → in_all ≡ true
+      with_memory not_memory = had_memory in_all (any_stopped workers) (λ is. not_memory (end ∙ is))
+
       promised : Promised o e
       promised = moment o e (last_stands rejoined.since superblock) (refusal o r refused e is (all_ran reached)) (stop_cause first_faults)
 
-      works : out.end ≢ closings.Memory → (c : ℕ) (low : c < l.cores) → (x c low).last.worker.winds_down ≡ false
-      works not_memory c low = by (x c low).last.worker.winds_down refl where
-        by : (b : Bool) → (x c low).last.worker.winds_down ≡ b → (x c low).last.worker.winds_down ≡ false
-        by false at_b = at_b
-        by true at_b = absurd (not_memory (end ∙ ap (λ b. end_by b (any_stopped workers)) (any_at (λ (w : Worker). w.winds_down) workers c (x c low).last.worker (workers_are c low) at_b)))
-
       has_stopped : out.end ≡ closings.RegionFault → HasStopped e
       has_stopped is_fault =
-          let there = any_in (λ (w : Worker). w.stopped) workers (faulted (any_short workers) (any_stopped workers) (sym end ∙ is_fault)) in
+          let there = any_in (λ (w : Worker). w.stopped) workers (faulted in_all (any_stopped workers) (sym end ∙ is_fault)) in
           let low = few there.0 there.1 there.2 in
           (there.0, low, ap (λ d. (hands_in d).stopped) (at there.0 low) ∙ ap (λ (w : Worker). w.stopped) (sym (worker_is there.0 there.1 there.2)) ∙ there.3)
 
@@ -709,9 +707,9 @@ module _ (chain : ChainLaw) (keys_open : OpeningKeys) (doubts_open : OpeningDoub
       goes_on is_complete c low = by (e.stopped c) refl where
         by : (b : Bool) → e.stopped c ≡ b → e.stopped c ≡ false
         by false at_b = at_b
-        by true at_b = absurd (clash (any_stopped workers) (any_at (λ (w : Worker). w.stopped) workers c (x c low).last.worker (workers_are c low) (sym (ap (λ d. (hands_in d).stopped) (at c low)) ∙ at_b)) (completed (any_short workers) (any_stopped workers) (sym end ∙ is_complete)))
+        by true at_b = absurd (clash (any_stopped workers) (any_at (λ (w : Worker). w.stopped) workers c (x c low).last.worker (workers_are c low) (sym (ap (λ d. (hands_in d).stopped) (at c low)) ∙ at_b)) (completed in_all (any_stopped workers) (sym end ∙ is_complete)))
 
-      pub ran : RanApart s word refused r lines t out
+      pub ran : RanApart s word refused r given t out
       unfolding all_ran core_run
       ran = record {
         origin = o;
@@ -719,7 +717,7 @@ module _ (chain : ChainLaw) (keys_open : OpeningKeys) (doubts_open : OpeningDoub
         begins = begins;
         rejoined = rejoined;
         region = refl;
-        given = given_are;
+        given = refl;
         ran = all_ran reached;
         next = next;
         inside = record {
@@ -738,7 +736,7 @@ module _ (chain : ChainLaw) (keys_open : OpeningKeys) (doubts_open : OpeningDoub
         report = report;
         reports = reports_by t o e kept (report_in out) promised (all_long workers t.stamp blanks ∙ places_are) shows refl report;
         promised = promised;
-        done = λ not_memory. is_done (works not_memory) (all_dealt not_memory) promised;
+        done = λ not_memory. is_done (memory (with_memory not_memory)) (all_dealt (with_memory not_memory)) promised;
         ceased = λ memory. ceased;
         fault = has_stopped;
         complete = goes_on;

@@ -22,7 +22,8 @@ mod KeptAnswers
 mod Places
 mod Manning
 mod Mustering
-mod DealLaws
+mod Deals
+mod WindowWork
 mod Supplying
 mod Went
 mod RunEnds

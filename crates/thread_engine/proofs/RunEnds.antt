@@ -1,8 +1,6 @@
 -- Each core at the end of a run, by what was supplied, what the split gave, what came back, and the tables as they were closed.
 use Rattle.std.proofs.Common.{◌≡◌, ℕ, zero, suc, ◌+◌, ◌*◌, ◌<◌, ◌==◌, Bool, List, [], ◌∷◌, ◌++◌, length, Some, refl, sym, ◌∙◌, ap, subst, arith, append-nil}
 use Rattle.std.specs.List.{slice_get, enumerate_from}
-use Rattle.std.specs.Global.{Global}
-use Rattle.std.specs.declared.collections.VecDeque.{VecDeque}
 use Rattle.std.proofs.lemmas.Bool.{eqb-true}
 use Rattle.std.proofs.lemmas.Nat.{div-add-mod'}
 use Rattle.fs_model.specs.declared.model.Request.{Request}
@@ -43,14 +41,15 @@ use Rattle.group_engine.specs.Calls.{AreOwn}
 use Rattle.group_engine.specs.Shows.{Seat}
 use Rattle.group_engine.specs.Working.{IsMember, may_take, leads}
 use Rattle.thread_engine.specs.declared.muster.Crew.{Crew}
-use Rattle.thread_engine.specs.WorkStates.{IsAtWork, joined_in}
-use Rattle.thread_engine.specs.WorkStates.Move.{joins}
+use Rattle.thread_engine.specs.WorkStates.{IsAtWork}
+use Rattle.thread_engine.specs.Windows.{dealt_from, OwnsKeys}
 use Rattle.thread_engine.specs.Pieces.{IsPieceOf}
 use Rattle.thread_engine.specs.CoreRuns.{HasView, LoadsLook, requests_to}
 use Rattle.thread_engine.specs.Manned.{AreManned, AllEnded}
 use Rattle.thread_engine.specs.Returns.{core_stands, Went}
 use Rattle.thread_engine.specs.Supplied.{ArePartCuts}
 use Rattle.thread_engine.proofs.PieceStands.{piece_member}
+use Rattle.thread_engine.proofs.Deals.{dealt-append}
 use Rattle.thread_engine.proofs.Places.{get_at, get_front, get_behind, as_elem}
 use Rattle.thread_engine.proofs.CutOrders.{idle_trail}
 use Rattle.thread_engine.proofs.LastState.{CoreEnd, IsEnd}
@@ -120,14 +119,14 @@ module _ {P : Type 0} (state : P → State) (refused : Bool) (o : Origin) (r : R
     (new : (c : ℕ) (w : Worker) (start : CoreStart) → slice_get crew.workers.items c ≡ Some w → slice_get r.starts.items c ≡ Some start → IsNew start r.layout w)
     (seats : (c : ℕ) (w : Worker) → slice_get crew.workers.items c ≡ Some w → Seat hands_of answers_of IsMember fair may_take leads (opening o) c w)
     (starts : (c : ℕ) → c < (layout_of o.found).cores → (start : CoreStart) × (slice_get r.starts.items c ≡ Some start) × IsStartAt (place_at (layout_of o.found) (group_of (layout_of o.found) c)) (member_of (layout_of o.found) c) o.found start)
-    (queues : (c : ℕ) (q : VecDeque (ℕ × Request) Global) → slice_get crew.queues.items c ≡ Some q → q.items ≡ requests_to (layout_of o.found) c given)
+    (dealt rest : List Request) (split : given ≡ dealt ++ rest) (count : length pieces ≡ (layout_of o.found).cores)
     (piece : (c : ℕ) (p : P) → slice_get pieces c ≡ Some p → IsPiece o.region cuts c (state p)) (cuts_are : ArePartCuts (layout_of o.found) cuts) where
   abbrev l : Geometry
   l = layout_of o.found
 
   -- Core c at the beginning.
-  module _ (c : ℕ) (low : c < l.cores) (p : P) (t : SeatToken) (w : Worker) (q : VecDeque (ℕ × Request) Global)
-      (p_at : slice_get pieces c ≡ Some p) (t_at : slice_get crew.tokens.items c ≡ Some t) (w_at : slice_get crew.workers.items c ≡ Some w) (q_at : slice_get crew.queues.items c ≡ Some q) where
+  module _ (c : ℕ) (low : c < l.cores) (p : P) (t : SeatToken) (w : Worker)
+      (p_at : slice_get pieces c ≡ Some p) (t_at : slice_get crew.tokens.items c ≡ Some t) (w_at : slice_get crew.workers.items c ≡ Some w) where
     pub table : (x : GroupTable) × (slice_get tables (group_of l c) ≡ Some x)
     table = get_at tables (group_of l c) (let there = group_low l is_layout c low in let many = table_count in omega (arith, there, many))
 
@@ -168,29 +167,34 @@ module _ {P : Type 0} (state : P → State) (refused : Bool) (o : Origin) (r : R
     member = subst (λ (y : Place). IsMember y (seat_of t.own).number o.region (view_at t.own) w) (sym place_is) (subst (λ (n : ℕ). IsMember (place_at l (group_of l c)) n o.region (view_at t.own) w) (sym number_is)
         (subst (λ (v : View). IsMember (place_at l (group_of l c)) (member_of l c) o.region v w) same_view S.tied))
 
-    own : AreOwn (seat_of t.own).place (seat_of t.own).number q.items
-    own = subst (AreOwn (seat_of t.own).place (seat_of t.own).number) (sym (queues c q q_at)) (in_all (λ (x : ℕ × Request). places.owner (seat_of t.own).place (key_of x.1) ≡ (seat_of t.own).number) (requests_to l c given) one) where
-      one : (x : ℕ × Request) → In x (requests_to l c given) → places.owner (seat_of t.own).place (key_of x.1) ≡ (seat_of t.own).number
-      one x i = (λ j. places.owner (place_is j) (key_of x.1)) ∙ of_member l is_layout c (key_of x.1) (eqb-true (owner l (key_of x.1)) c (in_filter (λ (y : ℕ × Request). owner l (key_of y.1) == c) (enumerate_from 0 given) x i).1) ∙ sym number_is
+    -- the seat owns the core's keys
+    pub owns : OwnsKeys (length pieces) c (seat_of t.own)
+    owns = subst (λ n. OwnsKeys n c (seat_of t.own)) (sym count) (λ k is. (λ j. places.owner (place_is j) k) ∙ of_member l is_layout c k is ∙ sym number_is)
 
     pub first_member : IsMember (seat_of t.own).place (seat_of t.own).number (state p) (view_at t.own) w
     first_member = piece_member o.region (state p) (seat_of t.own).place (seat_of t.own).number (view_at t.own) w member piece_is
 
-    pub first_works : IsAtWork (seat_of t.own) (core_stands state p t w q.items)
-    first_works = record { member = first_member; own = own }
+    pub first_works : IsAtWork (seat_of t.own) (core_stands state p t w [])
+    first_works = record { member = first_member; own = tt }
 
     -- and at the end
-    module _ (s : State) (group : ℕ → Group) (b : P) (u : SeatToken) (y : Worker) (G : Went state refused p t w q.items b u y) (joined : TakesPiece s (state b)) (shown : HasView (group (group_of l c)) (member_of l c) (view_at u.own))
+    module _ (s : State) (group : ℕ → Group) (b : P) (u : SeatToken) (y : Worker) (G : Went state refused p t w (dealt_from (length pieces) c 0 dealt) b u y) (joined : TakesPiece s (state b)) (shown : HasView (group (group_of l c)) (member_of l c) (view_at u.own))
         (loads : LoadsLook (view_of (opened (place_at l (group_of l c)) o.found) (member_of l c)) (trail_at u.own)) where
+      -- the requests of its keys
+      pub all_dealt : {joined : List (ℕ × Request)} → joined ≡ dealt_from (length pieces) c 0 dealt → joined ++ dealt_from l.cores c (length dealt) rest ≡ requests_to l c given
+      all_dealt e =
+          let n : 0 + length dealt ≡ length dealt = omega arith in
+          ap (λ xs. xs ++ dealt_from l.cores c (length dealt) rest) (e ∙ ap (λ m. dealt_from m c 0 dealt) count) ∙ ap (λ m. dealt_from l.cores c 0 dealt ++ dealt_from l.cores c m rest) (sym n)
+          ∙ sym (dealt-append l.cores c 0 dealt rest) ∙ ap (requests_to l c) (sym split)
+
       abbrev pub core_end : (x : CoreEnd refused) × IsEnd o r refused s group given c x
       core_end = (
         record {
           seat = seat_of t.own;
           first = core_stands state p t w [];
           last = core_stands state b u y G.left;
-          -- all its requests join at once
-          works = record { path = core_stands state p t w q.items ∷ G.works.works.path; leads = (joins q.items refl, first_works, G.works.works.leads) };
-          later = [];
+          works = G.works.works;
+          later = dealt_from l.cores c (length dealt) rest;
         },
         record {
           place = place_is;
@@ -202,9 +206,9 @@ module _ {P : Type 0} (state : P → State) (refused : Bool) (o : Origin) (r : R
           sits = first_sits;
           piece = piece_is;
           queue = refl;
-          dealt = append-nil (q.items ++ joined_in (seat_of t.own) refused (core_stands state p t w q.items) (core_stands state b u y G.left) G.works.works) ∙ ap (λ xs. q.items ++ xs) G.works.joins ∙ append-nil q.items ∙ queues c q q_at;
+          dealt = all_dealt G.works.joins;
           kept = G.works.gives;
-          at_work = record { member = first_member; own = tt };
+          at_work = first_works;
           idle = idle_trail t.own.seat.me.0 (manned.idle (group_of l c) (member_of l c) table.0 t table.1 (member_low l is_layout c) t_there);
           loads = subst (λ (v : View). LoadsLook v (trail_at u.own)) (sym view_is) loads;
           work = G.work;

@@ -5,7 +5,8 @@ pub mod CoreRuns
 pub mod Cuts
 pub mod RanApart
 pub mod Manned
-pub mod Dealt
+pub mod Requests
+pub mod Windows
 pub mod Returns
 pub mod Collected
 pub mod Supplied

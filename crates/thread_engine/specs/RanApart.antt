@@ -1,6 +1,6 @@
 -- What a run on threads comes to.
 use Rattle.std.specs.Prelude.{◌≡◌, ◌≢◌, ℕ, ◌<◌, ◌≤◌, List, length, Bool, false, Option, Some}
-use Rattle.fs_text.specs.declared.line.Line.{Line}
+use Rattle.fs_model.specs.declared.model.Request.{Request}
 use Rattle.pm_region.specs.State.{State, IsTelling, cell_now, counted, Rose}
 use Rattle.pm_region.specs.Split.{TellsFrom}
 use Rattle.store_image.specs.Facts.{In}
@@ -9,7 +9,6 @@ use Rattle.engine_laws.specs.Engine.{Engine}
 use Rattle.engine_laws.specs.Origins.{Origin}
 use Rattle.engine_laws.specs.Parts.{HasSuperblock, AllLicensed}
 use Rattle.engine_laws.specs.Promises.{HasStopped, Promised, IsDone}
-use Rattle.engine_laws.specs.Ran.{asked_in}
 use Rattle.engine_laws.specs.Ceasing.{HasCeased}
 use Rattle.core_worker.specs.declared.types.Answer.{Answer}
 use Rattle.group_engine.specs.declared.types.Stamped.{Stamped}
@@ -51,16 +50,16 @@ pub record KeepsAnswers (o : Origin) (r : Recovered) (refused : Bool) (e : Engin
   pub only : (n : ℕ) (y : Stamped) → kept_at kept n ≡ Some y → (c : ℕ) × (low : c < e.layout.cores)
       × (a : Answer) × In a (gave_at (cores c low)) × (a.number ≡ n)
 
--- A run of lines on a region, one worker for each core and each in a thread of its own, led from the region's state and words to its state t, and this is the outcome. `refused` says whether the gate may hold posts back.
-pub record RanApart (s : State) (word : ℕ → ℕ) (refused : Bool) (r : Recovered) (lines : List Line)
+-- A run of requests on a region, one worker for each core and each in a thread of its own, led from the region's state and words to its state t, and this is the outcome. `refused` says whether the gate may hold posts back.
+pub record RanApart (s : State) (word : ℕ → ℕ) (refused : Bool) (r : Recovered) (asked : List Request)
     (t : State) (x : Outcome) : Type 0 where
   pub origin : Origin
   pub last : Engine
   pub begins : BeginsAt s word origin
   pub rejoined : Rejoined s t
-  -- all requests of the lines were given, each to its key's owner, and each core made its moves
+  -- all of them were given, each to its key's owner, and each core made its moves
   pub region : last.region ≡ t
-  pub given : last.given ≡ asked_in lines
+  pub given : last.given ≡ asked
   pub ran : AllRan origin r refused last
   -- where each piece told to its end, the region goes on telling by the stamp after the latest of theirs
   pub next : IsTelling s → ((c : ℕ) (low : c < last.layout.cores)

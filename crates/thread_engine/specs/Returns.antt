@@ -1,8 +1,6 @@
 -- What the cores of a run begin with, and what they give back.
-use Rattle.std.specs.Prelude.{◌≡◌, ℕ, ◌/◌, ◌<◌, ◌≤◌, List, [], map, length, Bool, Some, vec_capacity}
-use Rattle.std.specs.List.{slice_get}
-use Rattle.std.specs.Global.{Global}
-use Rattle.std.specs.declared.collections.VecDeque.{VecDeque}
+use Rattle.std.specs.Prelude.{◌≡◌, ℕ, ◌/◌, ◌<◌, ◌≤◌, List, [], ◌++◌, map, length, Bool, true, false, Some, vec_capacity}
+use Rattle.std.specs.List.{slice_get, AllByRecursion}
 use Rattle.fs_model.specs.declared.model.Request.{Request}
 use Rattle.pm_region.specs.State.{State}
 use Rattle.core_worker.specs.declared.worker.Worker.{Worker}
@@ -17,12 +15,13 @@ use Rattle.thread_engine.specs.declared.core_job.CoreJob.{CoreJob}
 use Rattle.thread_engine.specs.declared.muster.Crew.{Crew}
 use Rattle.thread_engine.specs.declared.muster.Returned.{Returned}
 use Rattle.thread_engine.specs.WorkStates.{WorkState, IsAtWork, WorksOn, HasEnded}
+use Rattle.thread_engine.specs.Windows.{dealt_from, OwnsKeys}
 
--- A token, a worker and a queue for each of so many cores; each token is of a seat at the core's table.
+-- A token and a worker for each of so many cores; each token is of a seat at the core's table.
 pub record IsCrew (tables : List GroupTable) (group count : ℕ) (x : Crew) : Type 0 where
   pub tokens : length x.tokens.items ≡ count
   pub workers : length x.workers.items ≡ count
-  pub queues : length x.queues.items ≡ count
+  pub any : 0 < count
   pub some_ : 0 < group
   pub within : (c : ℕ) → c < count → c / group < length tables
   pub seats : (c : ℕ) (t : SeatToken) (b : GroupTable) → slice_get x.tokens.items c ≡ Some t
@@ -34,12 +33,12 @@ pub record HasRoomOf {P : Type 0} (cores : ℕ) (x : Returned P) : Type 0 where
   pub tokens : (x.tokens.items ≡ []) × (cores ≤ vec_capacity x.tokens)
   pub workers : (x.workers.items ≡ []) × (cores ≤ vec_capacity x.workers)
 
--- the jobs are made of these, core by core
+-- the jobs are made of these, core by core, with no request
 pub record AreMade {P : Type 0} (pieces : List P) (x : Crew)
     (jobs : List (CoreJob CoreSeat P)) : Type 0 where
   pub pieces_are : map (λ j. j.piece) jobs ≡ pieces
   pub workers : map (λ j. j.worker) jobs ≡ x.workers.items
-  pub queues : map (λ j. j.queue) jobs ≡ x.queues.items
+  pub fresh : AllByRecursion (λ j. j.queue.items ≡ []) jobs
   pub seats : map (λ j. j.seat.own) jobs ≡ map (λ t. t.own) x.tokens.items
 
 -- the jobs gave these back
@@ -59,34 +58,39 @@ core_stands state p t w q = record {
   queue = q;
 }
 
--- each core is at work
+-- each core is at work, at the seat that owns its keys
 abbrev pub AllAtWork : {P : Type 0} → (P → State) → List P → Crew → Type 0
 AllAtWork {P} state pieces x = (c : ℕ) (p : P) (t : SeatToken) (w : Worker)
-    (q : VecDeque (ℕ × Request) Global)
     → slice_get pieces c ≡ Some p → slice_get x.tokens.items c ≡ Some t
-    → slice_get x.workers.items c ≡ Some w → slice_get x.queues.items c ≡ Some q
-    → IsAtWork (seat_of t.own) (core_stands state p t w q.items)
+    → slice_get x.workers.items c ≡ Some w
+    → OwnsKeys (length pieces) c (seat_of t.own)
+    × IsAtWork (seat_of t.own) (core_stands state p t w [])
 
--- A core worked to its end.
+-- These requests joined, and a core worked to its end.
 pub record Went {P : Type 0} (state : P → State) (refused : Bool) (p : P) (t : SeatToken)
-    (w : Worker) (queue : List (ℕ × Request)) (q : P) (u : SeatToken) (x : Worker) : Type 0 where
+    (w : Worker) (more : List (ℕ × Request)) (q : P) (u : SeatToken) (x : Worker) : Type 0 where
   pub seat : seat_of u.own ≡ seat_of t.own
   pub left : List (ℕ × Request)
   pub work : IsAtWork (seat_of t.own) (core_stands state q u x left)
-  pub works : WorksOn (seat_of t.own) refused [] (core_stands state p t w queue)
+  pub works : WorksOn (seat_of t.own) refused more (core_stands state p t w [])
       (core_stands state q u x left)
   pub ended : HasEnded (core_stands state q u x left)
 
--- All did, and gave back what they have.
+-- All did, and gave back what they have. The first of a run's requests were dealt to the owners of their keys; where there was memory, all of them.
 pub record AllWent {P : Type 0} (state : P → State) (refused : Bool) (pieces : List P) (crew : Crew)
-    (x : Returned P) : Type 0 where
+    (given : List Request) (all : Bool) (x : Returned P) : Type 0 where
+  pub dealt : List Request
+  pub rest : List Request
+  pub split : given ≡ dealt ++ rest
+  pub whole : all ≡ true → rest ≡ []
+  pub memory : all ≡ true → (c : ℕ) (y : Worker) → slice_get x.workers.items c ≡ Some y
+      → y.winds_down ≡ false
   pub pieces_count : length x.pieces.items ≡ length pieces
   pub tokens_count : length x.tokens.items ≡ length pieces
   pub workers_count : length x.workers.items ≡ length pieces
-  pub each : (c : ℕ) (p : P) (t : SeatToken) (w : Worker) (k : VecDeque (ℕ × Request) Global)
-      (q : P) (u : SeatToken) (y : Worker)
+  pub each : (c : ℕ) (p : P) (t : SeatToken) (w : Worker) (q : P) (u : SeatToken) (y : Worker)
       → slice_get pieces c ≡ Some p → slice_get crew.tokens.items c ≡ Some t
-      → slice_get crew.workers.items c ≡ Some w → slice_get crew.queues.items c ≡ Some k
+      → slice_get crew.workers.items c ≡ Some w
       → slice_get x.pieces.items c ≡ Some q → slice_get x.tokens.items c ≡ Some u
       → slice_get x.workers.items c ≡ Some y
-      → Went state refused p t w k.items q u y
+      → Went state refused p t w (dealt_from (length pieces) c 0 dealt) q u y

@@ -1,21 +1,15 @@
 -- What a run is supplied with before its region is split.
 use Rattle.std.specs.Prelude.{◌≡◌, ℕ, ◌+◌, ◌/◌, ◌≤◌, List, length, slice_index, Some}
 use Rattle.std.specs.List.{slice_get}
-use Rattle.std.specs.Global.{Global}
-use Rattle.std.specs.declared.collections.VecDeque.{VecDeque}
-use Rattle.fs_model.specs.declared.model.Request.{Request}
-use Rattle.fs_text.specs.declared.line.Line.{Line}
 use Rattle.chunk_map.specs.declared.layouts.Geometry.{Geometry}
 use Rattle.chunk_map.specs.Layouts.{layout_of, part_first}
 use Rattle.recover.specs.declared.types.Recovered.{Recovered}
 use Rattle.engine_laws.specs.Origins.{Origin}
-use Rattle.engine_laws.specs.Ran.{asked_in}
 use Rattle.group_engine.specs.Reports.{IsBlank, HasRoomFor}
 use Rattle.group_engine.specs.Runs.{AreNew}
 use Rattle.group_engine.specs.Working.{SeatFirst}
 use Rattle.thread_engine.specs.declared.run_apart.Supplies.{Supplies}
-use Rattle.thread_engine.specs.CoreRuns.{requests_to}
-use Rattle.thread_engine.specs.Dealt.{AreBlank}
+use Rattle.thread_engine.specs.Collected.{AreBlank}
 use Rattle.thread_engine.specs.Manned.{AreManned, AreHands}
 
 -- where each part begins, and where the last one ends
@@ -23,8 +17,8 @@ pub record ArePartCuts (l : Geometry) (cuts : List ℕ) : Type 0 where
   pub count : length cuts ≡ l.cores + 1
   pub at : (c : ℕ) → c ≤ l.cores → slice_index cuts c ≡ part_first l c
 
--- Of a region found so, and of these lines: each group's table with its tokens, each core's worker and requests, and the room for what comes after the split.
-pub record IsSupplied (o : Origin) (r : Recovered) (lines : List Line) (x : Supplies) : Type 0 where
+-- Of a region found so, and for so many requests: each group's table with its tokens, each core's worker, and the room for what comes after the split.
+pub record IsSupplied (o : Origin) (r : Recovered) (count : ℕ) (x : Supplies) : Type 0 where
   pub layout : x.layout ≡ layout_of o.found
   pub recovered : r.layout ≡ layout_of o.found
   pub tables : length x.tables.items ≡ x.layout.cores / x.layout.group
@@ -32,10 +26,7 @@ pub record IsSupplied (o : Origin) (r : Recovered) (lines : List Line) (x : Supp
   pub worker_count : length x.crew.workers.items ≡ x.layout.cores
   pub workers : AreNew r.starts.items r.layout x.crew.workers.items
   pub seated : SeatFirst r.starts.items r.layout x.crew.workers.items
-  pub queue_count : length x.crew.queues.items ≡ x.layout.cores
-  pub queues : (c : ℕ) (q : VecDeque (ℕ × Request) Global)
-      → slice_get x.crew.queues.items c ≡ Some q → q.items ≡ requests_to x.layout c (asked_in lines)
-  pub places : length x.answers.items ≡ length (asked_in lines)
+  pub places : length x.answers.items ≡ count
   pub blank : AreBlank x.answers.items
   pub report : IsBlank x.report
   pub room : HasRoomFor (length x.answers.items) x.report

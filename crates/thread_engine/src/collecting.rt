@@ -1,16 +1,18 @@
 // What a run on threads comes to, by what its workers answered.
-ghost use Rattle.std.specs.Prelude.{◌≡◌, ℕ, ◌<◌, ◌≤◌, length, true, false, Some, map};
+ghost use Rattle.std.specs.Prelude.{◌≡◌, ℕ, ◌<◌, ◌≤◌, length, true, false, Some, map, IfOk};
 ghost use Rattle.std.specs.List.{slice_get, AllByRecursion};
 ghost use Rattle.core_worker.specs.declared.worker.Worker.{Worker};
 ghost use Rattle.group_engine.specs.Replayed.{report_in};
 ghost use Rattle.group_engine.specs.Reports.{IsReport, IsBlank, HasRoomFor};
-ghost use Rattle.thread_engine.specs.Collected.{HaveAllPlaces, stored_all, end_by, any_short, any_stopped};
+ghost use Rattle.thread_engine.specs.Collected.{AreBlank, HaveAllPlaces, stored_all, end_by, any_stopped};
 
 use core_worker::Worker;
+use fs_errors::Memory;
 use group_engine::engine_step::collect;
 use group_engine::run_outcome::{End, Outcome};
 use group_engine::run_report::{Report, report_on};
 use group_engine::types::Stamped;
+use std::alloc::Global;
 
 // Keeps the answers of all workers.
 fn keep_all(
@@ -27,13 +29,6 @@ fn keep_all(
     kept
 }
 
-// Whether a worker found no memory, or was told that another one didn't.
-fn is_short(workers: &[Worker]) -> bool
-    ensures { result ≡ any_short workers.now }
-{
-    workers.iter().any(|worker| worker.winding_down())
-}
-
 // Whether a worker has stopped.
 fn has_stopped(workers: &[Worker]) -> bool
     ensures { result ≡ any_stopped workers.now }
@@ -41,10 +36,10 @@ fn has_stopped(workers: &[Worker]) -> bool
     workers.iter().any(|worker| worker.stopped())
 }
 
-fn end_of(short: bool, stopped: bool) -> End
-    ensures { result ≡ end_by short stopped }
+fn end_of(all: bool, stopped: bool) -> End
+    ensures { result ≡ end_by all stopped }
 {
-    if short {
+    if !all {
         return End::Memory;
     }
     if stopped {
@@ -54,21 +49,34 @@ fn end_of(short: bool, stopped: bool) -> End
     }
 }
 
-/// The outcome by the answers of all workers, each with this stamp. `kept` has a place for each request, and the report
-/// on them has room. It takes no memory.
+/// A place for each of so many answers.
+pub fn blank_answers(alloc: Global, count: usize) -> Result<Vec<Option<Stamped>>, Memory>
+    ensures length { IfOk result (λ answers. length answers.items ≡ count) }
+    ensures blank { IfOk result (λ answers. AreBlank answers.items) }
+{
+    let mut answers = Vec::with_capacity(alloc, count)?;
+    for _ in 0..count {
+        answers.push_reserved(None);
+    }
+    Ok(answers)
+}
+
+/// The outcome by the answers of all workers, each with this stamp, where there was memory for all or not. `kept` has a
+/// place for each request, and the report on them has room. It takes no memory.
 pub fn outcome_of(
     workers: Vec<Worker>,
     kept: Vec<Option<Stamped>>,
     report: Report,
     stamp: u64,
+    all: bool,
 ) -> Outcome
     requires places { HaveAllPlaces (length kept.items) workers.items }
     requires blank { IsBlank report }
     requires room { HasRoomFor (length kept.items) report }
     ensures report { IsReport (stored_all workers.items stamp kept.items) (report_in result) }
-    ensures end { result.end ≡ end_by (any_short workers.items) (any_stopped workers.items) }
+    ensures end { result.end ≡ end_by all (any_stopped workers.items) }
 {
-    let end = end_of(is_short(&workers), has_stopped(&workers));
+    let end = end_of(all, has_stopped(&workers));
     let kept = keep_all(workers, kept, stamp);
     let report = report_on(kept, report);
     Outcome {

@@ -14,12 +14,14 @@ use std::thread;
 use std::thread::Threads;
 
 /// Does the work of all cores, each in a thread of its own, and returns when all have ended. Where a thread can't be
-/// started, its core's work is done by another one, before or after its own. It takes no memory.
+/// started, its core's work is done by another one, before or after its own. Where there was no memory already, `short`
+/// says so: then nothing is begun. It takes no memory.
 pub fn work_all<R: Threads + Wait + Sync, B: Board + Send, P: Region + Send, G: Gate + Sync>(
     rt: &R,
     alloc: Global,
     jobs: &mut [CoreJob<B, P>],
     gate: &G,
+    short: bool,
 )
     requires { (c : ℕ) (d : data_of.CoreJob B P) → c < length jobs.old
         → IsAtWork (B.seat (slice_index_or jobs.old c d).seat)
@@ -33,7 +35,7 @@ pub fn work_all<R: Threads + Wait + Sync, B: Board + Send, P: Region + Send, G: 
     if jobs.is_empty() {
         return;
     }
-    let short = AtomicBool::new(false);
+    let short = AtomicBool::new(short);
     let threads = jobs.len();
     thread::for_each_mut(
         rt,

@@ -3,26 +3,24 @@ ghost use Rattle.std.specs.Prelude.{◌≡◌, ◌≤◌, [], length, vec_capaci
 ghost use Rattle.thread_engine.specs.Returns.{IsCrew, HasRoomOf, Gave, AreMade, AllAtWork, AllWent};
 
 use crate::core_job::CoreJob;
-use crate::crew::work_all;
+use crate::requests::Requests;
+use crate::windows::work_windows;
 use atomic_board::{CoreSeat, GroupTable, SeatToken};
 use core_worker::{Gate, Worker};
 use fs_errors::Memory;
-use fs_model::Request;
 use pm_region::Region;
 use std::alloc::Global;
 use std::collections::VecDeque;
 use std::sync::Wait;
 use std::thread::Threads;
 
-/// What the cores begin with but their pieces, in the cores' order: their tokens, their workers and their requests.
+/// What the cores begin with but their pieces, in the cores' order: their tokens and their workers.
 #[derive(Drop)]
 pub struct Crew {
     /// One for each core, of its seat at its group's table.
     pub tokens: Vec<SeatToken>,
     /// One for each core.
     pub workers: Vec<Worker>,
-    /// By core the requests of its keys, each with its number in the trace, the next one in front.
-    pub queues: Vec<VecDeque<(u64, Request)>>,
 }
 
 /// What the cores give back, in the cores' order: their pieces, their tokens and their workers.
@@ -52,8 +50,9 @@ impl<P: Drop> Returned<P> {
     }
 }
 
-// A job for each core, at its group's table.
+// A job for each core, at its group's table, with no request.
 fn make_jobs<'a, P: Region + Drop>(
+    alloc: Global,
     tables: &'a Vec<GroupTable>,
     group: u32,
     pieces: Vec<P>,
@@ -64,14 +63,9 @@ fn make_jobs<'a, P: Region + Drop>(
     requires room { (jobs.items ≡ []) × (length pieces.items ≤ vec_capacity jobs) }
     ensures { AreMade pieces.items crew result.items }
 {
-    let Crew {
-        tokens,
-        workers,
-        queues,
-    } = crew;
+    let Crew { tokens, workers } = crew;
     let mut tokens = VecDeque::from_vec(tokens);
     let mut workers = VecDeque::from_vec(workers);
-    let mut queues = VecDeque::from_vec(queues);
     for piece in pieces {
         let core = jobs.len();
         let Some(token) = tokens.pop_front() else {
@@ -80,15 +74,12 @@ fn make_jobs<'a, P: Region + Drop>(
         let Some(worker) = workers.pop_front() else {
             unreachable!()
         };
-        let Some(queue) = queues.pop_front() else {
-            unreachable!()
-        };
         let seat = tables[core / group as usize].attend(token);
         jobs.push_reserved(CoreJob {
             seat,
             piece,
             worker,
-            queue,
+            queue: VecDeque::new(alloc),
         });
     }
     jobs
@@ -116,9 +107,15 @@ fn dismiss<P: Region + Drop>(
     room
 }
 
-/// Lets all cores work on their pieces, each in a thread of its own, until all have ended, and gives back what they
-/// have then. It takes no memory.
-pub fn work_apart<'a, T: Threads + Wait + Sync, P: Region + Drop + Send, G: Gate + Sync>(
+/// Lets all cores work on their pieces, each in a thread of its own, until all requests are answered, window by window.
+/// Gives back what they have then, and whether there was memory for all of it.
+pub fn work_apart<
+    'a,
+    T: Threads + Wait + Sync,
+    P: Region + Drop + Send,
+    G: Gate + Sync,
+    Q: Requests,
+>(
     rt: &T,
     alloc: Global,
     tables: &'a Vec<GroupTable>,
@@ -127,15 +124,17 @@ pub fn work_apart<'a, T: Threads + Wait + Sync, P: Region + Drop + Send, G: Gate
     crew: Crew,
     jobs: Vec<CoreJob<CoreSeat<'a>, P>>,
     room: Returned<P>,
+    requests: &mut Q,
     gate: &G,
-) -> Returned<P>
+) -> (Returned<P>, bool)
     requires crew { IsCrew tables.now.items group (length pieces.items) crew }
     requires work { AllAtWork P.state pieces.items crew }
     requires room { (jobs.items ≡ []) × (length pieces.items ≤ vec_capacity jobs)
         × HasRoomOf (length pieces.items) room }
-    ensures { AllWent P.state (G.may_refuse gate.now) pieces.items crew result }
+    ensures { AllWent P.state (G.may_refuse gate.now) pieces.items crew (Q.left requests.old)
+        result.1 result.0 }
 {
-    let mut jobs = make_jobs(tables, group, pieces, crew, jobs);
-    work_all(rt, alloc, &mut jobs, gate);
-    dismiss(jobs, room)
+    let mut jobs = make_jobs(alloc, tables, group, pieces, crew, jobs);
+    let all = work_windows(rt, alloc, requests, &mut jobs, gate);
+    (dismiss(jobs, room), all)
 }

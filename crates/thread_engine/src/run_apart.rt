@@ -1,7 +1,6 @@
-// A run of an input on threads, and its outcome.
-ghost use Rattle.std.specs.Prelude.{◌≡◌, List, false, IfOk, OnErr};
+// A run of requests on threads, and its outcome.
+ghost use Rattle.std.specs.Prelude.{◌≡◌, ℕ, length, false, IfOk, OnErr};
 ghost use Rattle.pm_region.specs.Split.{Stays, Refuses, IsNotOpened};
-ghost use Rattle.fs_text.specs.declared.line.Line.{Line};
 ghost use Rattle.recover.specs.declared.types.Recovered.{Recovered};
 ghost use Rattle.engine_laws.specs.Origins.{Origin};
 ghost use Rattle.group_engine.specs.Replayed.{StandsAsFound, BeginsAt};
@@ -9,17 +8,16 @@ ghost use Rattle.thread_engine.specs.RanApart.{RanApart};
 ghost use Rattle.thread_engine.specs.Supplied.{IsSupplied, ArePartCuts};
 
 use crate::closing::{close_tables, empty_hands};
-use crate::collecting::outcome_of;
-use crate::deal::deal;
+use crate::collecting::{blank_answers, outcome_of};
 use crate::group_tables::open_tables;
 use crate::muster::{Crew, Returned, work_apart};
+use crate::requests::Requests;
 use crate::{cut_rules, opening_rules, refusal_rules, work_rules};
 use atomic_board::{GroupTable, SeatToken};
 use chunk_map::{Geometry, Layout};
 use core_worker::Gate;
 use engine_laws::engine_rules;
 use fs_errors::Memory;
-use fs_text::Input;
 use group_engine::open_engine::open_workers;
 use group_engine::run_outcome::Outcome;
 use group_engine::run_report::Report;
@@ -61,24 +59,24 @@ fn part_cuts(alloc: Global, layout: &Layout) -> Result<Vec<u64>, Memory>
     Ok(cuts)
 }
 
-// Takes all that a run needs. Nothing is written.
+// Takes all that a run of so many requests needs. Nothing is written.
 fn supply<R: ReadRegion>(
     alloc: Global,
     region: &R,
     recovered: Recovered,
-    input: Input,
+    count: usize,
 ) -> Result<Supplies, Memory>
     requires region { StandsAsFound (R.state region.now) (R.word region.now) recovered }
     ensures { IfOk result (λ x. (o : Origin) × BeginsAt (R.state region.now) (R.word region.now) o
-        × IsSupplied o recovered input x) }
+        × IsSupplied o recovered count x) }
 {
     let layout = recovered.layout.geometry();
     let opened = open_tables(alloc, region, &recovered)?;
     let cuts = part_cuts(alloc, &recovered.layout)?;
     let workers = open_workers(alloc, recovered.layout, recovered.starts)?;
-    let dealt = deal(alloc, layout.cores, input.into_lines())?;
+    let answers = blank_answers(alloc, count)?;
     let mut report = Report::new(alloc);
-    report.reserve(dealt.answers.len())?;
+    report.reserve(count)?;
     let hands = empty_hands(alloc, layout.group, opened.tables.len())?;
     Ok(Supplies {
         layout,
@@ -86,9 +84,8 @@ fn supply<R: ReadRegion>(
         crew: Crew {
             tokens: opened.tokens,
             workers,
-            queues: dealt.queues,
         },
-        answers: dealt.answers,
+        answers,
         report,
         hands,
         cuts,
@@ -96,22 +93,25 @@ fn supply<R: ReadRegion>(
 }
 
 // Splits the region, lets the cores work, and joins it. The memory for what comes after the split is taken before it.
-fn run_supplied<T: Threads + Wait + Sync, R: SplitRegion + ReadRegion, G: Gate + Sync>(
+fn run_supplied<T: Threads + Wait + Sync, R: SplitRegion + ReadRegion, G: Gate + Sync, Q: Requests>(
     rt: &T,
     alloc: Global,
     region: &mut R,
     supplies: Supplies,
+    requests: &mut Q,
     gate: &G,
 ) -> Result<Outcome, AttachError>
     requires whole { (R.state region.old).frame.parted ≡ false }
-    requires supplied { (o : Origin) × (r : Recovered) × (lines : List Line)
+    requires supplied { (o : Origin) × (r : Recovered)
         × StandsAsFound (R.state region.old) (R.word region.old) r
-        × BeginsAt (R.state region.old) (R.word region.old) o × IsSupplied o r lines supplies }
-    ensures ran { IfOk result (λ x. (o : Origin) (r : Recovered) (lines : List Line)
+        × BeginsAt (R.state region.old) (R.word region.old) o
+        × IsSupplied o r (length (Q.left requests.old)) supplies }
+    ensures ran { IfOk result (λ x. (o : Origin) (r : Recovered)
         → StandsAsFound (R.state region.old) (R.word region.old) r
-        → BeginsAt (R.state region.old) (R.word region.old) o → IsSupplied o r lines supplies
-        → RanApart (R.state region.old) (R.word region.old) (G.may_refuse gate.now) r lines
-        (R.state region.new) x) }
+        → BeginsAt (R.state region.old) (R.word region.old) o
+        → IsSupplied o r (length (Q.left requests.old)) supplies
+        → RanApart (R.state region.old) (R.word region.old) (G.may_refuse gate.now) r
+        (Q.left requests.old) (R.state region.new) x) }
     ensures stays { OnErr result (Stays (R.state region.old) (R.state region.new)) }
     ensures cause { Refuses (R.state region.old) (R.state region.new) result }
     ensures opens { IsNotOpened (R.state region.old) (R.state region.new) }
@@ -139,7 +139,7 @@ fn run_supplied<T: Threads + Wait + Sync, R: SplitRegion + ReadRegion, G: Gate +
         Ok(pieces) => pieces,
         Err(error) => return Err(error),
     };
-    let back = work_apart(
+    let (back, all) = work_apart(
         rt,
         alloc,
         &tables,
@@ -148,37 +148,40 @@ fn run_supplied<T: Threads + Wait + Sync, R: SplitRegion + ReadRegion, G: Gate +
         crew,
         jobs,
         room,
+        requests,
         gate,
     );
     close_tables(tables, layout.group, back.tokens, hands);
     region.join(back.pieces);
     let stamp = region.stamp();
-    Ok(outcome_of(back.workers, answers, report, stamp))
+    Ok(outcome_of(back.workers, answers, report, stamp, all))
 }
 
-/// Runs an input on a region that stands as recovery found it: one worker for each core, each in a thread of its own
-/// and on its own piece of the region. `go` lines change nothing. The report's stamps are the joined region's.
+/// Runs requests on a region that stands as recovery found it: one worker for each core, each in a thread of its own
+/// and on its own piece of the region. They are made and dealt window by window. The report's stamps are the joined
+/// region's.
 ///
 /// Whatever the end of a run, the pieces are joined again. After an `Err` the region is as it was: `RegionFault` comes
 /// where it could not be split, and `Memory` where there was none for what the run needs.
-pub fn run<T: Threads + Wait + Sync, R: SplitRegion + ReadRegion, G: Gate + Sync>(
+pub fn run<T: Threads + Wait + Sync, R: SplitRegion + ReadRegion, G: Gate + Sync, Q: Requests>(
     rt: &T,
     alloc: Global,
     region: &mut R,
     recovered: Recovered,
-    input: Input,
+    requests: &mut Q,
     gate: &G,
 ) -> Result<Outcome, AttachError>
     requires whole { (R.state region.old).frame.parted ≡ false }
     requires region { StandsAsFound (R.state region.old) (R.word region.old) recovered }
     ensures ran { IfOk result (λ x. RanApart (R.state region.old) (R.word region.old)
-        (G.may_refuse gate.now) recovered input (R.state region.new) x) }
+        (G.may_refuse gate.now) recovered (Q.left requests.old) (R.state region.new) x) }
     ensures stays { OnErr result (Stays (R.state region.old) (R.state region.new)) }
     ensures cause { Refuses (R.state region.old) (R.state region.new) result }
     ensures opens { IsNotOpened (R.state region.old) (R.state region.new) }
 {
-    let Ok(supplies) = supply(alloc, &*region, recovered, input) else {
+    let count = requests.count();
+    let Ok(supplies) = supply(alloc, &*region, recovered, count) else {
         return Err(AttachError::Memory);
     };
-    run_supplied(rt, alloc, region, supplies, gate)
+    run_supplied(rt, alloc, region, supplies, requests, gate)
 }

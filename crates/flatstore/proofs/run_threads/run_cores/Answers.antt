@@ -1,4 +1,6 @@
 -- The split failed, or there was no memory for the run.
+use Rattle.std.proofs.Common.{subst}
+use Rattle.thread_engine.specs.RanApart.{RanApart}
 use Rattle.flatstore.specs.Ends.{source_use}
 use Rattle.flatstore.proofs.ThreadRunning.{split_refused}
 use Rattle.flatstore.proofs.run_threads.run_cores.Goals as goal
@@ -9,3 +11,16 @@ returns-in_err-run-clause-refused g c =
     (source_use g.S.Source.coming g.S.Source.fault_count c.args.source.now c.prepared.new.source)
     c.run.result c.run.ensures.cause c.in_ok-recovered.recovered c.in_ok-recovered.input c.in_ok-recovered.ensures.ready
     c.in_err-run.field-0.0 c.in_err-run.was c.from_residual-in_err-run.result c.from_residual-in_err-run.ensures.1
+
+-- the requests are those among the lines
+pub returns-clause-played : goal.returns-clause-played
+returns-clause-played g c =
+    let s = g.R.Region.state c.args.region.now in
+    let word = g.R.ReadRegion.word c.args.region.now in
+    let refused = g.G.Gate.may_refuse c.args.gate.now in
+    record {
+      recovered = c.in_ok-recovered.recovered;
+      lines = c.in_ok-recovered.input;
+      ready = c.in_ok-recovered.ensures.ready;
+      ran = subst (λ xs. RanApart s word refused c.in_ok-recovered.recovered xs (g.R.Region.state c.run.new.region) c.in_ok-run.field-0) c.of-requests.ensures c.in_ok-run.ensures.ran;
+    }

@@ -1,8 +1,11 @@
-use Rattle.std.proofs.Common.{rules, ◌≡◌, ◌/◌, [], ◌∷◌, ◌++◌, map, length, Some, sym, ◌∙◌, ap, append_assoc, append-nil, arith}
+use Rattle.std.proofs.Common.{rules, ◌≡◌, ◌/◌, [], ◌∷◌, ◌++◌, map, length, Some, sym, ◌∙◌, ap, subst, append_assoc, append-nil, arith}
 use Rattle.std.specs.Prelude.{vec_len}
-use Rattle.std.specs.List.{slice_get}
+use Rattle.std.specs.List.{slice_get, AllByRecursion}
 use Rattle.std.proofs.lemmas.List.{nil_from_length}
 use Rattle.atomic_board.specs.declared.token.SeatToken.{SeatToken}
+use Rattle.atomic_board.specs.declared.token.CoreSeat.{CoreSeat}
+use Rattle.engine_laws.proofs.Clients.{all_append}
+use Rattle.thread_engine.specs.declared.core_job.CoreJob.{CoreJob}
 use Rattle.thread_engine.proofs.Places.{get_there}
 use Rattle.thread_engine.proofs.Mustering.{more_taken, more_made, more_alike, moved_on, less_left, none_left, next_item, below_all}
 use Rattle.thread_engine.proofs.muster.make_jobs.Goals as goal
@@ -13,13 +16,12 @@ loop-piece-init g c =
       split = sym c.into_iter-piece-iterator.ensures.into_iter_gives.0;
       pieces = ap (map (λ j. j.piece)) none;
       workers = sym c.from_vec-workers.ensures.items ∙ ap (λ js. map (λ j. j.worker) js ++ c.from_vec-workers.result.items) (sym none);
-      queues = sym c.from_vec-queues.ensures.items ∙ ap (λ js. map (λ j. j.queue) js ++ c.from_vec-queues.result.items) (sym none);
+      fresh = subst (AllByRecursion (λ (j : CoreJob CoreSeat g.row.P.Denot). j.queue.items ≡ [])) (sym none) tt;
       done = [];
       tokens = sym c.from_vec-tokens.ensures.items;
       seats = ap (map (λ j. j.seat.own)) none;
       tokens_left = ap length c.from_vec-tokens.ensures.items ∙ c.requires.crew.tokens ∙ ap length (sym c.into_iter-piece-iterator.ensures.into_iter_gives.0);
       workers_left = ap length c.from_vec-workers.ensures.items ∙ c.requires.crew.workers ∙ ap length (sym c.into_iter-piece-iterator.ensures.into_iter_gives.0);
-      queues_left = ap length c.from_vec-queues.ensures.items ∙ c.requires.crew.queues ∙ ap length (sym c.into_iter-piece-iterator.ensures.into_iter_gives.0);
       room = c.requires.room.1;
     }
 
@@ -28,9 +30,6 @@ unreachable-requires g c = none_left c.loop-piece.tokens.items c.loop-piece.piec
 
 pub unreachable-requires-in_default-pop_front : goal.unreachable-requires-in_default-pop_front
 unreachable-requires-in_default-pop_front g c = none_left c.loop-piece.workers.items c.loop-piece.piece-iterator.rest.items c.next.new.self.rest.items c.in-Some.piece c.loop-piece.invariant.workers_left c.in-Some.ensures.steps.0 (let z = c.in_default-pop_front.ensures.cases in search rules)
-
-pub unreachable-requires-in_default-pop_front-2 : goal.unreachable-requires-in_default-pop_front-2
-unreachable-requires-in_default-pop_front-2 g c = none_left c.loop-piece.queues.items c.loop-piece.piece-iterator.rest.items c.next.new.self.rest.items c.in-Some.piece c.loop-piece.invariant.queues_left c.in-Some.ensures.steps.0 (let z = c.in_default-pop_front-2.ensures.cases in search rules)
 
 pub attend-seat-requires : goal.attend-seat-requires
 attend-seat-requires g c =
@@ -74,13 +73,12 @@ loop-piece-preserved g c =
       split = I.split ∙ ap (λ xs. c.loop-piece.yielded ++ xs) c.in-Some.ensures.steps.0 ∙ sym (append_assoc c.loop-piece.yielded (c.in-Some.piece ∷ []) c.next.new.self.rest.items);
       pieces = ap (map (λ j. j.piece)) pushed ∙ more_made (λ j. j.piece) old _ c.loop-piece.yielded I.pieces;
       workers = more_taken (λ j. j.worker) c.args.crew.workers.items old _ c.loop-piece.workers.items c.pop_front-in-loop-piece.new.self.items I.workers c.in-Some-pop_front-2.ensures.items ∙ ap (λ js. map (λ j. j.worker) js ++ c.pop_front-in-loop-piece.new.self.items) (sym pushed);
-      queues = more_taken (λ j. j.queue) c.args.crew.queues.items old _ c.loop-piece.queues.items c.pop_front-in-loop-piece-2.new.self.items I.queues c.in-Some-pop_front-3.ensures.items ∙ ap (λ js. map (λ j. j.queue) js ++ c.pop_front-in-loop-piece-2.new.self.items) (sym pushed);
+      fresh = subst (AllByRecursion (λ (j : CoreJob CoreSeat g.row.P.Denot). j.queue.items ≡ [])) (sym pushed) (all_append (λ (j : CoreJob CoreSeat g.row.P.Denot). j.queue.items ≡ []) old _ I.fresh (c.new.ensures.items, tt));
       done = I.done ++ c.in-Some-pop_front.token ∷ [];
       tokens = moved_on c.args.crew.tokens.items I.done c.loop-piece.tokens.items c.pop_front.new.self.items c.in-Some-pop_front.token I.tokens c.in-Some-pop_front.ensures.items;
       seats = ap (map (λ j. j.seat.own)) pushed ∙ more_alike (λ j. j.seat.own) (λ (t : SeatToken). t.own) old I.done _ c.in-Some-pop_front.token I.seats c.attend-seat.ensures;
       tokens_left = less_left c.loop-piece.tokens.items c.pop_front.new.self.items c.in-Some-pop_front.token c.loop-piece.piece-iterator.rest.items c.next.new.self.rest.items c.in-Some.piece I.tokens_left c.in-Some-pop_front.ensures.items c.in-Some.ensures.steps.0;
       workers_left = less_left c.loop-piece.workers.items c.pop_front-in-loop-piece.new.self.items c.in-Some-pop_front-2.worker c.loop-piece.piece-iterator.rest.items c.next.new.self.rest.items c.in-Some.piece I.workers_left c.in-Some-pop_front-2.ensures.items c.in-Some.ensures.steps.0;
-      queues_left = less_left c.loop-piece.queues.items c.pop_front-in-loop-piece-2.new.self.items c.in-Some-pop_front-3.queue c.loop-piece.piece-iterator.rest.items c.next.new.self.rest.items c.in-Some.piece I.queues_left c.in-Some-pop_front-3.ensures.items c.in-Some.ensures.steps.0;
       room = (let cap = c.push_reserved.ensures.capacity in let room = I.room in omega (arith, cap, room));
     }
 
@@ -91,10 +89,9 @@ returns g c =
     let over = nil_from_length c.loop-piece.piece-iterator.rest.items (sym c.loop-piece.piece-iterator.rest.ok.0 ∙ c.in-None.ensures.steps.0) in
     let gone = ap length over in
     let no_tokens = nil_from_length c.loop-piece.tokens.items (I.tokens_left ∙ gone) in
-    let no_workers = nil_from_length c.loop-piece.workers.items (I.workers_left ∙ gone) in
-    let no_queues = nil_from_length c.loop-piece.queues.items (I.queues_left ∙ gone) in record {
+    let no_workers = nil_from_length c.loop-piece.workers.items (I.workers_left ∙ gone) in record {
       pieces_are = I.pieces ∙ sym (append-nil c.loop-piece.yielded) ∙ ap (λ l. c.loop-piece.yielded ++ l) (sym over) ∙ sym I.split;
       workers = sym (I.workers ∙ ap (λ l. map (λ j. j.worker) js ++ l) no_workers ∙ append-nil (map (λ j. j.worker) js));
-      queues = sym (I.queues ∙ ap (λ l. map (λ j. j.queue) js ++ l) no_queues ∙ append-nil (map (λ j. j.queue) js));
+      fresh = I.fresh;
       seats = I.seats ∙ ap (map (λ (t : SeatToken). t.own)) (sym (I.tokens ∙ ap (λ l. I.done ++ l) no_tokens ∙ append-nil I.done));
     }

@@ -33,8 +33,9 @@ split-requires-clause-cuts g c =
     let s = g.R.Region.state c.args.region.now in
     let word = g.R.ReadRegion.word c.args.region.now in
     let z = c.requires.supplied in
+    let given = g.Q.Requests.left c.args.requests.now in
     subst (λ cs. AreCuts s.frame.words cs) (sym c.deref.ensures.value)
-    (region_cuts s word z.1 z.0 z.3 z.4 c.args.supplies.cuts.items (cuts_are g.R.Piece.Region.state (g.G.Gate.may_refuse c.args.gate.now) s word z.0 z.1 z.2 c.args.supplies z.3 z.4 z.5))
+    (region_cuts s word z.1 z.0 z.2 z.3 c.args.supplies.cuts.items (cuts_are g.R.Piece.Region.state (g.G.Gate.may_refuse c.args.gate.now) s word z.0 z.1 given c.args.supplies z.2 z.3 z.4))
 
 pub returns-in-Err-clause-cause : goal.returns-in-Err-clause-cause
 returns-in-Err-clause-cause g c = as_err (g.R.Region.state c.args.region.now) (g.R.Region.state c.split.new.self) c.in-Err.error c.in-Err.ensures.cause
@@ -47,10 +48,11 @@ work_apart-back-requires-clause-crew g c κs within =
     let refused = g.G.Gate.may_refuse c.args.gate.now in
     let x = c.args.supplies in
     let z = c.requires.supplied in
+    let given = g.Q.Requests.left c.args.requests.now in
     let ps = c.in-Ok-split.pieces.items in
     let count = c.in-Ok-split.ensures.count ∙ ap (λ (cs : List ℕ). length cs - 1) c.deref.ensures.value in
     let piece = subst (λ (cs : List ℕ). (i : ℕ) (p : g.row.R-Piece.Denot) → i < length ps → IsPiece s cs i (state (slice_index_or ps i p))) c.deref.ensures.value c.in-Ok-split.ensures.pieces in
-    crew_is state refused s word z.0 z.1 z.2 x z.3 z.4 z.5 ps count piece
+    crew_is state refused s word z.0 z.1 given x z.2 z.3 z.4 ps count piece
 
 pub work_apart-back-requires-clause-work : goal.work_apart-back-requires-clause-work
 work_apart-back-requires-clause-work g c κs within =
@@ -60,10 +62,11 @@ work_apart-back-requires-clause-work g c κs within =
     let refused = g.G.Gate.may_refuse c.args.gate.now in
     let x = c.args.supplies in
     let z = c.requires.supplied in
+    let given = g.Q.Requests.left c.args.requests.now in
     let ps = c.in-Ok-split.pieces.items in
     let count = c.in-Ok-split.ensures.count ∙ ap (λ (cs : List ℕ). length cs - 1) c.deref.ensures.value in
     let piece = subst (λ (cs : List ℕ). (i : ℕ) (p : g.row.R-Piece.Denot) → i < length ps → IsPiece s cs i (state (slice_index_or ps i p))) c.deref.ensures.value c.in-Ok-split.ensures.pieces in
-    all_work state refused s word z.0 z.1 z.2 x z.3 z.4 z.5 ps count piece
+    all_work state refused s word z.0 z.1 given x z.2 z.3 z.4 ps count piece
 
 pub close_tables-requires-clause-tokens : goal.close_tables-requires-clause-tokens
 close_tables-requires-clause-tokens g c =
@@ -73,10 +76,11 @@ close_tables-requires-clause-tokens g c =
     let refused = g.G.Gate.may_refuse c.args.gate.now in
     let x = c.args.supplies in
     let z = c.requires.supplied in
+    let given = g.Q.Requests.left c.args.requests.now in
     let ps = c.in-Ok-split.pieces.items in
     let count = c.in-Ok-split.ensures.count ∙ ap (λ (cs : List ℕ). length cs - 1) c.deref.ensures.value in
     let piece = subst (λ (cs : List ℕ). (i : ℕ) (p : g.row.R-Piece.Denot) → i < length ps → IsPiece s cs i (state (slice_index_or ps i p))) c.deref.ensures.value c.in-Ok-split.ensures.pieces in
-    tokens_back state refused s word z.0 z.1 z.2 x z.3 z.4 z.5 ps count piece c.work_apart-back.result c.work_apart-back.ensures
+    tokens_back state refused s word z.0 z.1 given x z.2 z.3 z.4 ps count piece c.work_apart-back.result.0 c.work_apart-back.result.1 c.work_apart-back.ensures
 
 pub join-requires-clause-pieces : goal.join-requires-clause-pieces
 join-requires-clause-pieces g c =
@@ -86,11 +90,12 @@ join-requires-clause-pieces g c =
     let refused = g.G.Gate.may_refuse c.args.gate.now in
     let x = c.args.supplies in
     let z = c.requires.supplied in
+    let given = g.Q.Requests.left c.args.requests.now in
     let ps = c.in-Ok-split.pieces.items in
     let count = c.in-Ok-split.ensures.count ∙ ap (λ (cs : List ℕ). length cs - 1) c.deref.ensures.value in
     let piece = subst (λ (cs : List ℕ). (i : ℕ) (p : g.row.R-Piece.Denot) → i < length ps → IsPiece s cs i (state (slice_index_or ps i p))) c.deref.ensures.value c.in-Ok-split.ensures.pieces in
     let mid = g.R.Region.state c.split.new.self in
-    pieces_back state refused s word z.0 z.1 z.2 x z.3 z.4 z.5 ps count piece c.work_apart-back.result c.work_apart-back.ensures mid (subst (λ (cs : List ℕ). Parted s mid cs) c.deref.ensures.value c.in-Ok-split.ensures.ok)
+    pieces_back state refused s word z.0 z.1 given x z.2 z.3 z.4 ps count piece c.work_apart-back.result.0 c.work_apart-back.result.1 c.work_apart-back.ensures mid (subst (λ (cs : List ℕ). Parted s mid cs) c.deref.ensures.value c.in-Ok-split.ensures.ok)
 
 pub outcome_of-requires-clause-places : goal.outcome_of-requires-clause-places
 outcome_of-requires-clause-places g c =
@@ -100,14 +105,16 @@ outcome_of-requires-clause-places g c =
     let refused = g.G.Gate.may_refuse c.args.gate.now in
     let x = c.args.supplies in
     let z = c.requires.supplied in
+    let given = g.Q.Requests.left c.args.requests.now in
     let ps = c.in-Ok-split.pieces.items in
     let count = c.in-Ok-split.ensures.count ∙ ap (λ (cs : List ℕ). length cs - 1) c.deref.ensures.value in
     let piece = subst (λ (cs : List ℕ). (i : ℕ) (p : g.row.R-Piece.Denot) → i < length ps → IsPiece s cs i (state (slice_index_or ps i p))) c.deref.ensures.value c.in-Ok-split.ensures.pieces in
     let t = g.R.Region.state c.join.new.self in
-    places state refused s word z.0 z.1 z.2 x z.3 z.4 z.5 ps count piece c.work_apart-back.result c.work_apart-back.ensures c.close_tables.ensures t c.join.ensures.pieces c.every_chain.ensures c.every_opening.ensures.keys c.every_opening.ensures.doubts
+    places state refused s word z.0 z.1 given x z.2 z.3 z.4 ps count piece c.work_apart-back.result.0 c.work_apart-back.result.1 c.work_apart-back.ensures c.close_tables.ensures t c.join.ensures.pieces c.every_chain.ensures c.every_opening.ensures.keys c.every_opening.ensures.doubts
 
 pub returns-clause-ran : goal.returns-clause-ran
-returns-clause-ran g c = λ o r lines F B S.
+returns-clause-ran g c = λ o r F B S.
+    let given = g.Q.Requests.left c.args.requests.now in
     let s = g.R.Region.state c.args.region.now in
     let word = g.R.ReadRegion.word c.args.region.now in
     let state = g.R.Piece.Region.state in
@@ -119,9 +126,9 @@ returns-clause-ran g c = λ o r lines F B S.
     let mid = g.R.Region.state c.split.new.self in
     let t = g.R.Region.state c.join.new.self in
     let parted = subst (λ (cs : List ℕ). Parted s mid cs) c.deref.ensures.value c.in-Ok-split.ensures.ok in
-    run_ran state refused s word o r lines x F B S ps count piece c.work_apart-back.result c.work_apart-back.ensures c.close_tables.ensures t c.join.ensures.pieces c.every_chain.ensures c.every_opening.ensures.keys c.every_opening.ensures.doubts
+    run_ran state refused s word o r given x F B S ps count piece c.work_apart-back.result.0 c.work_apart-back.result.1 c.work_apart-back.ensures c.close_tables.ensures t c.join.ensures.pieces c.every_chain.ensures c.every_opening.ensures.keys c.every_opening.ensures.doubts
     mid parted c.join.ensures.whole c.join.ensures.next c.requires.whole c.in-Ok-split.ensures.opens (c.in-Ok-split.ensures.cause.else_same (λ is. cc is)) c.join.ensures.opens c.every_refusal.ensures c.every_moment.ensures c.every_cut.ensures
-    c.outcome_of.result (subst (λ n. IsReport (stored_all c.work_apart-back.result.workers.items n x.answers.items) (report_in c.outcome_of.result)) c.stamp-stamp.ensures c.outcome_of.ensures.report) c.outcome_of.ensures.end
+    c.outcome_of.result (subst (λ n. IsReport (stored_all c.work_apart-back.result.0.workers.items n x.answers.items) (report_in c.outcome_of.result)) c.stamp-stamp.ensures c.outcome_of.ensures.report) c.outcome_of.ensures.end
 
 pub returns-clause-cause : goal.returns-clause-cause
 returns-clause-cause g c = as_joined (g.R.Region.state c.args.region.now) (g.R.Region.state c.split.new.self) (g.R.Region.state c.join.new.self) c.deref.result.now c.in-Ok-split.pieces c.outcome_of.result c.in-Ok-split.ensures.ok c.join.ensures.whole c.in-Ok-split.ensures.cause

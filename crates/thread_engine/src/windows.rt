@@ -1,0 +1,137 @@
+// The requests of a run, dealt window by window to the cores that own their keys, and worked off.
+ghost use Rattle.std.specs.Prelude.{◌≡◌, ℕ, ◌+◌, ◌<◌, ◌≤◌, ◌∷◌, [], length, true, OnOk, OnErr};
+ghost use Rattle.std.specs.List.{list_any};
+ghost use Rattle.thread_engine.specs.WorkStates.{sight_by};
+ghost use Rattle.thread_engine.specs.Windows.{AreDealt, DealsSome, DealsTo, AreAtWork, WorksOffSome, WorksOffTo, WorksThrough};
+
+use crate::core_job::CoreJob;
+use crate::crew::work_all;
+use crate::requests::Requests;
+use core_worker::Gate;
+use fs_errors::Memory;
+use fs_model::Request;
+use group_board::Board;
+use group_engine::backlog::append;
+use pm_region::Region;
+use std::alloc::Global;
+use std::sync::Wait;
+use std::thread::Threads;
+
+/// The most requests of a window.
+pub const WINDOW: u64 = 4096;
+
+// Deals a request to the core that owns its key.
+fn deal_one<B, P>(jobs: &mut [CoreJob<B, P>], number: u64, request: Request) -> Result<(), Memory>
+    requires some { 0 < length jobs.old }
+    ensures dealt { OnOk result
+        (AreDealt number (request ∷ []) jobs.old jobs.new) }
+    ensures kept { OnErr result (AreDealt number [] jobs.old jobs.new) }
+{
+    let owner = (request.key() % jobs.len() as u64) as usize;
+    append(&mut jobs[owner].queue, number, request)
+}
+
+// Deals the requests before number `to`, of which the next one has number `from`.
+fn deal_window<B, P, Q: Requests>(
+    alloc: Global,
+    requests: &mut Q,
+    jobs: &mut [CoreJob<B, P>],
+    from: u64,
+    to: u64,
+) -> Result<(), Memory>
+    requires some { 0 < length jobs.old }
+    requires order { from ≤ to }
+    requires within { to ≤ from + length (Q.left requests.old) }
+    ensures some_ { DealsSome from (Q.left requests.old) jobs.old jobs.new }
+    ensures all { OnOk result (DealsTo from to (Q.left requests.old) (Q.left requests.new)
+        jobs.old jobs.new) }
+{
+    for number in from..to {
+        let Some(request) = requests.next(alloc)? else {
+            unreachable!()
+        };
+        deal_one(jobs, number, request)?;
+    }
+    Ok(())
+}
+
+// Whether a worker found no memory, or was told that another one didn't.
+fn is_short<B, P>(jobs: &[CoreJob<B, P>]) -> bool
+    ensures { result ≡ list_any (λ job. job.worker.winds_down) jobs.now }
+{
+    jobs.iter().any(|job| job.worker.winding_down())
+}
+
+// Deals the requests of a window, which are those before number `to`, and lets all cores work them off. Answers whether
+// there was memory for all.
+fn work_window<
+    T: Threads + Wait + Sync,
+    B: Board + Send,
+    P: Region + Send,
+    G: Gate + Sync,
+    Q: Requests,
+>(
+    rt: &T,
+    alloc: Global,
+    requests: &mut Q,
+    jobs: &mut [CoreJob<B, P>],
+    gate: &G,
+    from: u64,
+    to: u64,
+) -> bool
+    requires some { 0 < length jobs.old }
+    requires work { AreAtWork B.seat (sight_by B.view B.trail B.at) P.state jobs.old }
+    requires order { from ≤ to }
+    requires within { to ≤ from + length (Q.left requests.old) }
+    ensures some_ { WorksOffSome B.seat (sight_by B.view B.trail B.at) P.state
+        (G.may_refuse gate.now) from (Q.left requests.old) jobs.old jobs.new }
+    ensures all { result ≡ true → WorksOffTo B.seat (sight_by B.view B.trail B.at) P.state
+        (G.may_refuse gate.now) from to (Q.left requests.old) (Q.left requests.new)
+        jobs.old jobs.new }
+{
+    let dealt = deal_window(alloc, requests, jobs, from, to).is_ok();
+    work_all(rt, alloc, jobs, gate, !dealt);
+    dealt && !is_short(jobs)
+}
+
+// The end of the window that begins with number `from`, of so many requests.
+fn window_end(from: u64, count: u64) -> u64
+    requires { from ≤ count }
+    ensures after { from ≤ result }
+    ensures within { result ≤ count }
+{
+    if count - from < WINDOW {
+        count
+    } else {
+        from + WINDOW
+    }
+}
+
+/// Lets all cores work the requests off, window by window. Answers whether there was memory for all of them. Where
+/// there was not, what was posted or taken is finished, and nothing more is begun.
+pub fn work_windows<
+    T: Threads + Wait + Sync,
+    B: Board + Send,
+    P: Region + Send,
+    G: Gate + Sync,
+    Q: Requests,
+>(rt: &T, alloc: Global, requests: &mut Q, jobs: &mut [CoreJob<B, P>], gate: &G) -> bool
+    requires some { 0 < length jobs.old }
+    requires work { AreAtWork B.seat (sight_by B.view B.trail B.at) P.state jobs.old }
+    ensures { WorksThrough B.seat (sight_by B.view B.trail B.at) P.state (G.may_refuse gate.now)
+        (Q.left requests.old) result jobs.old jobs.new }
+{
+    let count = requests.count() as u64;
+    let mut from = 0;
+    for _ in rt.forever() {
+        let to = window_end(from, count);
+        if !work_window(rt, alloc, requests, jobs, gate, from, to) {
+            return false;
+        }
+        if to == count {
+            return true;
+        }
+        from = to;
+    }
+    unreachable!()
+}
