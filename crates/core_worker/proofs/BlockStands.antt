@@ -21,7 +21,7 @@ use Rattle.licence.specs.Licence.{Licensed, grounded}
 use Rattle.core_log.proofs.Clients.{outside_chunk, log_beside, words_kept, own_chunk, tail_fits}
 use Rattle.core_log.specs.Chunk.{words_now}
 use Rattle.chunk_map.proofs.Clients.{chunks_apart}
-use Rattle.core_worker.proofs.CleaningKept.{keeps_few}
+use Rattle.core_worker.proofs.CleaningKept.{fewer_same, keeps_few}
 use Rattle.core_worker.proofs.NamesStood.{names_kept}
 use Rattle.core_worker.specs.declared.worker.Worker.{Worker}
 use Rattle.core_worker.specs.declared.types.Leading.TheVariants as leads
@@ -80,7 +80,7 @@ holds_written t p m v w b a q class value H nothing sets wrote = record {
   leads = H.leads;
   space = λ r. subst (HasSpaceFor (record w { allocator = a })) (sym nothing) tt;
   broken = H.broken;
-  cleaning = keeps_few p m v w a (let same = chunks_same w.allocator a (record { layout_is = wrote.layout_is; part_is = wrote.part_is }) wrote.free in omega (arith, same)) H.cleaning;
+  cleaning = keeps_few p m v w a (fewer_same w.allocator a (chunks_same w.allocator a (record { layout_is = wrote.layout_is; part_is = wrote.part_is }) wrote.free) wrote.free wrote.classes) H.cleaning;
   remembers = H.remembers;
   chunks = λ r j lt. ⊎_elim (λ x. inl (⊎_elim (λ e. inl (wrote.free j ∙ e)) (λ e. inr (ap is_some (wrote.classes j) ∙ e)) x)) (λ e. inr e) (H.chunks r j lt);
   lost = H.lost;

@@ -1,18 +1,16 @@
 -- A cleaning under way stays so between two calls, or none is gone on with once the worker stops or winds down.
-use Rattle.std.proofs.Common.{◌≡◌, ◌⊎◌, inl, inr, ⊎_elim, ℕ, ◌≤◌, ◌||◌, Bool, true, false, cond, Option, refl, sym, ◌∙◌, ap, subst, arith}
+use Rattle.std.proofs.Common.{◌≡◌, inl, inr, ⊎_elim, ℕ, ◌≤◌, ◌||◌, Bool, true, false, cond, None, refl, sym, ◌∙◌, ap, subst, arith}
 use Rattle.group_laws.specs.Places.{Place}
 use Rattle.group_laws.specs.MemberViews.{View}
-use Rattle.lazy_alloc.specs.Sets.{Sets, free_chunk_count}
+use Rattle.lazy_alloc.specs.Sets.{Sets, chunk_is_free, chunk_class, free_chunk_count}
 use Rattle.log_standing.specs.NameCounts.{StandingState, count_of}
 use Rattle.log_cleaner.specs.Clearing.{ClearingState}
-use Rattle.core_worker.specs.declared.types.Leading.{Leading}
-use Rattle.core_worker.specs.declared.types.Leading.TheVariants as leads
 use Rattle.core_worker.specs.declared.types.Cleaning.{Cleaning}
 use Rattle.core_worker.specs.declared.types.Cleaning.TheVariants.{Nothing, Copying, Doomed}
 use Rattle.core_worker.specs.declared.worker.Worker.{Worker}
 use Rattle.core_worker.specs.Supplies.{room_for, under_way, IsSmall}
 use Rattle.core_worker.specs.Status.{is_leading}
-use Rattle.core_worker.specs.KeepsCleaning.{GoesOn, HasPhase, Cleans, KeepsCleaning}
+use Rattle.core_worker.specs.KeepsCleaning.{GoesOn, HasPhase, KeepsCleaning}
 use Rattle.core_worker.proofs.UnderWay.{still_nothing, wound_way, room_same}
 
 -- who has stopped goes on with nothing
@@ -44,9 +42,17 @@ pub keeps_winds : (p : Place) (m : ℕ) (v : View) (w : Worker) (winds : Bool) �
 keeps_winds p m v w true works K = inl (wound_way w)
 keeps_winds p m v w false works K = subst (λ (b : Bool). KeepsCleaning p m v (record w { winds_down = b })) (works refl) K
 
--- no more chunks are free than before
-pub keeps_few : (p : Place) (m : ℕ) (v : View) (w : Worker) (a : Sets) → free_chunk_count a ≤ free_chunk_count w.allocator → KeepsCleaning p m v w → KeepsCleaning p m v (record w { allocator = a })
-keeps_few p m v w a few K = ⊎_elim
+-- No more chunks are free than before, and one that wasn't is neither free nor cut now.
+pub record FewerFree (old new : Sets) : Type 0 where
+  pub few : free_chunk_count new ≤ free_chunk_count old
+  pub taken : (j : ℕ) → chunk_is_free old j ≡ false → chunk_is_free new j ≡ false
+  pub uncut : (j : ℕ) → chunk_is_free old j ≡ false → chunk_class old j ≡ None → chunk_class new j ≡ None
+
+pub fewer_same : (old new : Sets) → free_chunk_count new ≡ free_chunk_count old → ((j : ℕ) → chunk_is_free new j ≡ chunk_is_free old j) → ((j : ℕ) → chunk_class new j ≡ chunk_class old j) → FewerFree old new
+fewer_same old new count free classes = record { few = omega (arith, count); taken = λ j off. free j ∙ off; uncut = λ j off none. classes j ∙ none }
+
+pub keeps_few : (p : Place) (m : ℕ) (v : View) (w : Worker) (a : Sets) → FewerFree w.allocator a → KeepsCleaning p m v w → KeepsCleaning p m v (record w { allocator = a })
+keeps_few p m v w a F K = ⊎_elim
     (λ none. inl none)
     (λ C. inr (record {
       goes = C.goes;
@@ -57,7 +63,9 @@ keeps_few p m v w a few K = ⊎_elim
       is = C.is;
       chunk = C.chunk;
       closed = C.closed;
-      scarce = (let were = C.scarce in omega (arith, were, few));
+      taken = F.taken C.now.chunk C.taken;
+      uncut = F.uncut C.now.chunk C.taken C.uncut;
+      scarce = (let were = C.scarce in let few = F.few in omega (arith, were, few));
       phase = C.phase;
     }))
     K
@@ -75,6 +83,8 @@ keeps_seen p m v u w doomed dead K = ⊎_elim
       is = C.is;
       chunk = C.chunk;
       closed = C.closed;
+      taken = C.taken;
+      uncut = C.uncut;
       scarce = C.scarce;
       phase = by C.now w.cleaning C.phase;
     }))
@@ -98,6 +108,8 @@ keeps_counts p m v w st counts K = ⊎_elim
       is = C.is;
       chunk = C.chunk;
       closed = C.closed;
+      taken = C.taken;
+      uncut = C.uncut;
       scarce = C.scarce;
       phase = by C.now w.cleaning C.phase;
     }))
@@ -113,11 +125,3 @@ pub led_room : (p : Place) (m : ℕ) (v : View) (w : Worker) (winds : Bool) → 
 led_room p m v w winds works K leading =
     let none = leads_none p m v w K leading in
     room_same w winds (still_nothing w.cleaning w.stopped w.winds_down w.stopped winds (λ r. r) works none ∙ sym none)
-
--- no turn goes on with one yet
-pub goes_none : (p : Place) (m : ℕ) (v : View) (w : Worker) → KeepsCleaning p m v w → under_way w ≡ Nothing
-goes_none p m v w K = ⊎_elim (λ none. none) (λ C. absurd (by w.cleaning C.goes)) K where
-  by : (c : Cleaning) → GoesOn c → ⊥
-  by Nothing goes = goes
-  by (Copying victim first) goes = goes
-  by (Doomed chunk) goes = goes

@@ -28,6 +28,7 @@ pub record Allots (old new : Sets) (b : Body) (n : ℕ) : Type 0 where
   pub cut : (j c : ℕ) → chunk_class new j ≡ Some c → chunk_is_due new j ≡ false → (chunk_class old j ≡ Some c) × (chunk_is_due old j ≡ false)
   pub chunk : (j : ℕ) → IsFreeOrData old j → IsFreeOrData new j
   pub few : free_chunk_count new ≤ free_chunk_count old
+  pub uncut : (j : ℕ) → chunk_is_free old j ≡ false → chunk_class old j ≡ None → chunk_class new j ≡ None
 
 pub allots_none : (a : Sets) (b : Body) (n : ℕ) → AreSets a → PointsNowhere b → Allots a a b n
 allots_none a b n sets none = record {
@@ -42,6 +43,7 @@ allots_none a b n sets none = record {
   cut = λ j c e d. (e, d);
   chunk = λ j e. e;
   few = omega arith;
+  uncut = λ j off none. none;
 }
 
 or_false : (x y : Bool) → (x || y) ≡ false → (x ≡ false) × (y ≡ false)
@@ -86,6 +88,7 @@ module _ (old new : Sets) (sets : AreSets old) (sets' : AreSets new) (class q n 
         cut = λ j c e d. (sym (t.chunks.classes j) ∙ e, sym (t.chunks.due j) ∙ d);
         chunk = λ j. ⊎_elim (λ e. inl (t.chunks.free j ∙ e)) (λ e. inr (ap is_some (t.chunks.classes j) ∙ e));
         few = (let same = t.chunk_count in omega (arith, same));
+        uncut = λ j off none. t.chunks.classes j ∙ none;
       }
 
   first_start : is_start old.layout class 1 ≡ true
@@ -119,6 +122,7 @@ module _ (old new : Sets) (sets : AreSets old) (sets' : AreSets new) (class q n 
             (λ ne. ⊎_elim (λ e. inl (t.free i ∙ and_from (chunk_is_free old i) (not (i == j)) e (ap not (ne_eqb i j ne)))) (λ e. inr (ap is_some (t.classes i ne) ∙ e)) had)
             (cases_eq i j);
         few = (let less = t.chunk_count in omega (arith, less));
+        uncut = λ i off none. t.classes i (λ same. (let both : false ≡ true = sym off ∙ ap (chunk_is_free old) same ∙ t.was_free in cc both)) ∙ none;
       }
 
   pub allots : (may : Bool) → Takes old new class may (Some q) → Allots old new (bodies.Pointer q) n

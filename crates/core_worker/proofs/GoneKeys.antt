@@ -77,11 +77,11 @@ lacking_other : (ns : List EntryName) (k : ℕ) → names_key ns k ≡ false →
 lacking_other ns k e None = refl
 lacking_other ns k e (Some r) = ap (λ (ss : List Standing). Some (record { version = r.version; body = r.body; standing = ss })) (filter_all (gone ns k) r.standing (λ s. ap not (has_key ns k s.version e)))
 
-lacking_last : (ns : List EntryName) (k : ℕ) (o : Option KeyRecord) → last_of (option_map (lacking ns k) o) ≡ last_of o
+pub lacking_last : (ns : List EntryName) (k : ℕ) (o : Option KeyRecord) → last_of (option_map (lacking ns k) o) ≡ last_of o
 lacking_last ns k None = refl
 lacking_last ns k (Some r) = refl
 
-lacking_at : (ns : List EntryName) (k n : ℕ) (o : Option KeyRecord) → standing_at (standing_of (option_map (lacking ns k) o)) n ≡ cond (has ns k n) None (standing_at (standing_of o) n)
+pub lacking_at : (ns : List EntryName) (k n : ℕ) (o : Option KeyRecord) → standing_at (standing_of (option_map (lacking ns k) o)) n ≡ cond (has ns k n) None (standing_at (standing_of o) n)
 lacking_at ns k n None = by (has ns k n) where
   by : (b : Bool) → ◌≡◌ {A = Option Standing} None (cond b None None)
   by true = refl

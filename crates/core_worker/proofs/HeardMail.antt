@@ -1,8 +1,8 @@
 -- What a core keeps where it takes in what another member told it.
-use Rattle.std.proofs.Common.{◌≡◌, ◌⊎◌, inl, inr, ⊎_elim, ℕ, zero, suc, ◌<◌, ◌==◌, ◌&&◌, eqb, Bool, true, false, cond, List, [], ◌∷◌, length, Option, Some, None, option_map, refl, sym, ◌∙◌, ap, subst, arith}
+use Rattle.std.proofs.Common.{◌≡◌, ◌⊎◌, inl, inr, ⊎_elim, ℕ, ◌&&◌, eqb, Bool, true, false, cond, List, [], Option, Some, None, option_map, refl, sym, ◌∙◌, ap, subst, arith}
 use Rattle.std.specs.Prelude.{Vec}
 use Rattle.std.specs.Global.{Global}
-use Rattle.std.proofs.lemmas.Bool.{eqb-true, eq-eqb, and_parts}
+use Rattle.std.proofs.lemmas.Bool.{and_parts}
 use Rattle.log_entry.specs.declared.entry.Entry.{Entry}
 use Rattle.log_entry.specs.declared.entry.Body.{Body}
 use Rattle.log_entry.specs.declared.entry.Body.TheVariants as bodies
@@ -13,7 +13,6 @@ use Rattle.core_index.specs.Records.{KeyRecord}
 use Rattle.core_index.specs.Slots as slots
 use Rattle.recover.specs.Starts.{IsSpelledIndex}
 use Rattle.log_standing.specs.NameCounts.{StandingState}
-use Rattle.group_laws.specs.declared.types.Pending.{Pending}
 use Rattle.group_laws.specs.Places.{Place, core_of, owner}
 use Rattle.group_laws.specs.State.{Notices}
 use Rattle.group_laws.specs.Updates.{has}
@@ -23,68 +22,30 @@ use Rattle.group_board.specs.Views.{after_receive, IsTidyIn, TidiedIn}
 use Rattle.core_worker.specs.declared.types.Place as places
 use Rattle.core_worker.specs.declared.types.Place.TheVariants.{Free, Staged, Posted}
 use Rattle.core_worker.specs.declared.worker.Worker.{Worker}
-use Rattle.core_worker.specs.OwnPlaces.{place_at, key_in, is_free, is_busy, own}
-use Rattle.core_worker.specs.KeyTies.{IsPlaced, IsStagedBlock, AreBlocks}
+use Rattle.core_worker.specs.OwnPlaces.{place_at, key_in, is_busy, own}
+use Rattle.core_worker.specs.KeyTies.{IsStagedBlock, AreBlocks}
 use Rattle.core_worker.specs.KeepsCleaning.{KeepsCleaning}
 use Rattle.core_worker.specs.Ties.{Holds, LeadsAt, LeadsNothing, HasSpaceFor}
 use Rattle.core_worker.specs.Order.{InOrder}
 use Rattle.core_worker.specs.Outbox.{mailing, waiting_dead}
-use Rattle.core_worker.specs.GoneNames.{is_out, restarted_by, is_forgotten, first_of, lacking, KnowsAll, LosesNames, LetsNamesGo, SparesPosted}
+use Rattle.core_worker.specs.GoneNames.{restarted_by, is_forgotten, first_of, lacking, KnowsAll, LosesNames, LetsNamesGo, SparesPosted}
 use Rattle.core_worker.specs.Hearing.{last_change, HearsAll}
 use Rattle.core_worker.specs.LogNames.{HearsNotices}
 use Rattle.core_worker.proofs.CleaningKept.{keeps_counts, keeps_seen}
+use Rattle.core_worker.proofs.EndedKeys.{knows_all, key_restarted}
 use Rattle.core_worker.proofs.HeardDead.{killed_count}
 use Rattle.core_worker.proofs.MailKept.{told_by, mail_tidy, mail_still, none_waits, StillTells, still_then, still_tidied}
 use Rattle.core_worker.proofs.GoneKeys.{placed_after, own_after}
 use Rattle.core_worker.proofs.RetiredKeys.{receives_keys, receives_go}
 use Rattle.core_worker.proofs.Posts.{busy_same}
 
--- which changes are posted
-pub out_has : (ps : List places.Place) (k : ℕ) → is_out ps k ≡ true → (s number lines : ℕ) × (s < length ps) × (place_at ps s ≡ Posted number k lines)
-out_has [] k t = absurd (cc t)
-out_has (Free ∷ xs) k t = let r = out_has xs k t in (suc r.0, r.1, r.2, (let lt = r.3 in omega (arith, lt)), r.4)
-out_has (Staged n e u ∷ xs) k t = let r = out_has xs k t in (suc r.0, r.1, r.2, (let lt = r.3 in omega (arith, lt)), r.4)
-out_has (Posted n j lines ∷ xs) k t = by (k == j) refl t (λ again. out_has xs k again) where
-  by : (b : Bool) → (k == j) ≡ b → cond b true (is_out xs k) ≡ true → (is_out xs k ≡ true → (s number more : ℕ) × (s < length xs) × (place_at xs s ≡ Posted number k more)) → (s number more : ℕ) × (s < length (Posted n j lines ∷ xs)) × (place_at (Posted n j lines ∷ xs) s ≡ Posted number k more)
-  by true e t again = (zero, n, lines, omega arith, ap (λ (i : ℕ). Posted n i lines) (sym (eqb-true k j e)))
-  by false e t again = let r = again t in (suc r.0, r.1, r.2, (let lt = r.3 in omega (arith, lt)), r.4)
-
-pub out_at : (ps : List places.Place) (k s number lines : ℕ) → place_at ps s ≡ Posted number k lines → is_out ps k ≡ true
-out_at [] k s number lines e = absurd (cc e)
-out_at (Free ∷ xs) k zero number lines e = absurd (cc e)
-out_at (Free ∷ xs) k (suc s) number lines e = out_at xs k s number lines e
-out_at (Staged n d u ∷ xs) k zero number lines e = absurd (cc e)
-out_at (Staged n d u ∷ xs) k (suc s) number lines e = out_at xs k s number lines e
-out_at (Posted n j l ∷ xs) k zero number lines e = (let same : j ≡ k = cc e in ap (λ (b : Bool). cond b true (is_out xs k)) (eq-eqb k j (sym same)))
-out_at (Posted n j l ∷ xs) k (suc s) number lines e = by (k == j) (out_at xs k s number lines e) where
-  by : (b : Bool) → is_out xs k ≡ true → cond b true (is_out xs k) ≡ true
-  by true rest = refl
-  by false rest = rest
-
-told_swap : (a b t : Bool) → (a ≡ true → b ≡ false) → cond a false (cond b true t) ≡ cond b true (cond a false t)
+pub told_swap : (a b t : Bool) → (a ≡ true → b ≡ false) → cond a false (cond b true t) ≡ cond b true (cond a false t)
 told_swap true b t e = sym (ap (λ (c : Bool). cond c true false) (e refl))
 told_swap false b t e = refl
 
-told_still : (b t : Bool) → t ≡ true → cond b true t ≡ true
+pub told_still : (b t : Bool) → t ≡ true → cond b true t ≡ true
 told_still true t e = refl
 told_still false t e = e
-
--- the keys of the places stay, and so do posted changes
-pub key_restarted : (f : ℕ → Bool) (x : places.Place) → key_in (restarted_by f x) ≡ key_in x
-key_restarted f Free = refl
-key_restarted f (Staged n e u) = by (f e.key) where
-  by : (b : Bool) → key_in (cond b (Staged n (first_of e) u) (Staged n e u)) ≡ Some e.key
-  by true = refl
-  by false = refl
-key_restarted f (Posted n k l) = refl
-
-pub free_restarted : (f : ℕ → Bool) (x : places.Place) → is_free (restarted_by f x) ≡ is_free x
-free_restarted f Free = refl
-free_restarted f (Staged n e u) = by (f e.key) where
-  by : (b : Bool) → is_free (cond b (Staged n (first_of e) u) (Staged n e u)) ≡ false
-  by true = refl
-  by false = refl
-free_restarted f (Posted n k l) = refl
 
 abbrev WasStaged : places.Place → ℕ → List ℕ → Body → Type 0
 WasStaged x number value body = (e : Entry) × (x ≡ Staged number e value) × (e.body ≡ body)
@@ -180,28 +141,7 @@ module _ (p : Place) (m from : ℕ) (v : View) (w : Worker) (H : Holds p m v w) 
   }
 
   pub knew_all : KnowsAll p m (mailing all v) w.places.items w.index
-  knew_all = record {
-    keys = λ k own. H.keys k own (inl runs);
-    quiet = λ k own none. by k none (is_out w.places.items k) refl;
-    posted = λ k own off. idle k off (v.pending k) refl;
-    remembers = λ k own none. H.remembers runs k own none;
-    mine = O.agrees.mine;
-    heard = O.heard;
-  } where
-    by : (k : ℕ) → v.pending k ≡ None → (b : Bool) → is_out w.places.items k ≡ b → is_out w.places.items k ≡ false
-    by k none false e = e
-    by k none true e = absurd (
-        let at = out_has w.places.items k e in
-        let is = subst (IsPlaced p m v at.0) at.4 (H.placed at.0 (let lt = at.3 in let eight = H.eight in omega (arith, lt, eight))) in
-        let pends = is.1 in
-        let both : None ≡ Some (record { entry = is.0; slot = Some at.0 }) = sym none ∙ pends in cc both)
-
-    idle : (k : ℕ) → is_out w.places.items k ≡ false → (o : Option Pending) → v.pending k ≡ o → v.pending k ≡ None
-    idle k off None e = e
-    idle k off (Some q) e = absurd (⊎_elim
-        (λ y. (let yes = out_at w.places.items k y.0 y.1 y.2 y.4 in let both : true ≡ false = sym yes ∙ off in cc both))
-        (λ y. (let on = y.2 in let both : true ≡ false = sym on ∙ runs in cc both))
-        (H.pending k q e))
+  knew_all = knows_all p m v w H O runs
 
   pub knows_now : KnowsAll p m (mailing all view) ps.items ix
   knows_now = receives_keys p m from n (mailing all v) (mailing all view) w.places.items ps.items w.index X.mid ix knew_all heard_all tidied_all X.loses X.heard

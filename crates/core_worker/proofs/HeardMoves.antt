@@ -31,6 +31,7 @@ use Rattle.core_worker.proofs.UnderWay.{room_less}
 use Rattle.core_worker.proofs.StockFacts.{still_spend, stock_small}
 use Rattle.core_worker.proofs.QuietMoves.{quiet_moves_low}
 use Rattle.core_worker.proofs.TurnLaws.{SameChange, held_same, nothing_fixed}
+use Rattle.core_worker.proofs.EndedKeys.{free_restarted}
 use Rattle.core_worker.proofs.HeardMail as mail
 use Rattle.core_worker.proofs.HeardStands as stood
 
@@ -61,7 +62,7 @@ module _ (seat : SeatAt) (from : ℕ) (v : View) (w : Worker) (H : HoldsAt seat 
       let test = is_forgotten n.gone w.places.items X.loses.mid in
       record {
         key = mail.key_same seat.place seat.number from v w H O runs nothing n A ps ix st X last told dead T s;
-        free = ap is_free at ∙ mail.free_restarted test (place_at w.places.items s);
+        free = ap is_free at ∙ free_restarted test (place_at w.places.items s);
         held = λ y. ap (placed_in y) at ∙ held_restarted test y (place_at w.places.items s);
       }
 

@@ -1,24 +1,17 @@
 -- What stands by the region, and is in order, once another member's notices were taken in.
-use Rattle.std.proofs.Common.{◌≡◌, inl, inr, ⊎_elim, ℕ, ◌+◌, ◌≤◌, ◌==◌, ◌&&◌, not, eqb, Bool, true, false, cond, List, Option, Some, None, option_map, refl, sym, ◌∙◌, ap, subst, arith}
+use Rattle.std.proofs.Common.{◌≡◌, inl, inr, ⊎_elim, ℕ, ◌+◌, ◌≤◌, ◌&&◌, not, eqb, Bool, true, false, cond, List, Option, Some, None, option_map, refl, sym, ◌∙◌, ap, arith}
 use Rattle.std.specs.Prelude.{Vec}
-use Rattle.std.specs.List.{filter}
 use Rattle.std.specs.Global.{Global}
-use Rattle.std.proofs.lemmas.Bool.{and_parts, and_from, eqb-true, eq-eqb}
+use Rattle.std.proofs.lemmas.Bool.{and_parts}
 use Rattle.pm_region.specs.State.{State}
-use Rattle.log_entry.specs.declared.entry.Entry.{Entry}
 use Rattle.log_entry.specs.declared.entry.EntryName.{EntryName}
-use Rattle.core_log.specs.Log.{LogState}
-use Rattle.core_log.specs.Walking.{entries_in, behind}
 use Rattle.core_index.specs.Index.{known_at}
 use Rattle.core_index.specs.Records.{KeyRecord, block_of, pointer_of, is_forgettable, is_tombstone, is_empty, last_of, standing_at, standing_of}
 use Rattle.core_index.specs.Slots as slots
 use Rattle.core_index.specs.declared.types.Standing.{Standing}
 use Rattle.log_entry.specs.declared.entry.Body.{Body}
 use Rattle.log_entry.specs.declared.entry.Body.TheVariants as bodies
-use Rattle.log_standing.specs.declared.types.Settled.{Settled}
-use Rattle.log_standing.specs.NameCounts.{StandingState, count_of, is_told}
-use Rattle.log_cleaner.specs.Clearing.{ClearingState}
-use Rattle.log_cleaner.specs.Copying.{awaits, left_to_copy, IsSettled}
+use Rattle.log_standing.specs.NameCounts.{StandingState}
 use Rattle.group_laws.specs.declared.types.Pending.{Pending}
 use Rattle.group_laws.specs.Places.{Place, core_of, owner}
 use Rattle.group_laws.specs.State.{Notices}
@@ -37,11 +30,10 @@ use Rattle.core_worker.specs.Outbox.{mailing, waiting_dead}
 use Rattle.core_worker.specs.StandingTies.{KnowsDead, NamesAgree}
 use Rattle.core_worker.specs.GoneNames.{lacking, names_key, is_out, is_forgotten, LosesNames}
 use Rattle.core_worker.specs.Hearing.{heard_at, HearsAll}
-use Rattle.core_worker.specs.declared.types.Cleaning.{Cleaning}
-use Rattle.core_worker.specs.LogNames.{KnowsNames, KnowsBy, IsCleanedBy, NamesStand, HearsNotices}
-use Rattle.core_worker.proofs.CleaningKept.{runs_way, goes_none}
+use Rattle.core_worker.specs.LogNames.{KnowsNames, KnowsBy, NamesStand, HearsNotices}
+use Rattle.core_worker.proofs.EndedKeys.{free_restarted}
 use Rattle.core_worker.proofs.MailKept.{own_told}
-use Rattle.core_worker.proofs.NamesStood.{narrow, names_heard}
+use Rattle.core_worker.proofs.NamesStood.{names_more, names_heard}
 use Rattle.core_worker.proofs.LogNames.{received, killed_names}
 use Rattle.core_worker.proofs.Settling.{change_block}
 use Rattle.core_worker.proofs.Tidied.{change_last}
@@ -49,40 +41,6 @@ use Rattle.core_worker.proofs.GoneKeys.{at_lacking}
 use Rattle.core_worker.proofs.PostMoves.{count_same}
 use Rattle.core_worker.proofs.HeardDead.{killed_count, killed_up, dead_killed, dead_after}
 use Rattle.core_worker.proofs.HeardMail as mail
-
--- more names were told dead: what a cleaning has read awaits no more than before
-module _ (s : State) (m : ℕ) (kept kept' : List Entry) (present present' : ℕ → ℕ → Option ℕ) (told told' dead dead' : ℕ → ℕ → Bool) (log : LogState) (old new : StandingState) (o : Option ClearingState) (c : Cleaning)
-    (counts : (k n : ℕ) → count_of new k n ≡ count_of old k n) (up : (k n : ℕ) → is_told old k n ≡ true → is_told new k n ≡ true) (same : new.settled ≡ old.settled) (N : NamesStand s m kept present told dead log old o c) where
-  fewer : (x : ℕ × Entry) → awaits new x ≡ true → awaits old x ≡ true
-  fewer x is =
-      let k = x.1.key in
-      let n = x.1.version in
-      let both = and_parts (count_of new k n == 1) (not (is_told new k n)) is in
-      and_from (count_of old k n == 1) (not (is_told old k n)) (eq-eqb (count_of old k n) 1 (sym (counts k n) ∙ eqb-true (count_of new k n) 1 both.0)) (by (is_told old k n) refl both.1)
-    where
-      by : (b : Bool) → is_told old x.1.key x.1.version ≡ b → not (is_told new x.1.key x.1.version) ≡ true → not (is_told old x.1.key x.1.version) ≡ true
-      by false e isnt = ap not e
-      by true e isnt = absurd (let both : false ≡ true = sym (ap not (up x.1.key x.1.version e)) ∙ isnt in cc both)
-
-  left_narrow : (xs : List (ℕ × Entry)) → left_to_copy new xs ≡ filter (awaits new) (left_to_copy old xs)
-  left_narrow xs = narrow (awaits new) (awaits old) fewer xs
-
-  still_settled : (h : Settled) → IsSettled s log old h → IsSettled s log new h
-  still_settled h was = record {
-    between = was.between;
-    none = left_narrow (entries_in s log h.chunk) ∙ ap (filter (awaits new)) was.none ∙ sym (left_narrow (behind h.place (entries_in s log h.chunk)));
-  }
-
-  pub names_told : KnowsNames m kept' present' told' dead' new → IsCleanedBy s log new o c → NamesStand s m kept' present' told' dead' log new o c
-  names_told knows cleaned = record {
-    counted = record {
-      counts = λ k n. counts k n ∙ N.counted.counts k n;
-      settled = λ h at. still_settled h (N.counted.settled h (sym same ∙ at));
-    };
-    read = λ h at. N.read h (sym same ∙ at);
-    knows = knows;
-    cleaned = cleaned;
-  }
 
 -- a key that is forgotten has no block
 block_none : (o : Option KeyRecord) → is_forgettable o ≡ true → block_of o ≡ None
@@ -186,15 +144,11 @@ module _ (p : Place) (m from : ℕ) (v : View) (w : Worker) (H : Holds p m v w) 
       let R = (received p m from n (mailing all v) (mailing all view) w.places.items ps.items w.index ix w.standing st (mail.knew_all p m from v w H O runs nothing n A ps ix st X last told dead T) (knew L) (mail.heard_all p m from v w H O runs nothing n A ps ix st X last told dead T) (mail.tidied_all p m from v w H O runs nothing n A ps ix st X last told dead T) X).1 in
       record { stands = R.stands; all = R.all; deaths = R.deaths; buried = R.buried; own = R.own; heard = λ k i is t. R.heard k i is (told_up (has all k i) (told k i) t) }
 
-  -- no cleaning is gone on with, so the region is asked nothing of one
-  cleaned_none : w.winds_down ≡ false → (s : State) (old : StandingState) → IsCleanedBy s w.log old w.clearing w.cleaning
-  cleaned_none on s old = subst (IsCleanedBy s w.log old w.clearing) (sym (sym (runs_way w runs on) ∙ goes_none p m v w H.cleaning)) tt
-
-  names_now : w.winds_down ≡ false → (s : State) → NamesStand s m v.kept v.present v.told v.dead w.log w.standing w.clearing w.cleaning → NamesStand s m v.kept left.present told dead w.log st w.clearing w.cleaning
-  names_now on s N =
+  names_now : (s : State) → NamesStand s m v.kept v.present v.told v.dead w.log w.standing w.clearing w.cleaning → NamesStand s m v.kept left.present told dead w.log st w.clearing w.cleaning
+  names_now s N =
       let killed = killed_names p m from n (mailing all v) w.standing X.killed (knew N.knows) (mail.heard_all p m from v w H O runs nothing n A ps ix st X last told dead T) X.kills in
-      let mid = names_told s m v.kept v.kept v.present left.present v.told (after_receive p m n (mailing all v)).told v.dead left.dead w.log w.standing X.killed w.clearing w.cleaning (killed_count n.dead w.standing X.killed X.kills) (killed_up n.dead w.standing X.killed X.kills) X.kills.settled N
-      (record { stands = killed.stands; all = killed.all; deaths = killed.deaths; buried = killed.buried; own = killed.own; heard = killed.heard }) (cleaned_none on s X.killed) in
+      let mid = names_more s m v.kept v.kept v.present left.present v.told (after_receive p m n (mailing all v)).told v.dead left.dead w.log w.standing X.killed w.clearing w.cleaning (killed_count n.dead w.standing X.killed X.kills) (λ k i some is. killed_up n.dead w.standing X.killed X.kills k i is) X.kills.settled N
+      (record { stands = killed.stands; all = killed.all; deaths = killed.deaths; buried = killed.buried; own = killed.own; heard = killed.heard }) in
       names_heard s m (core_of p m) X.mid v.kept v.kept left.present left.present (after_receive p m n (mailing all v)).told told left.dead dead w.log X.killed st w.clearing w.cleaning X.tells mid (heard_names N.knows)
 
   pub heard_stands : (s : State) → Stands s p m v w → Stands s p m view heard
@@ -206,7 +160,7 @@ module _ (p : Place) (m from : ℕ) (v : View) (w : Worker) (H : Holds p m v w) 
     free = S.free;
     due = S.due;
     cut = S.cut;
-    names = λ r on telling. names_now on s (S.names r on telling);
+    names = λ r on telling. names_now s (S.names r on telling);
   }
 
   -- and what is in order
@@ -284,7 +238,7 @@ module _ (p : Place) (m from : ℕ) (v : View) (w : Worker) (H : Holds p m v w) 
     next = λ k q has. O.next k q has ∙ ap (λ (i : ℕ). i + 1) (sym (last_pending k q has));
     spelled = O.spelled;
     recalls = λ k own busy none. (mail.knows_now p m from v w H O runs nothing n A ps ix st X last told dead T).remembers k own none;
-    answers = (let room = O.answers in let same = count_same w.places.items ps.items X.loses.forgets.count (λ s. ap is_free (mail.place_is p m from v w H O runs nothing n A ps ix st X last told dead T s) ∙ mail.free_restarted (is_forgotten n.gone w.places.items X.loses.mid) (place_at w.places.items s)) in omega (arith, room, same));
+    answers = (let room = O.answers in let same = count_same w.places.items ps.items X.loses.forgets.count (λ s. ap is_free (mail.place_is p m from v w H O runs nothing n A ps ix st X last told dead T s) ∙ free_restarted (is_forgotten n.gone w.places.items X.loses.mid) (place_at w.places.items s)) in omega (arith, room, same));
     hand = O.hand;
     stops = O.stops;
     agrees = agrees_now;

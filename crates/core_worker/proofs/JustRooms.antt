@@ -36,10 +36,12 @@ use Rattle.core_worker.specs.Finishing.{LetsGo, Settles, Serves, ShortOf, Finish
 use Rattle.core_worker.specs.Stopping.{WithdrawsOrUnlocks}
 use Rattle.core_worker.specs.Openings.{IsNew}
 use Rattle.core_worker.specs.Turns.{Moment, SameButLeading, UnpledgedAt, PersistsOrLoses, Posts, Receives}
+use Rattle.log_cleaner.specs.Clearing.{ClearingState}
+use Rattle.core_worker.specs.EndsCleaning.{EndsIn}
+use Rattle.core_worker.specs.GoneNames.{is_forgotten}
+use Rattle.core_worker.proofs.EndedKeys.{key_restarted}
 use Rattle.core_worker.specs.Turning.{Did, TurnedTo}
 use Rattle.core_worker.proofs.Posts.{busy_by, busy_has, busy_same}
-use Rattle.core_worker.specs.GoneNames.{is_forgotten}
-use Rattle.core_worker.proofs.HeardMail.{key_restarted}
 use Rattle.core_worker.proofs.Waiters.{first_key}
 use Rattle.core_worker.proofs.Beginnings.{staged_keeps}
 use Rattle.core_worker.proofs.ServedLines.{begins_one}
@@ -377,6 +379,15 @@ just_receives refused p m a b R J runs works k =
     let busy = ap (λ (c : Bool). cond {A = ℕ} c 1 0) (busy_same a.worker.places.items b.worker.places.items (λ s. ap key_in (X.loses.forgets.places s) ∙ key_restarted (is_forgotten R.hears.notices.gone a.worker.places.items X.loses.mid) (place_at a.worker.places.items s)) k) in
     omega (arith, had, room, queue, busy)
 
+-- the end of a cleaning gives no room and takes none
+just_ends : (p : groups.Place) (m : ℕ) (v u : View) (w x : Worker) (c : ClearingState) → EndsIn p m v u w x c → HasJustRoom w → HasJustRoom x
+just_ends p m v u w x c E J runs works k =
+    let was = J E.runs (sym (ap (λ (y : Worker). y.winds_down) E.same) ∙ works) k in
+    let room = E.ends.heard.room k ∙ E.ends.loses.forgets.room k ∙ E.ends.loses.lacks.room k in
+    let queue = ap (λ (y : Worker). length (waiting y.queue k)) E.same in
+    let busy = ap (λ (b : Bool). cond {A = ℕ} b 1 0) (same_busy w.places.items x.places.items k (λ s. ap key_in (E.ends.loses.forgets.places s) ∙ key_restarted (is_forgotten w.own_gone.items w.places.items E.ends.loses.mid) (place_at w.places.items s))) in
+    omega (arith, was, room, queue, busy)
+
 just_did : (s t : State) (refused : Bool) (before : Option Group) (seat : SeatAt) (a b : Moment) → AreApart a.worker.places.items → Did s t refused before seat a b → HasJustRoom a.worker → HasJustRoom b.worker
 just_did s t refused before seat a b apart (Did.goes_round calm (inl C)) J = same_leading a.worker b.worker C.same J
 just_did s t refused before seat a b apart (Did.goes_round calm (inr R)) J = same_leading a.worker b.worker R.same J
@@ -389,6 +400,8 @@ just_did s t refused before seat a b apart (Did.posts P plain calm) J = just_pos
 just_did s t refused before seat a b apart (Did.loses_block L) J = just_stopped b.worker (ap (λ (y : Worker). y.stopped) L.same)
 just_did s t refused before seat a b apart (Did.drops calm all D) J = just_stopped b.worker (ap (λ (y : Worker). y.stopped) D.drops.rest ∙ ap (λ (y : Worker). y.stopped) D.drops.puts.lets.rest ∙ D.stopped)
 just_did s t refused before seat a b apart (Did.receives calm R) J = just_receives refused seat.place seat.number a b R J
+just_did s t refused before seat a b apart (Did.clears C) J = just_ends seat.place seat.number C.mid b.view a.worker b.worker C.clearing C.ends J
+just_did s t refused before seat a b apart (Did.loses_clearing L) J = just_stopped b.worker (ap (λ (y : Worker). y.stopped) L.same)
 just_did s t refused before seat a b apart (Did.locks calm L) J = same_leading a.worker b.worker L.same J
 
 pub just_turned : (r : Result Turn Memory) (s t : State) (refused : Bool) (before : Option Group) (seat : SeatAt) (a b : Moment) → AreApart a.worker.places.items → TurnedTo r s t refused before seat a b → HasJustRoom a.worker → HasJustRoom b.worker

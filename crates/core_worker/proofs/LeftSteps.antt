@@ -1,12 +1,13 @@
 -- What each step of a member makes of what is under way in its group.
 use Rattle.std.proofs.Common.{◌≡◌, ℕ, ◌+◌, ◌<◌, ◌≤◌, true, false, cond, List, Some, None, ◌∙◌, ap, arith}
 use Rattle.log_entry.specs.declared.entry.Entry.{Entry}
+use Rattle.log_entry.specs.declared.entry.EntryName.{EntryName}
 use Rattle.group_laws.specs.declared.types.Slot.{Slot}
 use Rattle.group_laws.specs.declared.types.Slot.TheVariants as slots
 use Rattle.group_laws.specs.Places.{members}
 use Rattle.group_laws.specs.State.{Group}
 use Rattle.group_laws.specs.Updates.{put2}
-use Rattle.group_laws.specs.Steps.{posts, CanPost, locks, takes, CanTake, unlocks, marks, CanMark, fails, CanFail, finishes, CanFinish, gives_up, CanGiveUp, withdraws, CanWithdraw}
+use Rattle.group_laws.specs.Steps.{posts, CanPost, locks, takes, CanTake, unlocks, marks, CanMark, fails, CanFail, finishes, CanFinish, gives_up, CanGiveUp, withdraws, CanWithdraw, retires}
 use Rattle.group_laws.specs.Tidying.{Tidied}
 use Rattle.group_laws.specs.Invariant.{Lawful}
 use Rattle.core_worker.specs.Left.{slot_left, offers, any_offers, lock_left, slots_left, under_way}
@@ -99,3 +100,7 @@ pub unlocks_none : (w : Group) (m : ℕ) → w.holder ≡ Some m → any_offers 
 unlocks_none w m mine none =
     let before = ap (λ o. lock_left o w.slot) mine ∙ ap {B = ℕ} (λ b. cond b 0 2) none in
     omega (arith, before)
+
+-- names that vanish touch no slot, no lock and no mailbox
+pub retires_way : (w u : Group) (m : ℕ) (ns : List EntryName) → Tidied (retires w m ns) m u → under_way u ≡ under_way w
+retires_way w u m ns tidied = tidied_way (retires w m ns) u m tidied

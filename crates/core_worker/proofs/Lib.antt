@@ -112,6 +112,12 @@ pub mod Receiving
 pub mod Clients
 pub mod ClearsLeft
 pub mod RetiredKeys
+pub mod EndedKeys
+pub mod EndedHolds
+pub mod EndedOrder
+pub mod EndedStands
+pub mod EndedMoves
+mod EndedItem
 mod JustRooms
 mod CountedFaults
 mod SendingLaws

@@ -26,7 +26,7 @@ use Rattle.group_board.specs.Views.{IsTidyIn, TidiedIn, TellsItselfIn, after_rec
 use Rattle.group_board.specs.Assurances.{IsHeard}
 use Rattle.core_worker.specs.declared.types.Place as places
 use Rattle.core_worker.specs.KeyTies.{KnowsKey}
-use Rattle.core_worker.specs.StandingTies.{IsNamedIn, HearsOwn}
+use Rattle.core_worker.specs.StandingTies.{IsNamedIn, KnowsDead, HearsOwn}
 use Rattle.core_worker.specs.GoneNames.{LosesIn, KnowsAll, LetsNamesGo}
 use Rattle.core_worker.specs.LogNames.{KnowsNames, KnowsBy, KillsNames, HearsNotices, LosesChunk, AreOwnOf}
 use Rattle.core_worker.proofs.HeardNames.{stands_by, dies_by, awaits_by}
@@ -87,7 +87,7 @@ kills_more ns i lt old mid new K C settled room count = subst (λ (j : ℕ). Kil
 
 -- the own dead names are told at last
 module _ (p : Place) (m : ℕ) (x : View) (last : ℕ → ℕ) (told dead : ℕ → ℕ → Bool) (T : IsTidyIn p m x last told dead) (mid : List (ℕ × slots.Place)) (K : (k : ℕ) → owner p k ≡ m → KnowsKey p x k (known_at mid k))
-    (foreign : (k n : ℕ) → owner p k ≢ m → Awaits (known_at mid k) (core_of p m) n → ⊥) (mine : (k n h : ℕ) → x.present k n ≡ Some h → owner p k ≡ m) (st st1 : StandingState) (tells : HearsOwn (core_of p m) mid st st1) (L : KnowsBy m x st) where
+    (foreign : (k n : ℕ) → owner p k ≢ m → Awaits (known_at mid k) (core_of p m) n → ⊥) (mine : (k n h : ℕ) → x.present k n ≡ Some h → owner p k ≡ m) where
   learns : (k n : ℕ) → (x.dead k n ≡ true) ⊎ TellsItselfIn p m x k n → dead k n ≡ true
   learns k n which = (T.learns k n).1 which
 
@@ -98,41 +98,55 @@ module _ (p : Place) (m : ℕ) (x : View) (last : ℕ → ℕ) (told dead : ℕ 
       let here = member_of p h.0 m h.2 in
       (own, h.1 ∙ ap Some here, dead_is p x k (known_at mid k) (K k own) n (dies_by (known_at mid k) (core_of p m) n a))
 
-  told_dies : (k n : ℕ) → is_told st1 k n ≡ true → dead k n ≡ true
-  told_dies k n t = ⊎_elim
-      (λ before. learns k n (inl (sym (L.deaths k n) ∙ before)))
-      (λ a. ⊎_elim (λ own. learns k n (inr (awaited k n own a))) (λ ne. absurd (foreign k n ne a)) (cases_eq (owner p k) m))
-      (tells.told k n t)
+  -- whatever the region tells
+  module _ (st st1 : StandingState) (tells : HearsOwn (core_of p m) mid st st1) (L : KnowsDead m x.kept x.present x.told x.dead st) where
+    pub heard_dead : KnowsDead m x.kept x.present told dead st1
+    heard_dead = record {
+      deaths = λ k n t. ⊎_elim
+          (λ before. learns k n (inl (L.deaths k n before)))
+          (λ a. ⊎_elim (λ own. learns k n (inr (awaited k n own a))) (λ ne. absurd (foreign k n ne a)) (cases_eq (owner p k) m))
+          (tells.told k n t);
+      buried = λ k n dies. ⊎_elim (λ before. L.buried k n before) (λ y. L.own k n y.1) ((T.learns k n).0 dies);
+      own = L.own;
+      heard = λ k n is t. ⊎_elim (λ before. learns k n (inl (L.heard k n is before))) (λ y. learns k n (inr y)) ((T.tells k n).0 t);
+    }
 
-  by_itself : (k n : ℕ) → TellsItselfIn p m x k n → (is_told st k n ≡ true) ⊎ Awaits (known_at mid k) (core_of p m) n
-  by_itself k n y = by s.0.told refl where
-    s : (z : Standing) × (standing_at (standing_of (known_at mid k)) n ≡ Some z) × (z.home ≡ core_of p m)
-    s = present_of p m x k (known_at mid k) (K k y.0) n m y.1
+  module _ (st st1 : StandingState) (tells : HearsOwn (core_of p m) mid st st1) (L : KnowsBy m x st) where
+    told_dies : (k n : ℕ) → is_told st1 k n ≡ true → dead k n ≡ true
+    told_dies k n t = ⊎_elim
+        (λ before. learns k n (inl (sym (L.deaths k n) ∙ before)))
+        (λ a. ⊎_elim (λ own. learns k n (inr (awaited k n own a))) (λ ne. absurd (foreign k n ne a)) (cases_eq (owner p k) m))
+        (tells.told k n t)
 
-    by : (b : Bool) → (present_of p m x k (known_at mid k) (K k y.0) n m y.1).0.told ≡ b → (is_told st k n ≡ true) ⊎ Awaits (known_at mid k) (core_of p m) n
-    by true t = let z = present_of p m x k (known_at mid k) (K k y.0) n m y.1 in inl (L.deaths k n ∙ L.heard k n y.1 ((K k y.0).told n z.0 z.1 ∙ t))
-    by false t =
-        let z = present_of p m x k (known_at mid k) (K k y.0) n m y.1 in
-        let dies = dead_by p x k (known_at mid k) (K k y.0) n z.0 z.1 y.2 in
-        let version = found_version (standing_of (known_at mid k)) n z.0 z.1 in
-        let same : z.0 ≡ standing_with n (core_of p m) false = (λ i. standing_with (version i) (z.2 i) (t i)) in
-        inr (awaits_by (known_at mid k) (core_of p m) n (z.1 ∙ ap (λ (w : Standing). Some w) same) dies)
+    by_itself : (k n : ℕ) → TellsItselfIn p m x k n → (is_told st k n ≡ true) ⊎ Awaits (known_at mid k) (core_of p m) n
+    by_itself k n y = by s.0.told refl where
+      s : (z : Standing) × (standing_at (standing_of (known_at mid k)) n ≡ Some z) × (z.home ≡ core_of p m)
+      s = present_of p m x k (known_at mid k) (K k y.0) n m y.1
 
-  dies_told : (k n : ℕ) → dead k n ≡ true → is_told st1 k n ≡ true
-  dies_told k n dies = ⊎_elim
-      (λ before. tells.all k n (L.all k n (L.buried k n before)) (inl (L.deaths k n ∙ before)))
-      (λ y. tells.all k n (L.all k n (L.own k n y.1)) (by_itself k n y))
-      ((T.learns k n).0 dies)
+      by : (b : Bool) → (present_of p m x k (known_at mid k) (K k y.0) n m y.1).0.told ≡ b → (is_told st k n ≡ true) ⊎ Awaits (known_at mid k) (core_of p m) n
+      by true t = let z = present_of p m x k (known_at mid k) (K k y.0) n m y.1 in inl (L.deaths k n ∙ L.heard k n y.1 ((K k y.0).told n z.0 z.1 ∙ t))
+      by false t =
+          let z = present_of p m x k (known_at mid k) (K k y.0) n m y.1 in
+          let dies = dead_by p x k (known_at mid k) (K k y.0) n z.0 z.1 y.2 in
+          let version = found_version (standing_of (known_at mid k)) n z.0 z.1 in
+          let same : z.0 ≡ standing_with n (core_of p m) false = (λ i. standing_with (version i) (z.2 i) (t i)) in
+          inr (awaits_by (known_at mid k) (core_of p m) n (z.1 ∙ ap (λ (w : Standing). Some w) same) dies)
 
-  pub heard_log : KnowsNames m x.kept x.present told dead st1
-  heard_log = record {
-    stands = λ k n some. L.stands k n (let c = tells.counts k n in omega (arith, c, some));
-    all = λ k n is. (let c = tells.counts k n in let some = L.all k n is in omega (arith, c, some));
-    deaths = λ k n. same_flag (is_told st1 k n) (dead k n) (told_dies k n) (dies_told k n);
-    buried = λ k n dies. ⊎_elim (λ before. L.buried k n before) (λ y. L.own k n y.1) ((T.learns k n).0 dies);
-    own = L.own;
-    heard = λ k n is t. ⊎_elim (λ before. learns k n (inl (L.heard k n is before))) (λ y. learns k n (inr y)) ((T.tells k n).0 t);
-  }
+    dies_told : (k n : ℕ) → dead k n ≡ true → is_told st1 k n ≡ true
+    dies_told k n dies = ⊎_elim
+        (λ before. tells.all k n (L.all k n (L.buried k n before)) (inl (L.deaths k n ∙ before)))
+        (λ y. tells.all k n (L.all k n (L.own k n y.1)) (by_itself k n y))
+        ((T.learns k n).0 dies)
+
+    pub heard_log : KnowsNames m x.kept x.present told dead st1
+    heard_log = record {
+      stands = λ k n some. L.stands k n (let c = tells.counts k n in omega (arith, c, some));
+      all = λ k n is. (let c = tells.counts k n in let some = L.all k n is in omega (arith, c, some));
+      deaths = λ k n. same_flag (is_told st1 k n) (dead k n) (told_dies k n) (dies_told k n);
+      buried = λ k n dies. ⊎_elim (λ before. L.buried k n before) (λ y. L.own k n y.1) ((T.learns k n).0 dies);
+      own = L.own;
+      heard = λ k n is t. ⊎_elim (λ before. learns k n (inl (L.heard k n is before))) (λ y. learns k n (inr y)) ((T.tells k n).0 t);
+    }
 
 -- names of the own log are told dead
 killed_count : (b : Bool) (o : Option Copies) → count_in (cond b (option_map killed o) o) ≡ count_in o
@@ -214,6 +228,17 @@ module _ (p : Place) (m : ℕ) (ns : List EntryName) (v v' u : View) (ps qs : Li
       (λ k n ne a. Q.heard k n (subst (λ (o : Option KeyRecord). Awaits o (core_of p m) n) (known_other p m ns v v' u ps qs es ix Q G k ne) a))
       (λ k n h is. Q.mine k n h (G.loses.was k n h is))
       st st1 tells (record { stands = L.stands; all = L.all; deaths = L.deaths; buried = L.buried; own = L.own; heard = L.heard }))
+
+module _ (p : Place) (m : ℕ) (ns : List EntryName) (v v' u : View) (ps qs : List places.Place) (es ix : List (ℕ × slots.Place)) (Q : KnowsAll p m v ps es) (G : LetsNamesGo p m ns v v' u ps qs es ix) (st st1 : StandingState) (tells : HearsOwn (core_of p m) G.mid st st1) (L : KnowsDead m v'.kept v'.present v'.told v'.dead st) where
+  pub dead_after : KnowsDead m u.kept u.present u.told u.dead st1
+  dead_after = subst (λ (x : View). KnowsDead m x.kept x.present x.told x.dead st1) (sym G.tidied.4)
+      (heard_dead p m (record v' { last = G.tidied.0 }) G.tidied.0 G.tidied.1 G.tidied.2
+      (tidy_settled p m v v' ns G.loses G.tidied.0 G.tidied.1 G.tidied.2 G.tidied.3 ps qs es G.names.mid G.mid G.names.lacks G.names.forgets Q.keys Q.quiet Q.posted Q.remembers)
+      G.mid
+      (knows_settled p m v v' ns G.loses G.tidied.0 G.tidied.1 G.tidied.2 G.tidied.3 ps qs es G.names.mid G.mid G.names.lacks G.names.forgets Q.keys Q.quiet Q.posted Q.remembers)
+      (λ k n ne a. Q.heard k n (subst (λ (o : Option KeyRecord). Awaits o (core_of p m) n) (known_other p m ns v v' u ps qs es ix Q G k ne) a))
+      (λ k n h is. Q.mine k n h (G.loses.was k n h is))
+      st st1 tells (record { deaths = L.deaths; buried = L.buried; own = L.own; heard = L.heard }))
 
 pub received : (p : Place) (m from : ℕ) (n : Notices) (v u : View) (ps qs : List places.Place) (es ix : List (ℕ × slots.Place)) (old new : StandingState) → KnowsAll p m v ps es → KnowsBy m v old → IsHeard p m from v n → TidiedIn p m (after_receive p m n v) u
     → HearsNotices (core_of p m) n ps qs es ix old new → KnowsAll p m u qs ix × KnowsBy m u new

@@ -1,5 +1,5 @@
 -- What stands in the own log by its region stays so, where places were reserved, names were told dead, and words of the log are kept.
-use Rattle.std.proofs.Common.{◌≡◌, inl, ℕ, ◌≤◌, ◌==◌, ◌&&◌, ◌||◌, eqb, length, not, Bool, true, false, cond, List, [], ◌∷◌, Option, Some, is_some, refl, sym, ◌∙◌, ap, subst, arith}
+use Rattle.std.proofs.Common.{◌≡◌, inl, ℕ, ◌<◌, ◌≤◌, ◌==◌, ◌&&◌, ◌||◌, eqb, length, not, Bool, true, false, cond, List, [], ◌∷◌, Option, Some, is_some, refl, sym, ◌∙◌, ap, subst, arith}
 use Rattle.std.specs.List.{filter}
 use Rattle.std.proofs.lemmas.Bool.{and_parts, and_from, eqb-true, eq-eqb}
 use Rattle.pm_region.specs.State.{State}
@@ -98,19 +98,20 @@ narrow f g less (x ∷ xs) = by (g x) refl (narrow f g less xs) where
   by true e again = (λ i. cond (f x) (x ∷ again i) (again i)) ∙ sym (ap (λ (b : Bool). filter f (cond b (x ∷ filter g xs) (filter g xs))) e)
   by false e again = ap (λ (b : Bool). cond b (x ∷ filter f xs) (filter f xs)) (off (f x) refl e) ∙ again ∙ sym (ap (λ (b : Bool). filter f (cond b (x ∷ filter g xs) (filter g xs))) e)
 
--- own names were told dead
-module _ (s : State) (m home : ℕ) (index : List (ℕ × slots.Place)) (kept kept' : List Entry) (present present' : ℕ → ℕ → Option ℕ) (told told' dead dead' : ℕ → ℕ → Bool) (log : LogState) (old new : StandingState) (o : Option ClearingState) (c : Cleaning) (tells : HearsOwn home index old new) (N : NamesStand s m kept present told dead log old o c) where
+-- more names were told dead: what a cleaning has read awaits no more than before
+module _ (s : State) (m : ℕ) (kept kept' : List Entry) (present present' : ℕ → ℕ → Option ℕ) (told told' dead dead' : ℕ → ℕ → Bool) (log : LogState) (old new : StandingState) (o : Option ClearingState) (c : Cleaning)
+    (counts : (k n : ℕ) → count_of new k n ≡ count_of old k n) (up : (k n : ℕ) → 0 < count_of old k n → is_told old k n ≡ true → is_told new k n ≡ true) (still : new.settled ≡ old.settled) (N : NamesStand s m kept present told dead log old o c) where
   fewer : (x : ℕ × Entry) → awaits new x ≡ true → awaits old x ≡ true
   fewer x is =
       let k = x.1.key in
       let n = x.1.version in
       let both = and_parts (count_of new k n == 1) (not (is_told new k n)) is in
-      let one : count_of old k n ≡ 1 = sym (tells.counts k n) ∙ eqb-true (count_of new k n) 1 both.0 in
+      let one : count_of old k n ≡ 1 = sym (counts k n) ∙ eqb-true (count_of new k n) 1 both.0 in
       and_from (count_of old k n == 1) (not (is_told old k n)) (eq-eqb (count_of old k n) 1 one) (by (is_told old k n) refl both.1 one)
     where
       by : (b : Bool) → is_told old x.1.key x.1.version ≡ b → not (is_told new x.1.key x.1.version) ≡ true → count_of old x.1.key x.1.version ≡ 1 → not (is_told old x.1.key x.1.version) ≡ true
       by false e isnt one = ap not e
-      by true e isnt one = absurd (let now = tells.all x.1.key x.1.version (omega (arith, one)) (inl e) in let both : false ≡ true = sym (ap not now) ∙ isnt in cc both)
+      by true e isnt one = absurd (let now = up x.1.key x.1.version (omega (arith, one)) e in let both : false ≡ true = sym (ap not now) ∙ isnt in cc both)
 
   left_narrow : (xs : List (ℕ × Entry)) → left_to_copy new xs ≡ filter (awaits new) (left_to_copy old xs)
   left_narrow xs = narrow (awaits new) (awaits old) fewer xs
@@ -124,13 +125,13 @@ module _ (s : State) (m home : ℕ) (index : List (ℕ × slots.Place)) (kept ke
   -- a name of the chunk that wasn't told before is one of which there is another copy
   doomed_same : (xs : List (ℕ × Entry)) → left_to_copy old xs ≡ [] → (k n : ℕ) → has_name xs k n ≡ true → is_doomed new k n ≡ is_doomed old k n
   doomed_same xs none k n has = by (count_of old k n == 1) refl where
-    still : (a : Bool) → is_told old k n ≡ a → count_of old k n ≡ 1 → is_told new k n ≡ a
-    still true is one = tells.all k n (omega (arith, one)) (inl is)
-    still false is one = absurd (let waits : wants old k n ≡ true = (λ i. eqb (one i) 1 && not (is i)) in none_named old xs none k n has waits)
+    keeps : (a : Bool) → is_told old k n ≡ a → count_of old k n ≡ 1 → is_told new k n ≡ a
+    keeps true is one = up k n (omega (arith, one)) is
+    keeps false is one = absurd (let waits : wants old k n ≡ true = (λ i. eqb (one i) 1 && not (is i)) in none_named old xs none k n has waits)
 
     by : (b : Bool) → (count_of old k n == 1) ≡ b → is_doomed new k n ≡ is_doomed old k n
-    by true is = (λ i. still (is_told old k n) refl (eqb-true (count_of old k n) 1 is) i && (tells.counts k n i == 1))
-    by false is = ap (λ (b : Bool). is_told new k n && b) (ap (λ (x : ℕ). x == 1) (tells.counts k n) ∙ is) ∙ no (is_told new k n) ∙ sym (no (is_told old k n)) ∙ ap (λ (b : Bool). is_told old k n && b) (sym is) where
+    by true is = (λ i. keeps (is_told old k n) refl (eqb-true (count_of old k n) 1 is) i && (counts k n i == 1))
+    by false is = ap (λ (b : Bool). is_told new k n && b) (ap (λ (x : ℕ). x == 1) (counts k n) ∙ is) ∙ no (is_told new k n) ∙ sym (no (is_told old k n)) ∙ ap (λ (b : Bool). is_told old k n && b) (sym is) where
       no : (b : Bool) → (b && false) ≡ false
       no true = refl
       no false = refl
@@ -169,16 +170,21 @@ module _ (s : State) (m home : ℕ) (index : List (ℕ × slots.Place)) (kept ke
   }
   cleaned_heard (Doomed chunk) C = λ x is. clears_heard x (C x is)
 
-  pub names_heard : KnowsNames m kept' present' told' dead' new → NamesStand s m kept' present' told' dead' log new o c
-  names_heard knows = record {
+  pub names_more : KnowsNames m kept' present' told' dead' new → NamesStand s m kept' present' told' dead' log new o c
+  names_more knows = record {
     counted = record {
-      counts = λ k n. tells.counts k n ∙ N.counted.counts k n;
-      settled = λ h at. still_settled h (N.counted.settled h (sym tells.settled ∙ at));
+      counts = λ k n. counts k n ∙ N.counted.counts k n;
+      settled = λ h at. still_settled h (N.counted.settled h (sym still ∙ at));
     };
-    read = λ h at. N.read h (sym tells.settled ∙ at);
+    read = λ h at. N.read h (sym still ∙ at);
     knows = knows;
     cleaned = cleaned_heard c N.cleaned;
   }
+
+-- own names were told dead
+pub names_heard : (s : State) (m home : ℕ) (index : List (ℕ × slots.Place)) (kept kept' : List Entry) (present present' : ℕ → ℕ → Option ℕ) (told told' dead dead' : ℕ → ℕ → Bool) (log : LogState) (old new : StandingState) (o : Option ClearingState) (c : Cleaning) → HearsOwn home index old new
+    → NamesStand s m kept present told dead log old o c → KnowsNames m kept' present' told' dead' new → NamesStand s m kept' present' told' dead' log new o c
+names_heard s m home index kept kept' present present' told told' dead dead' log old new o c tells = names_more s m kept kept' present present' told told' dead dead' log old new o c tells.counts (λ k n some is. tells.all k n some (inl is)) tells.settled
 
 -- the words of the log are what they were
 module _ (s t : State) (m : ℕ) (kept : List Entry) (present : ℕ → ℕ → Option ℕ) (told dead : ℕ → ℕ → Bool) (log : LogState) (st : StandingState) (o : Option ClearingState) (c : Cleaning) (words : (j u : ℕ) → tail_of log.chunks j ≡ Some u → words_now t (first_of log j) u ≡ words_now s (first_of log j) u) where

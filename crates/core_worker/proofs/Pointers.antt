@@ -29,7 +29,7 @@ use Rattle.core_worker.specs.OwnPlaces.{place_at, is_free}
 use Rattle.core_worker.specs.KeyTies.{IsPlaced, LeftIn}
 use Rattle.core_worker.specs.Refusals.{IsCounted, IsMeasured}
 use Rattle.core_room.specs.declared.supply.Supply.{Supply}
-use Rattle.core_worker.specs.Supplies.{IsSmall, supply_of, why_put, free_blocks}
+use Rattle.core_worker.specs.Supplies.{supply_of, why_put, free_blocks}
 use Rattle.core_room.specs.RoomRule.{pledged, lacks_block, lacks_room, may_cut}
 use Rattle.core_room.specs.Lengths.{lines_needed, class_for}
 use Rattle.core_worker.specs.Plans.{last_version, PutsInBlock}

@@ -19,7 +19,7 @@ pub was_some : (b : Bool) (o : Option ℕ) (h : ℕ) → cond b None o ≡ Some 
 was_some true o h e = absurd (cc e)
 was_some false o h e = e
 
-pub lets_retired : (p : Place) (m : ℕ) (doomed own : List EntryName) (v u : View) (ps qs : List places.Place) (es mid ix : List (ℕ × slots.Place)) → AreOwnOf p m doomed own
+abbrev pub lets_retired : (p : Place) (m : ℕ) (doomed own : List EntryName) (v u : View) (ps qs : List places.Place) (es mid ix : List (ℕ × slots.Place)) → AreOwnOf p m doomed own
     → TidiedIn p m (after_retire p m doomed v) u → LosesNames own ps qs es mid → HearsAll (core_of p m) mid ix → LetsNamesGo p m own v (after_retire p m doomed v) u ps qs es ix
 lets_retired p m doomed own v u ps qs es mid ix A T X H =
     let left = after_retire p m doomed v in

@@ -11,7 +11,7 @@ use Rattle.log_entry.specs.Spelling.{HasSpelling}
 use Rattle.chunk_map.specs.Layouts.{part_first}
 use Rattle.core_index.specs.Index.{known_at, room_at}
 use Rattle.core_index.specs.Records.{last_of}
-use Rattle.lazy_alloc.specs.Sets.{Sets, block_is_used}
+use Rattle.lazy_alloc.specs.Sets.{Sets, block_is_used, chunk_is_free}
 use Rattle.group_laws.specs.declared.types.Pending.{Pending}
 use Rattle.group_laws.specs.declared.types.Block.{Block}
 use Rattle.group_laws.specs.Places.{Place, owner}
@@ -81,6 +81,12 @@ module _ (p : Place) (m : ℕ) (v : View) (w : Worker) (H : HoldsAside p m v w) 
       by None h = refl
       by (Some b) h = absurd (clash (block_is_used w.allocator q) (H.blocks.held q b h).used unused)
 
+    still_taken : (j : ℕ) → chunk_is_free w.allocator j ≡ false → chunk_is_free a j ≡ false
+    still_taken j off = by (chunk_is_free a j) refl where
+      by : (b : Bool) → chunk_is_free a j ≡ b → chunk_is_free a j ≡ false
+      by false e = e
+      by true e = absurd (clash (chunk_is_free w.allocator j) (A.free j e) off)
+
     pub holds_staged : (b : BatchBuffer) → w.leading ≡ leads.Nothing b → HoldsAside p m v staged
     unfolding old_block
     holds_staged b nothing = record {
@@ -133,7 +139,7 @@ module _ (p : Place) (m : ℕ) (v : View) (w : Worker) (H : HoldsAside p m v w) 
       space = λ r. subst (HasSpaceFor (record staged { queue = [] })) (sym nothing) tt;
       broken = H.broken;
       lost = H.lost;
-      cleaning = keeps_few p m v (record w { queue = [] }) a A.few H.cleaning;
+      cleaning = keeps_few p m v (record w { queue = [] }) a (record { few = A.few; taken = still_taken; uncut = A.uncut }) H.cleaning;
       remembers = H.remembers;
       chunks = λ r j low. ⊎_elim (λ x. inl (A.chunk j x)) (λ e. inr e) (H.chunks r j low);
     }

@@ -1,9 +1,9 @@
 -- A cleaning under way, as a worker keeps it between two calls.
-use Rattle.std.specs.Prelude.{◌≡◌, ◌≢◌, ◌⊎◌, ℕ, ◌*◌, ◌≤◌, ◌<◌, Bool, true, false, List, Option, Some, is_some}
+use Rattle.std.specs.Prelude.{◌≡◌, ◌≢◌, ◌⊎◌, ℕ, ◌*◌, ◌≤◌, ◌<◌, Bool, true, false, List, Option, Some, None, is_some}
 use Rattle.chunk_map.specs.Layouts.{payload_lines}
 use Rattle.log_entry.specs.declared.entry.EntryName.{EntryName}
 use Rattle.core_log.specs.Log.{LogState, tail_of}
-use Rattle.lazy_alloc.specs.Sets.{Sets, free_chunk_count}
+use Rattle.lazy_alloc.specs.Sets.{Sets, chunk_is_free, chunk_class, free_chunk_count}
 use Rattle.log_standing.specs.NameCounts.{StandingState, count_of, times_in}
 use Rattle.log_cleaner.specs.Clearing.{ClearingState, IsFresh}
 use Rattle.group_laws.specs.Updates.{has}
@@ -18,11 +18,11 @@ use Rattle.core_worker.specs.declared.worker.Worker.{Worker}
 use Rattle.core_worker.specs.Supplies.{under_way, rest, IsSmall}
 use Rattle.core_worker.specs.LogNames.{AreOwnOf}
 
--- Which cleanings a turn goes on with: none yet.
+-- Which cleanings a turn goes on with: one whose names are doomed.
 abbrev pub GoesOn : Cleaning → Type 0
 GoesOn Nothing = ⊥
 GoesOn (Copying victim first) = ⊥
-GoesOn (Doomed chunk) = ⊥
+GoesOn (Doomed chunk) = Unit {0}
 
 -- A name that may vanish: it is doomed and dead, stands in one chunk alone, and is among the names noted of that chunk.
 pub record MayVanish (doomed dead : ℕ → ℕ → Bool) (st : StandingState) (names : List EntryName)
@@ -45,8 +45,8 @@ HasPhase p m doomed dead log st c own (Doomed chunk) = (c.chunk ≡ chunk)
 
 -- A worker cleans a chunk of its log that isn't the open one, while it runs and leads nothing; at most one chunk is free meanwhile.
 pub record Cleans (p : Place) (m : ℕ) (doomed dead : ℕ → ℕ → Bool) (stopped winds : Bool)
-    (leading : Leading) (log : LogState) (a : Sets) (st : StandingState) (clearing : Option ClearingState)
-    (own : List EntryName) (cleaning : Cleaning) : Type 0 where
+    (leading : Leading) (log : LogState) (a : Sets) (st : StandingState)
+    (clearing : Option ClearingState) (own : List EntryName) (cleaning : Cleaning) : Type 0 where
   pub goes : GoesOn cleaning
   pub runs : stopped ≡ false
   pub works : winds ≡ false
@@ -55,6 +55,8 @@ pub record Cleans (p : Place) (m : ℕ) (doomed dead : ℕ → ℕ → Bool) (st
   pub is : clearing ≡ Some now
   pub chunk : is_some (tail_of log.chunks now.chunk) ≡ true
   pub closed : log.opened ≢ Some now.chunk
+  pub taken : chunk_is_free a now.chunk ≡ false
+  pub uncut : chunk_class a now.chunk ≡ None
   pub scarce : free_chunk_count a ≤ 1
   pub phase : HasPhase p m doomed dead log st now own cleaning
 

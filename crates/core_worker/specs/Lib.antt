@@ -64,4 +64,5 @@ pub mod Mails
 pub mod GivingUp
 pub mod Counted
 pub mod CleaningParts
+pub mod EndsCleaning
 pub mod CleaningLeft

@@ -16,6 +16,7 @@ use Rattle.log_entry.specs.Spelling.{words_of}
 use Rattle.core_log.specs.Chunk.{padded}
 use Rattle.core_log.specs.Log.{LogState, with_tail, open_number, open_tail}
 use Rattle.lazy_alloc.specs.Sets.{TakesChunkOrNone, Sets}
+use Rattle.log_cleaner.specs.Clearing.{ClearingState}
 use Rattle.group_laws.specs.MemberViews.{View}
 use Rattle.group_board.specs.Views.{after_post, after_lock, after_find, after_unlock, after_commit, after_mark, after_fail}
 use Rattle.group_board.specs.Seats.{SeatAt}
@@ -30,13 +31,14 @@ use Rattle.batch_leader.specs.declared.states.Persisted.{Persisted}
 use Rattle.batch_leader.specs.declared.states.FailedBatch.{FailedBatch}
 use Rattle.batch_leader.specs.declared.batch_buffer.BatchBuffer.{BatchBuffer}
 use Rattle.batch_leader.specs.declared.taken.Taken.{Taken}
-use Rattle.core_worker.specs.declared.types.Cleaning.TheVariants.{Nothing}
+use Rattle.core_worker.specs.declared.types.Cleaning.TheVariants.{Nothing, Doomed}
 use Rattle.core_worker.specs.declared.types.Leading.{Leading}
 use Rattle.core_worker.specs.declared.types.Leading.TheVariants as leads
 use Rattle.core_worker.specs.declared.types.Place.{Place as WorkerPlace}
 use Rattle.core_worker.specs.declared.types.Place.TheVariants.{Free, Staged, Posted}
 use Rattle.core_worker.specs.declared.worker.Worker.{Worker}
 use Rattle.core_worker.specs.OwnPlaces.{place_at, is_staged, is_posted, IsLowest, HasNone, Replaces}
+use Rattle.core_worker.specs.EndsCleaning.{EndsIn}
 use Rattle.core_worker.specs.Ties.{LeadsNothing}
 use Rattle.core_worker.specs.StandingTies.{AddsNames}
 use Rattle.core_worker.specs.Order.{InOrder}
@@ -291,6 +293,27 @@ pub record Receives (refused : Bool) (p : Place) (m : ℕ) (a b : Moment) : Type
   pub from : ℕ
   pub empty : (h : ℕ) → h < from → h ≢ m → In (Mail h m false) before.looked.looks
   pub hears : Hears p m from mid b.view a.worker b.worker
+
+-- Item 6, the end of a cleaning: its chunk is free again, and what stood there alone is gone.
+pub record Clears (refused : Bool) (p : Place) (m : ℕ) (a b : Moment) : Type 0 where
+  pub mid : View
+  pub before : PassesItems m a SLOTS mid
+  pub post : PassesPost refused a.worker
+  pub mail : PassesMail p m a.worker before.looked.looks
+  pub clearing : ClearingState
+  pub is : a.worker.clearing ≡ Some clearing
+  pub ends : EndsIn p m mid b.view a.worker b.worker clearing
+
+-- Item 6 at a fault: the chunk could not be made free, and the core stops.
+pub record LosesClearing (refused : Bool) (p : Place) (m : ℕ) (a b : Moment) : Type 0 where
+  pub mid : View
+  pub before : PassesItems m a SLOTS mid
+  pub post : PassesPost refused a.worker
+  pub mail : PassesMail p m a.worker before.looked.looks
+  pub runs : a.worker.stopped ≡ false
+  pub dooms : (j : ℕ) × (under_way a.worker ≡ Doomed j)
+  pub view : b.view ≡ mid
+  pub same : b.worker ≡ record a.worker { clearing = None; stopped = true }
 
 -- Item 7: no cleaning is under way, an own slot was found Posted, and the lock is tried and had.
 pub record Locks (refused : Bool) (p : Place) (m : ℕ) (a b : Moment) : Type 0 where

@@ -1,12 +1,18 @@
 // The turn that ends a cleaning.
-ghost use Rattle.std.specs.Prelude.{◌≡◌, ◌≢◌, ℕ, ◌<◌, true, false, length, is_some, Some, None, OnOk, OnErr, MatchResult};
-ghost use Rattle.pm_region.specs.State.{IsTelling, cell_now, Faulted};
-ghost use Rattle.core_log.specs.Log.{tail_of};
+ghost use Rattle.std.specs.Prelude.{◌≡◌, ◌≢◌, ℕ, ◌+◌, ◌≤◌, ◌<◌, true, false, ◌∷◌, length, is_some, Some, None, OnOk, OnErr, MatchResult};
+ghost use Rattle.pm_region.specs.declared.region_sizes.TheConstants.{LINE_WORDS};
+ghost use Rattle.pm_region.specs.State.{IsTelling, cell_now, During, Faulted};
+ghost use Rattle.pm_region.specs.Words.{KeepsOutside};
+ghost use Rattle.core_log.specs.Log.{tail_of, first_of};
+ghost use Rattle.core_log.specs.Retiring.{RetiredChunk};
+ghost use Rattle.core_index.specs.Index.{all_untold};
 ghost use Rattle.core_log.specs.Walking.{entries_in};
 ghost use Rattle.group_laws.specs.declared.group_sizes.TheConstants.{SLOTS};
-ghost use Rattle.group_laws.specs.Places.{members, core_of};
+ghost use Rattle.group_laws.specs.Places.{members};
 ghost use Rattle.group_laws.specs.Runs as runs;
 ghost use Rattle.group_board.specs.Told.{Makes};
+ghost use Rattle.group_board.specs.Trails.{step_with};
+ghost use Rattle.group_board.specs.Views.{after_retire, TidiedIn};
 ghost use Rattle.batch_leader.specs.Persisting.{StaysLicensed, WritesPart};
 ghost use Rattle.lazy_alloc.specs.Sets.{AreSets, GivesChunk, chunk_is_free, chunk_class};
 ghost use Rattle.licence.specs.Licence.{Licensed};
@@ -15,8 +21,8 @@ ghost use Rattle.log_cleaner.specs.Clearing.{IsReady};
 ghost use Rattle.log_cleaner.specs.Copying.{IsUpToDate};
 ghost use Rattle.log_cleaner.specs.ImagesBeside.{AgreesIn};
 ghost use Rattle.log_cleaner.specs.Vanishing.{MayGo, NoneElse};
-ghost use Rattle.core_worker.specs.GoneNames.{KnowsAll};
-ghost use Rattle.core_worker.specs.LogNames.{KnowsBy, AreOwnOf};
+ghost use Rattle.core_worker.specs.EndsCleaning.{EndsCleaning};
+ghost use Rattle.core_worker.specs.LogNames.{AreOwnOf};
 
 use crate::giving_up::give_up;
 use crate::gone_names::lose_names;
@@ -32,8 +38,6 @@ use log_standing::Standing;
 use pm_region::{Region, RegionFault};
 
 // Ends a cleaning: the chunk is given up, and of the names that vanish with it the own ones are gone from the index.
-// What the core has of its keys is then what the view has, whatever the region tells, and so is what it has of its
-// log's names, where the region tells.
 pub(crate) fn end_cleaning<R: Region, B: Board>(
     region: &mut R,
     board: &mut B,
@@ -49,7 +53,6 @@ pub(crate) fn end_cleaning<R: Region, B: Board>(
     requires begins { Begins (R.state region.old) (B.seat board.old).place
         (B.seat board.old).number (B.view board.old) log.old }
     requires member { (B.seat board.old).number < members (B.seat board.old).place }
-    requires core { core ≡ core_of (B.seat board.old).place (B.seat board.old).number }
     requires eight { length places.old.items ≡ SLOTS }
     requires has { is_some (tail_of log.old.chunks clearing.chunk) ≡ true }
     requires closed { log.old.opened ≢ Some clearing.chunk }
@@ -65,22 +68,37 @@ pub(crate) fn end_cleaning<R: Region, B: Board>(
     requires uncut { chunk_class allocator.old clearing.chunk ≡ None }
     requires owned { AreOwnOf (B.seat board.old).place (B.seat board.old).number clearing.doomed
         own.now }
-    requires knows { KnowsAll (B.seat board.old).place (B.seat board.old).number (B.view board.old)
-        places.old.items index.old }
-    requires names { IsTelling (R.state region.old) → KnowsBy (B.seat board.old).number
-        (B.view board.old) standing.old }
     ensures seat { B.seat board.new ≡ B.seat board.old }
     ensures moments { StaysLicensed (R.state region.old) (R.state region.new)
         (B.seat board.old) (B.view board.old) }
     ensures outside { WritesPart (R.state region.old) (R.state region.new) (B.seat board.old) }
     ensures exit { IsTelling (R.state region.new) → Licensed (B.seat board.old).place
         (B.seat board.old).number (B.view board.new) (cell_now (R.state region.new)) }
-    ensures knows { KnowsAll (B.seat board.old).place (B.seat board.old).number (B.view board.new)
-        places.new.items index.new }
-    ensures names { OnOk result (IsTelling (R.state region.old)
-        → KnowsBy (B.seat board.old).number (B.view board.new) standing.new) }
     ensures chunk { OnOk result (GivesChunk allocator.old allocator.new clearing.chunk
         × AreSets allocator.new × NoneElse (R.state region.new) log.new) }
+    ensures tidied { OnOk result (TidiedIn (B.seat board.old).place (B.seat board.old).number
+        (after_retire (B.seat board.old).place (B.seat board.old).number clearing.doomed
+        (B.view board.old)) (B.view board.new)) }
+    ensures ended { OnOk result (EndsCleaning core clearing own.now log.old log.new allocator.old
+        allocator.new places.old.items places.new.items index.old index.new standing.old
+        standing.new) }
+    ensures retired { OnOk result (RetiredChunk (R.state region.new) log.old log.new
+        clearing.chunk) }
+    ensures counted { OnOk result (IsTelling (R.state region.new)
+        → IsUpToDate (R.state region.new) log.new standing.new) }
+    ensures read { OnOk result (standing.new.settled ≡ None) }
+    ensures untold { all_untold index.new ≤ all_untold index.old }
+    ensures kept { OnErr result ((B.view board.new ≡ B.view board.old) × (log.new ≡ log.old)
+        × (allocator.new ≡ allocator.old) × (standing.new ≡ standing.old)
+        × (places.new ≡ places.old) × (index.new ≡ index.old)) }
+    ensures head { During (R.state region.old) (R.state region.new)
+        (KeepsOutside (cell_now (R.state region.old)) (first_of log.old clearing.chunk)
+        (first_of log.old clearing.chunk + LINE_WORDS)) }
+    ensures steps { MatchResult result
+        (λ _. (B.trail board.new
+        ≡ step_with (runs.Kind.Retire clearing.doomed) (B.view board.new) ∷ B.trail board.old)
+        × (B.at board.new ≡ (R.state region.new).stamp))
+        (λ _. B.trail board.new ≡ B.trail board.old) }
     ensures made { MatchResult result
         (λ _. Makes (B.whole board.old) (B.seat board.old).number
         (runs.Kind.Retire clearing.doomed) (B.whole board.new) (B.view board.new))

@@ -1,10 +1,13 @@
 // The end of a cleaning.
-ghost use Rattle.std.specs.Prelude.{◌≡◌, ◌≢◌, ℕ, ◌<◌, true, false, is_some, Some, None, IfOk, OnOk, OnErr, MatchResult};
-ghost use Rattle.pm_region.specs.State.{IsTelling, cell_now, Faulted};
-ghost use Rattle.core_log.specs.Log.{tail_of};
+ghost use Rattle.std.specs.Prelude.{◌≡◌, ◌≢◌, ℕ, ◌+◌, ◌≤◌, ◌<◌, true, false, ◌∷◌, length, is_some, Some, None, IfOk, OnOk, OnErr, MatchResult};
+ghost use Rattle.pm_region.specs.declared.region_sizes.TheConstants.{LINE_WORDS};
+ghost use Rattle.pm_region.specs.State.{IsTelling, cell_now, During, Faulted};
+ghost use Rattle.pm_region.specs.Words.{KeepsOutside};
+ghost use Rattle.core_log.specs.Log.{tail_of, first_of};
 ghost use Rattle.group_laws.specs.Places.{members};
 ghost use Rattle.group_laws.specs.Runs as runs;
 ghost use Rattle.group_board.specs.Told.{Makes};
+ghost use Rattle.group_board.specs.Trails.{step_with};
 ghost use Rattle.batch_leader.specs.Persisting.{StaysLicensed, WritesPart};
 ghost use Rattle.lazy_alloc.specs.Sets.{AreSets, chunk_is_free, chunk_class};
 ghost use Rattle.licence.specs.Licence.{Licensed};
@@ -70,8 +73,20 @@ pub(crate) fn give_up<R: Region, B: Board>(
         (λ _. Makes (B.whole board.old) (B.seat board.old).number
         (runs.Kind.Retire clearing.doomed) (B.whole board.new) (B.view board.new))
         (λ _. B.whole board.new ≡ B.whole board.old) }
+    ensures read { OnOk result (standing.new.settled ≡ None) }
+    ensures count { OnOk result (length standing.new.entries ≤ length standing.old.entries) }
+    ensures room { OnOk result (standing.new.room ≡ standing.old.room) }
     ensures err { OnErr result ((B.view board.new ≡ B.view board.old)
-        × (allocator.new ≡ allocator.old)) }
+        × (allocator.new ≡ allocator.old) × (log.new ≡ log.old)
+        × (standing.new ≡ standing.old)) }
+    ensures head { During (R.state region.old) (R.state region.new)
+        (KeepsOutside (cell_now (R.state region.old)) (first_of log.old clearing.chunk)
+        (first_of log.old clearing.chunk + LINE_WORDS)) }
+    ensures steps { MatchResult result
+        (λ _. (B.trail board.new
+        ≡ step_with (runs.Kind.Retire clearing.doomed) (B.view board.new) ∷ B.trail board.old)
+        × (B.at board.new ≡ (R.state region.new).stamp))
+        (λ _. B.trail board.new ≡ B.trail board.old) }
     ensures cause { OnErr result (Faulted (R.state region.old) (R.state region.new)) }
 {
     match clearing.clear(region, log, standing) {

@@ -1,5 +1,6 @@
 // Names that stand in no log any more: their entries leave the records of their keys, and keys are forgotten.
-ghost use Rattle.std.specs.Prelude.{◌≡◌, ℕ, length, ◌<◌};
+ghost use Rattle.std.specs.Prelude.{◌≡◌, ℕ, length, ◌≤◌, ◌<◌};
+ghost use Rattle.core_index.specs.Index.{all_untold};
 ghost use Rattle.group_laws.specs.declared.group_sizes.TheConstants.{SLOTS};
 ghost use Rattle.core_worker.specs.OwnPlaces.{place_at, Replaces};
 ghost use Rattle.core_worker.specs.GoneNames.{is_out, restarted, Lacks, Forgets, ForgetsKey, LosesNames, KnowsAll, LetsNamesGo, SparesPosted};
@@ -92,7 +93,8 @@ fn restart(places: &mut Vec<Place>, key: Key)
 
 // Takes the entries of these names out of the records of their keys.
 fn take_names(index: &mut CoreIndex, names: &[EntryName])
-    ensures { Lacks names.now index.old index.new }
+    ensures lacks { Lacks names.now index.old index.new }
+    ensures untold { all_untold index.new ≤ all_untold index.old }
 {
     for name in names {
         index.gone(*name);
@@ -103,7 +105,8 @@ fn take_names(index: &mut CoreIndex, names: &[EntryName])
 // change of such a key is its first one.
 fn forget_keys(index: &mut CoreIndex, places: &mut Vec<Place>, names: &[EntryName])
     requires eight { length places.old.items ≡ SLOTS }
-    ensures { Forgets names.now places.old.items places.new.items index.old index.new }
+    ensures forgets { Forgets names.now places.old.items places.new.items index.old index.new }
+    ensures untold { all_untold index.new ≤ all_untold index.old }
 {
     for name in names {
         forget_key(index, places, name.key);
@@ -113,7 +116,8 @@ fn forget_keys(index: &mut CoreIndex, places: &mut Vec<Place>, names: &[EntryNam
 // The same of one key.
 fn forget_key(index: &mut CoreIndex, places: &mut Vec<Place>, key: Key)
     requires eight { length places.old.items ≡ SLOTS }
-    ensures { ForgetsKey key places.old.items places.new.items index.old index.new }
+    ensures forgets { ForgetsKey key places.old.items places.new.items index.old index.new }
+    ensures untold { all_untold index.new ≤ all_untold index.old }
 {
     if index.forgettable(key) && !is_out(places, key) {
         index.forget(key);
@@ -124,7 +128,8 @@ fn forget_key(index: &mut CoreIndex, places: &mut Vec<Place>, key: Key)
 // Takes these names, which stand in no log any more, out of what is known of the keys.
 pub(crate) fn lose_names(index: &mut CoreIndex, places: &mut Vec<Place>, names: &[EntryName])
     requires eight { length places.old.items ≡ SLOTS }
-    ensures { LosesNames names.now places.old.items places.new.items index.old index.new }
+    ensures loses { LosesNames names.now places.old.items places.new.items index.old index.new }
+    ensures untold { all_untold index.new ≤ all_untold index.old }
 {
     take_names(index, names);
     forget_keys(index, places, names);

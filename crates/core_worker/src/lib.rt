@@ -7,6 +7,8 @@ mod begin_cleaning;
 mod begin_request;
 mod begin_waiting;
 mod choose_item;
+mod clean_items;
+mod cleaning_ends;
 mod cleaning_parts;
 mod clear_turn;
 mod clears_left;

@@ -17,6 +17,7 @@ use crate::log_names::hear_notices;
 use crate::types::Turn;
 use crate::worker::Worker;
 use group_board::Board;
+use pm_region::Region;
 
 impl Worker {
     // Receives what a member told, where it told something. Else the mailbox was loaded alone.
@@ -88,38 +89,45 @@ impl Worker {
         false
     }
 
-    // Receives what a member told, as a core that goes on. Else it tries the lock, where an own change was found that
-    // nobody had taken.
-    pub(crate) fn serve_mail<B: Board>(&mut self, board: &mut B, posted: bool) -> Turn
+    // Receives what a member told, as a core that goes on. Else it goes on with a cleaning, or tries the lock, where an own
+    // change was found that nobody had taken.
+    pub(crate) fn serve_mail<R: Region, B: Board>(
+        &mut self,
+        region: &mut R,
+        board: &mut B,
+        posted: bool,
+    ) -> Turn
         requires holds { HoldsAt (B.seat board.old) (B.view board.old) self.old }
+        requires stands { StandsAt (R.state region.old) (B.seat board.old)
+            (B.view board.old) self.old }
         requires order { InOrderAt (B.seat board.old) (B.view board.old) self.old }
         requires nothing { LeadsNothing self.old }
         ensures seat { B.seat board.new ≡ B.seat board.old }
-        ensures keeps { (s : State) → StandsAt s (B.seat board.old) (B.view board.old) self.old
-            → KeepsTurn (B.seat board.old) s s (B.whole board.old) (B.whole board.new)
-            (B.view board.old) (B.view board.new) self.old self.new }
-        ensures turned { (s : State) (refused : Bool) (before : Option Group) (v : View)
+        ensures keeps { KeepsTurn (B.seat board.old) (R.state region.old) (R.state region.new)
+            (B.whole board.old) (B.whole board.new) (B.view board.old) (B.view board.new)
+            self.old self.new }
+        ensures turned { (refused : Bool) (before : Option Group) (v : View)
             → PassesPost refused self.old
             → Tells posted (B.seat board.old).number self.old v (B.view board.old)
-            → Turned result s s refused before (B.seat board.old) (at_entry self.old v)
-            (at_entry self.new (B.view board.new)) }
+            → Turned result (R.state region.old) (R.state region.new) refused before
+            (B.seat board.old) (at_entry self.old v) (at_entry self.new (B.view board.new)) }
         ensures less { (posted ≡ true → HasOffer (B.whole board.old) (B.seat board.old).number)
             → MeasuresTurn result (B.whole board.old) (B.whole board.new) self.old self.new }
         ensures starts { StartsFirst self.new }
         ensures tries { IfIdleTurn result (TriedAfter posted (B.seat board.old).number
             (B.whole board.old) (B.whole board.new) (B.view board.old) (B.view board.new)) }
         ensures works { self.new.winds_down ≡ self.old.winds_down }
-        ensures steps { (passes : Bool) (s : State) → TurnSteps passes s s
+        ensures steps { (passes : Bool) → TurnSteps passes (R.state region.old) (R.state region.new)
             (B.view board.old) (B.view board.new)
             (trail_with (B.trail board.old) (B.at board.old))
             (trail_with (B.trail board.new) (B.at board.new)) }
     {
         if self.stopped || self.winds_down {
-            return self.serve_lock(board, posted);
+            return self.serve_cleaning(region, board, posted);
         }
         if self.receive_first(board) {
             return Turn::Moved;
         }
-        self.serve_lock(board, posted)
+        self.serve_cleaning(region, board, posted)
     }
 }

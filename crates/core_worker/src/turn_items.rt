@@ -155,7 +155,8 @@ impl Worker {
         Turn::Idle
     }
 
-    // Posts the lowest staged change, or looks at its mail and tries the lock. A stopped core answers the change instead.
+    // Posts the lowest staged change, or looks at its mail, goes on with a cleaning and tries the lock. A stopped core
+    // answers the change instead.
     fn serve_staged<R: Region, B: Board, G: Gate>(
         &mut self,
         alloc: Global,
@@ -192,7 +193,7 @@ impl Worker {
     {
         match self.choose(gate) {
             Choice::Pass => {
-                let turn = self.serve_mail(board, posted);
+                let turn = self.serve_mail(region, board, posted);
                 return Ok(turn);
             }
             Choice::Drop(slot) => match self.drop_staged(alloc, &*region, slot) {

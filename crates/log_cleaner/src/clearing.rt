@@ -217,6 +217,7 @@ impl Clearing {
         ensures ok { OnOk result (HasCleared (R.state region.old) (R.state region.new) log.old
             log.new
             standing.old standing.new self) }
+        ensures kept { OnErr result ((log.new ≡ log.old) × (standing.new ≡ standing.old)) }
         ensures read { OnOk result (standing.new.settled ≡ None) }
         ensures count { OnOk result (length standing.new.entries ≤ length standing.old.entries) }
         ensures room { OnOk result (standing.new.room ≡ standing.old.room) }

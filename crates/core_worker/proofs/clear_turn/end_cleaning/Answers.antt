@@ -1,40 +1,35 @@
-use Rattle.std.proofs.Common.{ℕ, sym, subst}
-use Rattle.core_log.specs.Walking.{entries_in}
-use Rattle.group_laws.specs.MemberViews.{View}
-use Rattle.core_worker.specs.GoneNames.{KnowsAll}
-use Rattle.core_worker.specs.Hearing.{HearsAll}
-use Rattle.core_worker.specs.StandingTies.{HearsOwn}
-use Rattle.core_worker.proofs.RetiredKeys.{retires_keys}
-use Rattle.core_worker.proofs.LogNames.{retired}
+use Rattle.std.proofs.Common.{refl, sym, ◌∙◌, arith}
 use Rattle.core_worker.proofs.clear_turn.end_cleaning.Goals as goal
 
-pub returns-in-Ok-clause-knows : goal.returns-in-Ok-clause-knows
-returns-in-Ok-clause-knows g c =
-    let p = (g.B.Board.seat c.args.board.now).place in
-    let m = (g.B.Board.seat c.args.board.now).number in
-    retires_keys p m c.args.clearing.doomed c.args.own.now (g.B.Board.view c.args.board.now) (g.B.Board.view c.give_up.new.board) c.args.places.now.items c.lose_names.new.places.items c.args.index.now c.lose_names.new.index c.hear_own.new.index
-    c.requires.knows c.requires.owned c.in-Ok.ensures.ok.tidied c.lose_names.ensures
-    (subst (λ (x : ℕ). HearsAll x c.lose_names.new.index c.hear_own.new.index) c.requires.core c.hear_own.ensures.hears)
+pub returns-in-Ok-clause-ended : goal.returns-in-Ok-clause-ended
+returns-in-Ok-clause-ended g c = record {
+  log_is = c.in-Ok.ensures.ok.cleared.retired.log_is;
+  gives = c.in-Ok.ensures.ok.gives;
+  sets = c.in-Ok.ensures.sets;
+  dropped = c.give_up.new.standing;
+  drops = c.in-Ok.ensures.ok.cleared.dropped;
+  mid = c.lose_names.new.index;
+  loses = c.lose_names.ensures.loses;
+  heard = c.hear_own.ensures.hears;
+  tells = c.hear_own.ensures.own;
+  room = (let same = c.in-Ok.ensures.room in let more = c.hear_own.ensures.own.room in omega (arith, same, more));
+  names = (let less = c.in-Ok.ensures.count in let same = c.hear_own.ensures.count in omega (arith, less, same));
+}
 
-pub returns-in-Ok-clause-names : goal.returns-in-Ok-clause-names
-returns-in-Ok-clause-names g c telling =
-    let p = (g.B.Board.seat c.args.board.now).place in
-    let m = (g.B.Board.seat c.args.board.now).number in
-    let s = g.R.Region.state c.args.region.now in
-    let es = entries_in s c.args.log.now c.args.clearing.chunk in
-    let ready = c.requires.ready telling in
-    (retired p m es c.args.clearing c.args.own.now (g.B.Board.view c.args.board.now) (g.B.Board.view c.give_up.new.board) c.args.places.now.items c.lose_names.new.places.items c.args.index.now c.hear_own.new.index c.args.standing.now c.hear_own.new.standing
-    c.requires.knows (c.requires.names telling) c.requires.owned c.in-Ok.ensures.ok.tidied
-    (record {
-      gathered = ready.gathered;
-      copied = ready.copied;
-      dropped = c.give_up.new.standing;
-      drops = c.in-Ok.ensures.ok.cleared.dropped;
-      mid = c.lose_names.new.index;
-      loses = c.lose_names.ensures;
-      heard = subst (λ (x : ℕ). HearsAll x c.lose_names.new.index c.hear_own.new.index) c.requires.core c.hear_own.ensures.hears;
-      tells = subst (λ (x : ℕ). HearsOwn x c.lose_names.new.index c.give_up.new.standing c.hear_own.new.standing) c.requires.core c.hear_own.ensures.own;
-    })).1
+pub returns-in-Ok-clause-counted : goal.returns-in-Ok-clause-counted
+returns-in-Ok-clause-counted g c telling =
+    let up = c.in-Ok.ensures.ok.cleared.standing telling in
+    let read = c.hear_own.ensures.own.settled ∙ c.in-Ok.ensures.read in
+    record {
+      counts = λ k n. c.hear_own.ensures.own.counts k n ∙ up.counts k n;
+      settled = λ h at. absurd (cc (sym read ∙ at));
+    }
 
-pub returns-in-Err-clause-knows : goal.returns-in-Err-clause-knows
-returns-in-Err-clause-knows g c = subst (λ (x : View). KnowsAll (g.B.Board.seat c.args.board.now).place (g.B.Board.seat c.args.board.now).number x c.args.places.now.items c.args.index.now) (sym c.in-Err.ensures.err.0) c.requires.knows
+pub returns-in-Ok-clause-read : goal.returns-in-Ok-clause-read
+returns-in-Ok-clause-read g c = c.hear_own.ensures.own.settled ∙ c.in-Ok.ensures.read
+
+pub returns-in-Ok-clause-untold : goal.returns-in-Ok-clause-untold
+returns-in-Ok-clause-untold g c = (let less = c.lose_names.ensures.untold in let more = c.hear_own.ensures.untold in omega (arith, less, more))
+
+pub returns-in-Err-clause-kept : goal.returns-in-Err-clause-kept
+returns-in-Err-clause-kept g c = let e = c.in-Err.ensures.err in (e.0, e.2, e.1, e.3, refl, refl)

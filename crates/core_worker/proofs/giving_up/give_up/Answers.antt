@@ -1,9 +1,11 @@
-use Rattle.std.proofs.Common.{◌≡◌, ℕ, ◌<◌, List, sym, ◌∙◌, subst}
+use Rattle.std.proofs.Common.{◌≡◌, ℕ, ◌<◌, List, ◌∷◌, sym, ◌∙◌, subst}
 use Rattle.pm_region.proofs.Clients.{at_exit}
 use Rattle.log_entry.specs.declared.entry.EntryName.{EntryName}
 use Rattle.chunk_map.specs.declared.layouts.Geometry.{Geometry}
 use Rattle.lazy_alloc.specs.Sets.{GivesChunk}
 use Rattle.licence.specs.Licence.{Licensed}
+use Rattle.group_laws.specs.Runs as runs
+use Rattle.group_board.specs.Trails.{step_with}
 use Rattle.group_board.specs.Views.{after_retire, TidiedIn}
 use Rattle.log_cleaner.proofs.Licences.{clear_licensed, clear_outside, clear_forgets, none_else}
 use Rattle.core_worker.proofs.ChunkGivenUp.{forgets_by, chunk_within}
@@ -61,3 +63,16 @@ returns-in-Err-clause-exit g c telling =
     let m = (g.B.Board.seat c.args.board.now).number in
     at_exit (g.R.Region.state c.args.region.now) (g.R.Region.state c.clear.new.region) (Licensed p m (g.B.Board.view c.args.board.now))
     (clear_licensed (g.R.Region.state c.args.region.now) (g.R.Region.state c.clear.new.region) p m (g.B.Board.view c.args.board.now) c.args.log.now c.requires.begins c.args.clearing.chunk c.args.clearing.doomed c.clear.ensures.moments c.requires.may) telling
+
+pub returns-in-Ok-clause-head : goal.returns-in-Ok-clause-head
+returns-in-Ok-clause-head g c = c.clear.ensures.moments.outside
+
+pub returns-in-Err-clause-head : goal.returns-in-Err-clause-head
+returns-in-Err-clause-head g c = c.clear.ensures.moments.outside
+
+pub returns-in-Ok-clause-steps : goal.returns-in-Ok-clause-steps
+returns-in-Ok-clause-steps g c =
+    let names : c.as_slice.result.now ≡ c.args.clearing.doomed = c.as_slice.ensures.value ∙ c.in-Ok.ensures.gone in (
+      subst (λ (ns : List EntryName). g.B.Board.trail c.retire.new.self ≡ step_with (runs.Kind.Retire ns) (g.B.Board.view c.retire.new.self) ∷ g.B.Board.trail c.args.board.now) names c.retire.ensures.made,
+      c.retire.ensures.at,
+    )

@@ -4,17 +4,14 @@ use Rattle.group_laws.specs.Runs.{Kind}
 use Rattle.group_laws.proofs.Clients.{In-append_right}
 use Rattle.group_board.specs.Seats.{SeatAt}
 use Rattle.batch_leader.proofs.Clients.{turn_of_one, turn_after_loads}
-use Rattle.core_worker.specs.declared.types.Cleaning.TheVariants.{Nothing}
 use Rattle.core_worker.specs.declared.worker.Worker.{Worker}
 use Rattle.core_worker.specs.Left.{HasOffer, MeasuresTurn}
 use Rattle.core_worker.specs.Mails.{PassesMail}
-use Rattle.core_worker.specs.Supplies.{under_way}
 use Rattle.core_worker.specs.Resting.{TriedIf, TriedAfter}
 use Rattle.core_worker.specs.Ties.{HoldsAt, StandsAt}
 use Rattle.core_worker.specs.Turning.{KeepsTurn, Tells, Turned, at_entry}
 use Rattle.core_worker.specs.Turning.Did.{receives}
 use Rattle.core_worker.specs.Turns.{InOrderAt, PassesPost}
-use Rattle.core_worker.proofs.CleaningKept.{goes_none}
 use Rattle.core_worker.proofs.HeardMoves.{keeps_heard, heard_low}
 use Rattle.core_worker.proofs.LeftLocks.{lowers_looked}
 use Rattle.core_worker.proofs.LeftMails.{receives_lower}
@@ -23,13 +20,8 @@ use Rattle.core_worker.proofs.TurnLaws.{keeps_looked, looked_holds, looked_stand
 use Rattle.core_worker.proofs.worker.Worker.serve_mail.Goals as goal
 use Rattle.core_worker.proofs.worker.Worker.serve_mail.Goals.{then-self-via-then-self, then-self-via-else-self+then-self-2}
 
-pub serve_lock-requires-clause-clean : goal.serve_lock-requires-clause-clean
-serve_lock-requires-clause-clean g c =
-    let seat = g.B.Board.seat c.args.board.now in
-    goes_none seat.place seat.number (g.B.Board.view c.args.board.now) c.args.self.now c.requires.holds.cleaning
-
 pub returns-then-self-clause-turned : goal.returns-then-self-clause-turned
-returns-then-self-clause-turned g c s refused before v post tells = c.serve_lock.ensures.turned s refused before v post tells (elim c.then-self.branch [
+returns-then-self-clause-turned g c refused before v post tells = c.serve_cleaning.ensures.turned refused before v post tells (elim c.then-self.branch [
   | then-self-via-then-self w ↦ inl w.if-self.true
   | then-self-via-else-self+then-self-2 w ↦ inr (inl w.if-self-2.true)
 ])
@@ -38,15 +30,17 @@ pub returns-then-self-clause-tries : goal.returns-then-self-clause-tries
 returns-then-self-clause-tries g c =
     let seat = g.B.Board.seat c.args.board.now in
     let w0 = g.B.Board.whole c.args.board.now in
-    let w2 = g.B.Board.whole c.serve_lock.new.board in
+    let w2 = g.B.Board.whole c.serve_cleaning.new.board in
     let v0 = g.B.Board.view c.args.board.now in
-    let v2 = g.B.Board.view c.serve_lock.new.board in
-    if_idle c.serve_lock.result (TriedIf c.args.posted seat.number w0 w2 v2) (TriedAfter c.args.posted seat.number w0 w2 v0 v2)
+    let v2 = g.B.Board.view c.serve_cleaning.new.board in
+    if_idle c.serve_cleaning.result (TriedIf c.args.posted seat.number w0 w2 v2) (TriedAfter c.args.posted seat.number w0 w2 v0 v2)
     (λ t. tried_at_once c.args.posted seat.number w0 w2 seat.place v0 v2 (g.met.B.Board.agrees c.args.board.now) t)
-    c.serve_lock.ensures.tries
+    c.serve_cleaning.ensures.tries
 
 pub returns-then-receive_first-clause-keeps : goal.returns-then-receive_first-clause-keeps
-returns-then-receive_first-clause-keeps g c s S =
+returns-then-receive_first-clause-keeps g c =
+    let s = g.R.Region.state c.args.region.now in
+    let S = c.requires.stands in
     let seat = g.B.Board.seat c.args.board.now in
     let w0 = g.B.Board.whole c.args.board.now in
     let w1 = g.B.Board.whole c.receive_first.new.board in
@@ -64,7 +58,7 @@ returns-then-receive_first-clause-keeps g c s S =
     (both_steps R.between w1 seat.number (Kind.LookMail R.from seat.number) (Kind.Receive R.from) v1 R.made) R.hears)
 
 pub returns-then-receive_first-clause-turned : goal.returns-then-receive_first-clause-turned
-returns-then-receive_first-clause-turned g c s refused before v post tells =
+returns-then-receive_first-clause-turned g c refused before v post tells =
     let seat = g.B.Board.seat c.args.board.now in
     let R = c.if-receive_first.ensures.received in
     receives refl (record {
@@ -88,10 +82,10 @@ returns-then-receive_first-clause-less g c offer =
     (receives_lower R.between w1 seat.number R.from v1 c.args.self.now c.receive_first.new.self R.made (heard_low seat.place seat.number R.from R.mid v1 c.args.self.now c.receive_first.new.self R.hears))
 
 pub returns-then-receive_first-clause-steps : goal.returns-then-receive_first-clause-steps
-returns-then-receive_first-clause-steps g c passes s = turn_of_one passes s _ _ _ _ _ _ c.if-receive_first.ensures.steps
+returns-then-receive_first-clause-steps g c passes = turn_of_one passes (g.R.Region.state c.args.region.now) _ _ _ _ _ _ c.if-receive_first.ensures.steps
 
-pub serve_lock-requires-2-clause-holds : goal.serve_lock-requires-2-clause-holds
-serve_lock-requires-2-clause-holds g c =
+pub serve_cleaning-requires-2-clause-holds : goal.serve_cleaning-requires-2-clause-holds
+serve_cleaning-requires-2-clause-holds g c =
     let seat = g.B.Board.seat c.args.board.now in
     let v0 = g.B.Board.view c.args.board.now in
     let v1 = g.B.Board.view c.receive_first.new.board in
@@ -100,8 +94,19 @@ serve_lock-requires-2-clause-holds g c =
     (subst (λ (x : SeatAt). HoldsAt x v1 c.args.self.now) (sym c.receive_first.ensures.seat)
     (looked_holds seat v0 v1 c.args.self.now (v0.looked ++ R.1.looks) R.1.view c.requires.nothing c.requires.holds))
 
-pub serve_lock-requires-2-clause-order : goal.serve_lock-requires-2-clause-order
-serve_lock-requires-2-clause-order g c =
+pub serve_cleaning-requires-2-clause-stands : goal.serve_cleaning-requires-2-clause-stands
+serve_cleaning-requires-2-clause-stands g c =
+    let seat = g.B.Board.seat c.args.board.now in
+    let s = g.R.Region.state c.args.region.now in
+    let v0 = g.B.Board.view c.args.board.now in
+    let v1 = g.B.Board.view c.receive_first.new.board in
+    let R = c.if-receive_first.ensures.received in
+    subst (λ (y : Worker). StandsAt s (g.B.Board.seat c.receive_first.new.board) v1 y) (sym R.0)
+    (subst (λ (x : SeatAt). StandsAt s x v1 c.args.self.now) (sym c.receive_first.ensures.seat)
+    (looked_stands s seat v0 v1 c.args.self.now (v0.looked ++ R.1.looks) R.1.view c.requires.stands))
+
+pub serve_cleaning-requires-2-clause-order : goal.serve_cleaning-requires-2-clause-order
+serve_cleaning-requires-2-clause-order g c =
     let seat = g.B.Board.seat c.args.board.now in
     let v0 = g.B.Board.view c.args.board.now in
     let v1 = g.B.Board.view c.receive_first.new.board in
@@ -110,46 +115,41 @@ serve_lock-requires-2-clause-order g c =
     (subst (λ (x : SeatAt). InOrderAt x v1 c.args.self.now) (sym c.receive_first.ensures.seat)
     (looked_order seat v0 v1 c.args.self.now (v0.looked ++ R.1.looks) R.1.view c.requires.order))
 
-pub serve_lock-requires-2-clause-nothing : goal.serve_lock-requires-2-clause-nothing
-serve_lock-requires-2-clause-nothing g c = (c.requires.nothing.0, ap (λ (y : Worker). y.leading) c.if-receive_first.ensures.received.0 ∙ c.requires.nothing.1)
-
-pub serve_lock-requires-2-clause-clean : goal.serve_lock-requires-2-clause-clean
-serve_lock-requires-2-clause-clean g c =
-    let seat = g.B.Board.seat c.args.board.now in
-    subst (λ (y : Worker). under_way y ≡ Nothing) (sym c.if-receive_first.ensures.received.0)
-    (goes_none seat.place seat.number (g.B.Board.view c.args.board.now) c.args.self.now c.requires.holds.cleaning)
+pub serve_cleaning-requires-2-clause-nothing : goal.serve_cleaning-requires-2-clause-nothing
+serve_cleaning-requires-2-clause-nothing g c = (c.requires.nothing.0, ap (λ (y : Worker). y.leading) c.if-receive_first.ensures.received.0 ∙ c.requires.nothing.1)
 
 pub returns-clause-keeps : goal.returns-clause-keeps
-returns-clause-keeps g c s S =
+returns-clause-keeps g c =
     let seat = g.B.Board.seat c.args.board.now in
-    let here = g.B.Board.seat c.receive_first.new.board in
+    let s = g.R.Region.state c.args.region.now in
+    let t = g.R.Region.state c.serve_cleaning-2.new.region in
     let w0 = g.B.Board.whole c.args.board.now in
     let w1 = g.B.Board.whole c.receive_first.new.board in
-    let w2 = g.B.Board.whole c.serve_lock-2.new.board in
+    let w2 = g.B.Board.whole c.serve_cleaning-2.new.board in
     let v0 = g.B.Board.view c.args.board.now in
     let v1 = g.B.Board.view c.receive_first.new.board in
-    let v2 = g.B.Board.view c.serve_lock-2.new.board in
+    let v2 = g.B.Board.view c.serve_cleaning-2.new.board in
     let old = c.args.self.now in
-    let new = c.serve_lock-2.new.self in
+    let new = c.serve_cleaning-2.new.self in
     let R = c.if-receive_first.ensures.received in
     let xs = v0.looked ++ R.1.looks in
-    let T : StandsAt s here v1 c.receive_first.new.self =
-    subst (λ (y : Worker). StandsAt s here v1 y) (sym R.0) (subst (λ (x : SeatAt). StandsAt s x v1 old) (sym c.receive_first.ensures.seat) (looked_stands s seat v0 v1 old xs R.1.view S)) in
-    keeps_looked seat s s w0 w1 w2 v0 v1 v2 old new xs R.1.view (R.1.loads, R.1.made)
-    (subst (λ (y : Worker). KeepsTurn seat s s w1 w2 v1 v2 y new) R.0
-    (subst (λ (x : SeatAt). KeepsTurn x s s w1 w2 v1 v2 c.receive_first.new.self new) c.receive_first.ensures.seat (c.serve_lock-2.ensures.keeps s T)))
+    keeps_looked seat s t w0 w1 w2 v0 v1 v2 old new xs R.1.view (R.1.loads, R.1.made)
+    (subst (λ (y : Worker). KeepsTurn seat s t w1 w2 v1 v2 y new) R.0
+    (subst (λ (x : SeatAt). KeepsTurn x s t w1 w2 v1 v2 c.receive_first.new.self new) c.receive_first.ensures.seat c.serve_cleaning-2.ensures.keeps))
 
 pub returns-clause-turned : goal.returns-clause-turned
-returns-clause-turned g c s refused before v post tells =
+returns-clause-turned g c refused before v post tells =
+    let s = g.R.Region.state c.args.region.now in
+    let t = g.R.Region.state c.serve_cleaning-2.new.region in
     let seat = g.B.Board.seat c.args.board.now in
     let v0 = g.B.Board.view c.args.board.now in
     let v1 = g.B.Board.view c.receive_first.new.board in
-    let v2 = g.B.Board.view c.serve_lock-2.new.board in
+    let v2 = g.B.Board.view c.serve_cleaning-2.new.board in
     let old = c.args.self.now in
     let R = c.if-receive_first.ensures.received in
-    let turned = subst (λ (y : Worker). PassesPost refused y → (t : Tells c.args.posted seat.number y v v1) → PassesMail seat.place seat.number y t.0.looked.looks → Turned c.serve_lock-2.result s s refused before seat (at_entry y v) (at_entry c.serve_lock-2.new.self v2)) R.0
-    (subst (λ (x : SeatAt). PassesPost refused c.receive_first.new.self → (t : Tells c.args.posted x.number c.receive_first.new.self v v1) → PassesMail x.place x.number c.receive_first.new.self t.0.looked.looks → Turned c.serve_lock-2.result s s refused before x (at_entry c.receive_first.new.self v) (at_entry c.serve_lock-2.new.self v2)) c.receive_first.ensures.seat
-    (c.serve_lock-2.ensures.turned s refused before v)) in
+    let turned = subst (λ (y : Worker). PassesPost refused y → (x : Tells c.args.posted seat.number y v v1) → PassesMail seat.place seat.number y x.0.looked.looks → Turned c.serve_cleaning-2.result s t refused before seat (at_entry y v) (at_entry c.serve_cleaning-2.new.self v2)) R.0
+    (subst (λ (x : SeatAt). PassesPost refused c.receive_first.new.self → (y : Tells c.args.posted x.number c.receive_first.new.self v v1) → PassesMail x.place x.number c.receive_first.new.self y.0.looked.looks → Turned c.serve_cleaning-2.result s t refused before x (at_entry c.receive_first.new.self v) (at_entry c.serve_cleaning-2.new.self v2)) c.receive_first.ensures.seat
+    (c.serve_cleaning-2.ensures.turned refused before v)) in
     turned post (passes_more seat.number (at_entry old v) 8 v0 v1 R.1.looks R.1.view tells.0, tells.1)
     (inr (inr (λ a lt ne. In-append_right _ tells.0.looked.looks R.1.looks (R.1.empty a lt ne))))
 
@@ -158,12 +158,12 @@ returns-clause-less g c offer =
     let seat = g.B.Board.seat c.args.board.now in
     let w0 = g.B.Board.whole c.args.board.now in
     let w1 = g.B.Board.whole c.receive_first.new.board in
-    let w2 = g.B.Board.whole c.serve_lock-2.new.board in
+    let w2 = g.B.Board.whole c.serve_cleaning-2.new.board in
     let R = c.if-receive_first.ensures.received in
-    let less = subst (λ (y : Worker). (c.args.posted ≡ true → HasOffer w1 seat.number) → MeasuresTurn c.serve_lock-2.result w1 w2 y c.serve_lock-2.new.self) R.0
-    (subst (λ (x : SeatAt). (c.args.posted ≡ true → HasOffer w1 x.number) → MeasuresTurn c.serve_lock-2.result w1 w2 c.receive_first.new.self c.serve_lock-2.new.self) c.receive_first.ensures.seat c.serve_lock-2.ensures.less) in
-    measures_passed c.serve_lock-2.result c.args.posted w0 w1 w2 seat.number R.1.loads (g.B.Board.view c.receive_first.new.board) c.args.self.now c.serve_lock-2.new.self R.1.made offer less
+    let less = subst (λ (y : Worker). (c.args.posted ≡ true → HasOffer w1 seat.number) → MeasuresTurn c.serve_cleaning-2.result w1 w2 y c.serve_cleaning-2.new.self) R.0
+    (subst (λ (x : SeatAt). (c.args.posted ≡ true → HasOffer w1 x.number) → MeasuresTurn c.serve_cleaning-2.result w1 w2 c.receive_first.new.self c.serve_cleaning-2.new.self) c.receive_first.ensures.seat c.serve_cleaning-2.ensures.less) in
+    measures_passed c.serve_cleaning-2.result c.args.posted w0 w1 w2 seat.number R.1.loads (g.B.Board.view c.receive_first.new.board) c.args.self.now c.serve_cleaning-2.new.self R.1.made offer less
 
 pub returns-clause-steps : goal.returns-clause-steps
-returns-clause-steps g c passes s =
-    turn_after_loads passes s s _ (g.B.Board.view c.receive_first.new.board) _ _ _ _ _ (g.B.Board.at c.receive_first.new.board) _ c.if-receive_first.ensures.steps (c.serve_lock-2.ensures.steps passes s)
+returns-clause-steps g c passes =
+    turn_after_loads passes (g.R.Region.state c.args.region.now) (g.R.Region.state c.serve_cleaning-2.new.region) _ (g.B.Board.view c.receive_first.new.board) _ _ _ _ _ (g.B.Board.at c.receive_first.new.board) _ c.if-receive_first.ensures.steps (c.serve_cleaning-2.ensures.steps passes)

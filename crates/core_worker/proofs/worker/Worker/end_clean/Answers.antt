@@ -1,0 +1,186 @@
+-- The turn that ends a cleaning.
+use Rattle.std.proofs.Common.{true, List, [], ◌∷◌, refl, sym, ◌∙◌, subst}
+use Rattle.pm_region.specs.State.{Frame, cell_now}
+use Rattle.log_entry.specs.declared.entry.EntryName.{EntryName}
+use Rattle.lazy_alloc.specs.Written.{PartLies}
+use Rattle.licence.specs.Licence.{Licensed}
+use Rattle.group_laws.specs.MemberViews.{View}
+use Rattle.group_laws.specs.Runs as runs
+use Rattle.group_board.specs.Trails.{step_with}
+use Rattle.core_worker.specs.declared.types.Cleaning.TheVariants.{Nothing}
+use Rattle.core_worker.specs.EndsCleaning.{EndsCleaning, EndsInRegion}
+use Rattle.core_worker.specs.LogNames.{AreOwnOf}
+use Rattle.core_worker.specs.Turning.Did.{clears, loses_clearing}
+use Rattle.core_worker.proofs.EndedItem as ended
+use Rattle.core_worker.proofs.LeftFair.{starts_nothing, starts_stopped}
+use Rattle.core_worker.proofs.LeftItems.{lowers_still}
+use Rattle.core_worker.proofs.Made.{one_step}
+use Rattle.core_worker.proofs.worker.Worker.end_clean.Goals as goal
+
+pub end_cleaning-requires-clause-begins : goal.end_cleaning-requires-clause-begins
+end_cleaning-requires-clause-begins g c =
+    let seat = g.B.Board.seat c.args.board.now in
+    ended.begins (g.R.Region.state c.args.region.now) seat.place seat.number (g.B.Board.view c.args.board.now) c.args.self.now c.requires.holds c.requires.stands c.requires.order c.requires.dooms
+
+pub end_cleaning-requires-clause-has : goal.end_cleaning-requires-clause-has
+end_cleaning-requires-clause-has g c =
+    let seat = g.B.Board.seat c.args.board.now in
+    ended.has_chunk (g.R.Region.state c.args.region.now) seat.place seat.number (g.B.Board.view c.args.board.now) c.args.self.now c.requires.holds c.requires.stands c.requires.order c.requires.dooms c.in-Some.clearing (sym c.in-Some.ensures.value)
+
+pub end_cleaning-requires-clause-closed : goal.end_cleaning-requires-clause-closed
+end_cleaning-requires-clause-closed g c =
+    let seat = g.B.Board.seat c.args.board.now in
+    ended.is_closed (g.R.Region.state c.args.region.now) seat.place seat.number (g.B.Board.view c.args.board.now) c.args.self.now c.requires.holds c.requires.stands c.requires.order c.requires.dooms c.in-Some.clearing (sym c.in-Some.ensures.value)
+
+pub end_cleaning-requires-clause-ready : goal.end_cleaning-requires-clause-ready
+end_cleaning-requires-clause-ready g c telling =
+    let seat = g.B.Board.seat c.args.board.now in
+    ended.ready (g.R.Region.state c.args.region.now) seat.place seat.number (g.B.Board.view c.args.board.now) c.args.self.now c.requires.holds c.requires.stands c.requires.order c.requires.dooms c.in-Some.clearing (sym c.in-Some.ensures.value) telling
+
+pub end_cleaning-requires-clause-standing : goal.end_cleaning-requires-clause-standing
+end_cleaning-requires-clause-standing g c telling =
+    let seat = g.B.Board.seat c.args.board.now in
+    ended.counted (g.R.Region.state c.args.region.now) seat.place seat.number (g.B.Board.view c.args.board.now) c.args.self.now c.requires.holds c.requires.stands c.requires.order c.requires.dooms telling
+
+pub end_cleaning-requires-clause-agrees : goal.end_cleaning-requires-clause-agrees
+end_cleaning-requires-clause-agrees g c telling =
+    let seat = g.B.Board.seat c.args.board.now in
+    ended.agrees (g.R.Region.state c.args.region.now) seat.place seat.number (g.B.Board.view c.args.board.now) c.args.self.now c.requires.holds c.requires.stands c.requires.order c.requires.dooms telling
+
+pub end_cleaning-requires-clause-may : goal.end_cleaning-requires-clause-may
+end_cleaning-requires-clause-may g c =
+    let seat = g.B.Board.seat c.args.board.now in
+    ended.may_go (g.R.Region.state c.args.region.now) seat.place seat.number (g.B.Board.view c.args.board.now) c.args.self.now c.requires.holds c.requires.stands c.requires.order c.requires.dooms c.in-Some.clearing (sym c.in-Some.ensures.value)
+
+pub end_cleaning-requires-clause-others : goal.end_cleaning-requires-clause-others
+end_cleaning-requires-clause-others g c =
+    let seat = g.B.Board.seat c.args.board.now in
+    ended.others (g.R.Region.state c.args.region.now) seat.place seat.number (g.B.Board.view c.args.board.now) c.args.self.now c.requires.holds c.requires.stands c.requires.order c.requires.dooms
+
+pub end_cleaning-requires-clause-layout : goal.end_cleaning-requires-clause-layout
+end_cleaning-requires-clause-layout g c = c.requires.holds.allocator_layout ∙ sym c.requires.holds.log_layout
+
+pub end_cleaning-requires-clause-taken : goal.end_cleaning-requires-clause-taken
+end_cleaning-requires-clause-taken g c =
+    let seat = g.B.Board.seat c.args.board.now in
+    ended.is_taken (g.R.Region.state c.args.region.now) seat.place seat.number (g.B.Board.view c.args.board.now) c.args.self.now c.requires.holds c.requires.stands c.requires.order c.requires.dooms c.in-Some.clearing (sym c.in-Some.ensures.value)
+
+pub end_cleaning-requires-clause-uncut : goal.end_cleaning-requires-clause-uncut
+end_cleaning-requires-clause-uncut g c =
+    let seat = g.B.Board.seat c.args.board.now in
+    ended.is_uncut (g.R.Region.state c.args.region.now) seat.place seat.number (g.B.Board.view c.args.board.now) c.args.self.now c.requires.holds c.requires.stands c.requires.order c.requires.dooms c.in-Some.clearing (sym c.in-Some.ensures.value)
+
+pub end_cleaning-requires-clause-owned : goal.end_cleaning-requires-clause-owned
+end_cleaning-requires-clause-owned g c =
+    let seat = g.B.Board.seat c.args.board.now in
+    subst (λ (ns : List EntryName). AreOwnOf seat.place seat.number c.in-Some.clearing.doomed ns) (sym c.as_slice.ensures.value)
+    (ended.owned (g.R.Region.state c.args.region.now) seat.place seat.number (g.B.Board.view c.args.board.now) c.args.self.now c.requires.holds c.requires.stands c.requires.order c.requires.dooms c.in-Some.clearing (sym c.in-Some.ensures.value))
+
+pub returns-in-Ok-clause-keeps : goal.returns-in-Ok-clause-keeps
+returns-in-Ok-clause-keeps g c =
+    let seat = g.B.Board.seat c.args.board.now in
+    let s = g.R.Region.state c.args.region.now in
+    let t = g.R.Region.state c.end_cleaning.new.region in
+    let before = g.B.Board.whole c.args.board.now in
+    let after = g.B.Board.whole c.end_cleaning.new.board in
+    let v = g.B.Board.view c.args.board.now in
+    let u = g.B.Board.view c.end_cleaning.new.board in
+    let w = c.args.self.now in
+    let x = record w { log = c.end_cleaning.new.log; allocator = c.end_cleaning.new.allocator; places = c.end_cleaning.new.places; index = c.end_cleaning.new.index; standing = c.end_cleaning.new.standing; cleaning = Nothing; clearing = c.replace.new.dest } in
+    let y = c.in-Some.clearing in
+    let E = ended.ends_in s seat.place seat.number v w c.requires.holds c.requires.stands c.requires.order c.requires.dooms y (sym c.in-Some.ensures.value) u x c.in-Ok.ensures.tidied (subst (λ (ns : List EntryName). EndsCleaning w.core c.in-Some.clearing ns w.log c.end_cleaning.new.log w.allocator c.end_cleaning.new.allocator w.places.items c.end_cleaning.new.places.items w.index c.end_cleaning.new.index w.standing c.end_cleaning.new.standing) c.as_slice.ensures.value c.in-Ok.ensures.ended) (λ i. record w { log = c.end_cleaning.new.log; allocator = c.end_cleaning.new.allocator; places = c.end_cleaning.new.places; index = c.end_cleaning.new.index; standing = c.end_cleaning.new.standing; cleaning = Nothing; clearing = c.replace.ensures.after i }) in
+    let R : EndsInRegion s t seat.place seat.number u w x y = record { retired = c.in-Ok.ensures.retired; outside = c.end_cleaning.ensures.head; exit = c.end_cleaning.ensures.exit; names = ended.names s seat.place seat.number v w c.requires.holds c.requires.stands c.requires.order c.requires.dooms y (sym c.in-Some.ensures.value) u x E; counted = c.in-Ok.ensures.counted; read = c.in-Ok.ensures.read } in
+    ended.keeps_ended seat s t before after v u w x y c.requires.holds c.requires.stands c.requires.order E R c.end_cleaning.ensures.moments c.end_cleaning.ensures.outside
+    (runs.Kind.Retire y.doomed ∷ [], one_step before after seat.number (runs.Kind.Retire y.doomed) u c.in-Ok.ensures.made)
+
+pub returns-in-Ok-clause-did : goal.returns-in-Ok-clause-did
+returns-in-Ok-clause-did g c refused before v passed passes mail =
+    let seat = g.B.Board.seat c.args.board.now in
+    let s = g.R.Region.state c.args.region.now in
+    let mid = g.B.Board.view c.args.board.now in
+    let u = g.B.Board.view c.end_cleaning.new.board in
+    let w = c.args.self.now in
+    let x = record w { log = c.end_cleaning.new.log; allocator = c.end_cleaning.new.allocator; places = c.end_cleaning.new.places; index = c.end_cleaning.new.index; standing = c.end_cleaning.new.standing; cleaning = Nothing; clearing = c.replace.new.dest } in
+    clears (record {
+      mid = mid;
+      before = passes;
+      post = passed;
+      mail = mail;
+      clearing = c.in-Some.clearing;
+      is = sym c.in-Some.ensures.value;
+      ends = ended.ends_in s seat.place seat.number mid w c.requires.holds c.requires.stands c.requires.order c.requires.dooms c.in-Some.clearing (sym c.in-Some.ensures.value) u x c.in-Ok.ensures.tidied (subst (λ (ns : List EntryName). EndsCleaning w.core c.in-Some.clearing ns w.log c.end_cleaning.new.log w.allocator c.end_cleaning.new.allocator w.places.items c.end_cleaning.new.places.items w.index c.end_cleaning.new.index w.standing c.end_cleaning.new.standing) c.as_slice.ensures.value c.in-Ok.ensures.ended) (λ i. record w { log = c.end_cleaning.new.log; allocator = c.end_cleaning.new.allocator; places = c.end_cleaning.new.places; index = c.end_cleaning.new.index; standing = c.end_cleaning.new.standing; cleaning = Nothing; clearing = c.replace.ensures.after i });
+    })
+
+pub returns-in-Ok-clause-less : goal.returns-in-Ok-clause-less
+returns-in-Ok-clause-less g c =
+    let seat = g.B.Board.seat c.args.board.now in
+    let s = g.R.Region.state c.args.region.now in
+    let v = g.B.Board.view c.args.board.now in
+    let u = g.B.Board.view c.end_cleaning.new.board in
+    let w = c.args.self.now in
+    let x = record w { log = c.end_cleaning.new.log; allocator = c.end_cleaning.new.allocator; places = c.end_cleaning.new.places; index = c.end_cleaning.new.index; standing = c.end_cleaning.new.standing; cleaning = Nothing; clearing = c.replace.new.dest } in
+    let y = c.in-Some.clearing in
+    let E = ended.ends_in s seat.place seat.number v w c.requires.holds c.requires.stands c.requires.order c.requires.dooms y (sym c.in-Some.ensures.value) u x c.in-Ok.ensures.tidied (subst (λ (ns : List EntryName). EndsCleaning w.core c.in-Some.clearing ns w.log c.end_cleaning.new.log w.allocator c.end_cleaning.new.allocator w.places.items c.end_cleaning.new.places.items w.index c.end_cleaning.new.index w.standing c.end_cleaning.new.standing) c.as_slice.ensures.value c.in-Ok.ensures.ended) (λ i. record w { log = c.end_cleaning.new.log; allocator = c.end_cleaning.new.allocator; places = c.end_cleaning.new.places; index = c.end_cleaning.new.index; standing = c.end_cleaning.new.standing; cleaning = Nothing; clearing = c.replace.ensures.after i }) in
+    let way = ended.way_is s seat.place seat.number v w c.requires.holds c.requires.stands c.requires.order c.requires.dooms in
+    ended.ended_lower (g.B.Board.whole c.args.board.now) (g.B.Board.whole c.end_cleaning.new.board) seat.number y.doomed u w x c.in-Ok.ensures.made (g.met.B.Board.lawful c.args.board.now)
+    (ended.ended_less seat.place seat.number v u w x y c.requires.dooms.0 way E c.end_cleaning.ensures.untold)
+
+pub returns-in-Ok-clause-starts : goal.returns-in-Ok-clause-starts
+returns-in-Ok-clause-starts g c =
+    let seat = g.B.Board.seat c.args.board.now in
+    let w = c.args.self.now in
+    let C = ended.cleans (g.R.Region.state c.args.region.now) seat.place seat.number (g.B.Board.view c.args.board.now) w c.requires.holds c.requires.stands c.requires.order c.requires.dooms in
+    starts_nothing (record w { log = c.end_cleaning.new.log; allocator = c.end_cleaning.new.allocator; places = c.end_cleaning.new.places; index = c.end_cleaning.new.index; standing = c.end_cleaning.new.standing; cleaning = Nothing; clearing = c.replace.new.dest }) C.idle
+
+pub returns-in-Ok-clause-steps : goal.returns-in-Ok-clause-steps
+returns-in-Ok-clause-steps g c passes = record { made = step_with (runs.Kind.Retire c.in-Some.clearing.doomed) (g.B.Board.view c.end_cleaning.new.board) ∷ []; more = c.in-Ok.ensures.steps.0; loads = tt; ends = refl; last = record { handed = λ _. c.in-Ok.ensures.steps.1; alone = λ _ no. absurd (cc no) }; asks = λ no. absurd (cc no) }
+
+pub returns-in-Err-clause-keeps : goal.returns-in-Err-clause-keeps
+returns-in-Err-clause-keeps g c =
+    let seat = g.B.Board.seat c.args.board.now in
+    let s = g.R.Region.state c.args.region.now in
+    let t = g.R.Region.state c.end_cleaning.new.region in
+    let v = g.B.Board.view c.args.board.now in
+    let u = g.B.Board.view c.end_cleaning.new.board in
+    let w = c.args.self.now in
+    let k = c.in-Err.ensures.kept in
+    let x = record w { log = c.end_cleaning.new.log; allocator = c.end_cleaning.new.allocator; places = c.end_cleaning.new.places; index = c.end_cleaning.new.index; standing = c.end_cleaning.new.standing; clearing = c.replace.new.dest; stopped = true } in
+    ended.keeps_lost seat s t (g.B.Board.whole c.args.board.now) (g.B.Board.whole c.end_cleaning.new.board) v u w x c.requires.holds c.requires.stands c.requires.order
+    (ended.cleans s seat.place seat.number v w c.requires.holds c.requires.stands c.requires.order c.requires.dooms)
+    (λ i. record w { log = k.1 i; allocator = k.2 i; standing = k.3 i; places = k.4 i; index = k.5 i; clearing = c.replace.ensures.after i; stopped = true }) k.0 c.in-Err.ensures.made
+    (subst (λ (f : Frame). PartLies f w.allocator) (sym c.end_cleaning.ensures.head.frame) c.requires.stands.lies)
+    (λ telling. subst (λ (z : View). Licensed seat.place seat.number z (cell_now t)) k.0 (c.end_cleaning.ensures.exit telling))
+    c.end_cleaning.ensures.moments c.end_cleaning.ensures.outside c.in-Err.ensures.cause
+
+pub returns-in-Err-clause-did : goal.returns-in-Err-clause-did
+returns-in-Err-clause-did g c refused before v passed passes mail =
+    let seat = g.B.Board.seat c.args.board.now in
+    let w = c.args.self.now in
+    let k = c.in-Err.ensures.kept in
+    loses_clearing (record {
+      mid = g.B.Board.view c.args.board.now;
+      before = passes;
+      post = passed;
+      mail = mail;
+      runs = ended.runs (g.R.Region.state c.args.region.now) seat.place seat.number (g.B.Board.view c.args.board.now) w c.requires.holds c.requires.stands c.requires.order c.requires.dooms;
+      dooms = c.requires.dooms;
+      view = k.0;
+      same = (λ i. record w { log = k.1 i; allocator = k.2 i; standing = k.3 i; places = k.4 i; index = k.5 i; clearing = c.replace.ensures.after i; stopped = true });
+    })
+
+pub returns-in-Err-clause-less : goal.returns-in-Err-clause-less
+returns-in-Err-clause-less g c =
+    let seat = g.B.Board.seat c.args.board.now in
+    let w = c.args.self.now in
+    let k = c.in-Err.ensures.kept in
+    let x = record w { log = c.end_cleaning.new.log; allocator = c.end_cleaning.new.allocator; places = c.end_cleaning.new.places; index = c.end_cleaning.new.index; standing = c.end_cleaning.new.standing; clearing = c.replace.new.dest; stopped = true } in
+    lowers_still (g.B.Board.whole c.args.board.now) (g.B.Board.whole c.end_cleaning.new.board) w x c.in-Err.ensures.made
+    (ended.lost_less w x (λ i. record w { log = k.1 i; allocator = k.2 i; standing = k.3 i; places = k.4 i; index = k.5 i; clearing = c.replace.ensures.after i; stopped = true })
+    (ended.runs (g.R.Region.state c.args.region.now) seat.place seat.number (g.B.Board.view c.args.board.now) w c.requires.holds c.requires.stands c.requires.order c.requires.dooms))
+
+pub returns-in-Err-clause-starts : goal.returns-in-Err-clause-starts
+returns-in-Err-clause-starts g c =
+    starts_stopped (record c.args.self.now { log = c.end_cleaning.new.log; allocator = c.end_cleaning.new.allocator; places = c.end_cleaning.new.places; index = c.end_cleaning.new.index; standing = c.end_cleaning.new.standing; clearing = c.replace.new.dest; stopped = true }) refl
+
+pub returns-in-Err-clause-steps : goal.returns-in-Err-clause-steps
+returns-in-Err-clause-steps g c passes = record { made = []; more = c.in-Err.ensures.steps; loads = tt; ends = c.in-Err.ensures.kept.0; last = tt; asks = tt }

@@ -1,0 +1,35 @@
+-- A cleaning under way is gone on with, or the lock is tried.
+use Rattle.std.proofs.Common.{⊎_elim, sym, ◌∙◌, subst}
+use Rattle.core_worker.specs.KeepsCleaning.{GoesOn}
+use Rattle.core_worker.proofs.CleaningKept.{runs_way}
+use Rattle.core_worker.proofs.worker.Worker.serve_cleaning.Goals as goal
+
+pub serve_lock-requires-clause-clean : goal.serve_lock-requires-clause-clean
+serve_lock-requires-clause-clean g c = sym c.under_way.ensures ∙ c.in-Nothing.is
+
+pub unreachable-requires : goal.unreachable-requires
+unreachable-requires g c =
+    let w = c.args.self.now in
+    let way = sym c.under_way.ensures ∙ c.in-Copying.is in
+    ⊎_elim
+    (λ none. cc (sym none ∙ way))
+    (λ C. subst GoesOn (sym (runs_way w C.runs C.works) ∙ way) C.goes)
+    c.requires.holds.cleaning
+
+pub end_clean-requires-clause-dooms : goal.end_clean-requires-clause-dooms
+end_clean-requires-clause-dooms g c = (_, sym c.under_way.ensures ∙ c.in-Doomed.is)
+
+pub returns-in-Nothing-clause-keeps : goal.returns-in-Nothing-clause-keeps
+returns-in-Nothing-clause-keeps g c = c.serve_lock.ensures.keeps (g.R.Region.state c.args.region.now) c.requires.stands
+
+pub returns-in-Nothing-clause-turned : goal.returns-in-Nothing-clause-turned
+returns-in-Nothing-clause-turned g c refused before v passed tells mail = c.serve_lock.ensures.turned (g.R.Region.state c.args.region.now) refused before v passed tells mail
+
+pub returns-in-Nothing-clause-steps : goal.returns-in-Nothing-clause-steps
+returns-in-Nothing-clause-steps g c passes = c.serve_lock.ensures.steps passes (g.R.Region.state c.args.region.now)
+
+pub returns-in-Doomed-clause-turned : goal.returns-in-Doomed-clause-turned
+returns-in-Doomed-clause-turned g c refused before v passed tells mail = c.end_clean.ensures.did refused before v passed tells.0 mail
+
+pub returns-in-Doomed-clause-less : goal.returns-in-Doomed-clause-less
+returns-in-Doomed-clause-less g c offer = c.end_clean.ensures.less

@@ -1,0 +1,122 @@
+// What a turn does for a cleaning under way.
+ghost use Rattle.std.specs.Prelude.{◌≡◌, ◌≢◌, ℕ, Bool, true, Option};
+ghost use Rattle.group_laws.specs.declared.group_sizes.TheConstants.{SLOTS};
+ghost use Rattle.group_laws.specs.State.{Group};
+ghost use Rattle.group_laws.specs.MemberViews.{View};
+ghost use Rattle.batch_leader.specs.TurnSteps.{TurnSteps, trail_with};
+ghost use Rattle.core_worker.specs.declared.types.Cleaning.TheVariants.{Doomed};
+ghost use Rattle.core_worker.specs.Left.{HasOffer, Lowers, MeasuresTurn, StartsFirst};
+ghost use Rattle.core_worker.specs.Mails.{PassesMail};
+ghost use Rattle.core_worker.specs.Resting.{IfIdleTurn, TriedIf};
+ghost use Rattle.core_worker.specs.Supplies.{under_way};
+ghost use Rattle.core_worker.specs.Ties.{HoldsAt, StandsAt, LeadsNothing};
+ghost use Rattle.core_worker.specs.Turning.{KeepsTurn, Did, Turned, Tells, at_entry};
+ghost use Rattle.core_worker.specs.Turns.{InOrderAt, PassesItems, PassesPost};
+
+use crate::clear_turn::end_cleaning;
+use crate::types::{Cleaning, Turn};
+use crate::worker::Worker;
+use group_board::Board;
+use pm_region::Region;
+use std::mem;
+
+impl Worker {
+    // Ends the cleaning whose names are doomed: its chunk is free again, and what stood there alone is gone. After a
+    // fault the core stops.
+    fn end_clean<R: Region, B: Board>(&mut self, region: &mut R, board: &mut B)
+        requires holds { HoldsAt (B.seat board.old) (B.view board.old) self.old }
+        requires stands { StandsAt (R.state region.old) (B.seat board.old)
+            (B.view board.old) self.old }
+        requires order { InOrderAt (B.seat board.old) (B.view board.old) self.old }
+        requires dooms { (j : ℕ) × (under_way self.old ≡ Doomed j) }
+        ensures seat { B.seat board.new ≡ B.seat board.old }
+        ensures keeps { KeepsTurn (B.seat board.old) (R.state region.old) (R.state region.new)
+            (B.whole board.old) (B.whole board.new) (B.view board.old) (B.view board.new)
+            self.old self.new }
+        ensures did { (refused : Bool) (before : Option Group) (v : View)
+            → PassesPost refused self.old
+            → (passes : PassesItems (B.seat board.old).number (at_entry self.old v) SLOTS
+            (B.view board.old))
+            → PassesMail (B.seat board.old).place (B.seat board.old).number self.old
+            passes.looked.looks
+            → Did (R.state region.old) (R.state region.new) refused before (B.seat board.old)
+            (at_entry self.old v) (at_entry self.new (B.view board.new)) }
+        ensures less { Lowers (B.whole board.old) (B.whole board.new) self.old self.new }
+        ensures starts { StartsFirst self.new }
+        ensures works { self.new.winds_down ≡ self.old.winds_down }
+        ensures steps { (passes : Bool) → TurnSteps passes (R.state region.old) (R.state region.new)
+            (B.view board.old) (B.view board.new)
+            (trail_with (B.trail board.old) (B.at board.old))
+            (trail_with (B.trail board.new) (B.at board.new)) }
+    {
+        match mem::replace(&mut self.clearing, None) {
+            Some(clearing) => match end_cleaning(
+                region,
+                board,
+                &mut self.log,
+                &mut self.allocator,
+                &mut self.standing,
+                &mut self.index,
+                &mut self.places,
+                self.core,
+                clearing,
+                self.own_gone.as_slice(),
+            ) {
+                Ok(_cleared) => {
+                    self.cleaning = Cleaning::Nothing;
+                }
+                Err(_fault) => {
+                    self.stopped = true;
+                }
+            },
+            None => unreachable!(),
+        }
+    }
+
+    // Goes on with a cleaning under way, or tries the lock, where an own change was found that nobody had taken.
+    pub(crate) fn serve_cleaning<R: Region, B: Board>(
+        &mut self,
+        region: &mut R,
+        board: &mut B,
+        posted: bool,
+    ) -> Turn
+        requires holds { HoldsAt (B.seat board.old) (B.view board.old) self.old }
+        requires stands { StandsAt (R.state region.old) (B.seat board.old)
+            (B.view board.old) self.old }
+        requires order { InOrderAt (B.seat board.old) (B.view board.old) self.old }
+        requires nothing { LeadsNothing self.old }
+        ensures seat { B.seat board.new ≡ B.seat board.old }
+        ensures keeps { KeepsTurn (B.seat board.old) (R.state region.old) (R.state region.new)
+            (B.whole board.old) (B.whole board.new) (B.view board.old) (B.view board.new)
+            self.old self.new }
+        ensures turned { (refused : Bool) (before : Option Group) (v : View)
+            → PassesPost refused self.old
+            → (tells : Tells posted (B.seat board.old).number self.old v (B.view board.old))
+            → PassesMail (B.seat board.old).place (B.seat board.old).number self.old
+            tells.0.looked.looks
+            → Turned result (R.state region.old) (R.state region.new) refused before
+            (B.seat board.old) (at_entry self.old v) (at_entry self.new (B.view board.new)) }
+        ensures less { (posted ≡ true → HasOffer (B.whole board.old) (B.seat board.old).number)
+            → MeasuresTurn result (B.whole board.old) (B.whole board.new) self.old self.new }
+        ensures starts { StartsFirst self.new }
+        ensures tries { IfIdleTurn result (TriedIf posted (B.seat board.old).number
+            (B.whole board.old) (B.whole board.new) (B.view board.new)) }
+        ensures works { self.new.winds_down ≡ self.old.winds_down }
+        ensures steps { (passes : Bool) → TurnSteps passes (R.state region.old) (R.state region.new)
+            (B.view board.old) (B.view board.new)
+            (trail_with (B.trail board.old) (B.at board.old))
+            (trail_with (B.trail board.new) (B.at board.new)) }
+    {
+        match self.under_way() {
+            Cleaning::Nothing => {
+                return self.serve_lock(board, posted);
+            }
+            // No turn makes copies yet.
+            Cleaning::Copying { .. } => unreachable!(),
+            Cleaning::Doomed { .. } => {
+                self.end_clean(region, board);
+                return Turn::Moved;
+            }
+        }
+    }
+}
