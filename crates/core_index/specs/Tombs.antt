@@ -41,6 +41,10 @@ IsThere Told = Unit {0}
 IsThere Gone = ⊥
 IsThere Moved = ⊥
 
+-- the entry has this version, and stands
+abbrev pub StandsAs : ℕ → Tombstone → Type 0
+StandsAs v t = ((tomb_version t) ≡ v) × IsThere t.fate
+
 abbrev pub list_of : Option Standing → List Standing
 list_of None = []
 list_of (Some s) = s ∷ []

@@ -4,7 +4,7 @@ ghost use Rattle.std.specs.Bool.{Decides};
 ghost use Rattle.log_entry.specs.declared.entry.EntryName.{EntryName};
 ghost use Rattle.core_index.specs.Index.{all_untold, known_at, place_at, untold_of, ToldAt, Turns};
 ghost use Rattle.core_index.specs.Records.{Awaits, Shows, without, opened_with, last_of, is_dead_in, is_forgettable};
-ghost use Rattle.core_index.specs.Tombs.{tomb_home, tomb_version, key_of, name_of, left_of, tomb_places, found_at, fated, AreLess, Rising, IsSpot, IsMissing, IsThere, passed_at, Ahead};
+ghost use Rattle.core_index.specs.Tombs.{tomb_home, tomb_version, key_of, name_of, left_of, tomb_places, found_at, fated, AreLess, Rising, IsSpot, IsMissing, StandsAs, passed_at, Ahead};
 
 use crate::short_names::{self, HOMES, short_of};
 use crate::types::{Fate, Look, SHARE, Standee, Tombstone};
@@ -114,17 +114,8 @@ fn is_gone(tombstone: &Tombstone) -> bool
 
 // Whether its entry has this version, and stands: it is dead then.
 fn is_dead(tombstone: &Tombstone, version: Version) -> bool
-    ensures { result ≡ is_dead_in (left_of tombstone.now) version }
-{
-    match tombstone.fate {
-        Fate::Untold | Fate::Told => version_of(tombstone) == version,
-        _ => false,
-    }
-}
-
-// Whether its entry has this version, and stands.
-fn stands(tombstone: &Tombstone, version: Version) -> bool
-    ensures found { result ≡ true → (tomb_version tombstone.now ≡ version) × IsThere tombstone.now.fate }
+    ensures dead { result ≡ is_dead_in (left_of tombstone.now) version }
+    ensures found { result ≡ true → StandsAs version tombstone.now }
     ensures none { result ≡ false → option_map (without version) (left_of tombstone.now)
         ≡ left_of tombstone.now }
 {
@@ -294,7 +285,7 @@ impl Tombstones {
         let Some(tombstone) = self.find(name.key) else {
             return;
         };
-        if stands(&tombstone, name.version) {
+        if is_dead(&tombstone, name.version) {
             self.set(name.key, Fate::Gone);
         }
     }

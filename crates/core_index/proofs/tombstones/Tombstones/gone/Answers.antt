@@ -12,28 +12,28 @@ returns-in_default-clause-gone c =
     let none = known_found a.items c.args.name.key None c.in_default.ensures in
     same_turns a c.args.name.key (option_map (without c.args.name.version) (known_at (tomb_places a.items) c.args.name.key)) (none ∙ ap (option_map (without c.args.name.version)) (sym none))
 
-pub returns-then-stands-clause-gone : goal.returns-then-stands-clause-gone
-returns-then-stands-clause-gone c =
+pub returns-then-is_dead-clause-gone : goal.returns-then-is_dead-clause-gone
+returns-then-is_dead-clause-gone c =
     let a = c.args.self.now in
     let n = c.args.name in
-    let stands = c.stands.ensures.found c.if-stands.true in
+    let stands = c.is_dead.ensures.found c.if-is_dead.true in
     subst (λ (b : Tombs). Turns a b n.key (option_map (without n.version) (known_at (tomb_places a.items) n.key))) (sym c.set.ensures) (gone_turns a n.key n.version c.in-Some.tombstone c.in-Some.ensures stands.0 stands.1)
 
-pub returns-then-stands-clause-none : goal.returns-then-stands-clause-none
-returns-then-stands-clause-none c = λ home v waits.
+pub returns-then-is_dead-clause-none : goal.returns-then-is_dead-clause-none
+returns-then-is_dead-clause-none c = λ home v waits.
     let a = c.args.self.now in
     let n = c.args.name in
     absurd (gone_waits a n.key c.in-Some.tombstone c.in-Some.ensures home v (subst (λ (b : Tombs). Awaits (known_at (tomb_places b.items) n.key) home v) c.set.ensures waits))
 
-pub returns-else-stands-clause-gone : goal.returns-else-stands-clause-gone
-returns-else-stands-clause-gone c =
+pub returns-else-is_dead-clause-gone : goal.returns-else-is_dead-clause-gone
+returns-else-is_dead-clause-gone c =
     let a = c.args.self.now in
     let n = c.args.name in
     let is = known_found a.items n.key (Some c.in-Some.tombstone) c.in-Some.ensures in
-    same_turns a n.key (option_map (without n.version) (known_at (tomb_places a.items) n.key)) (is ∙ sym (c.stands.ensures.none c.if-stands.false) ∙ ap (option_map (without n.version)) (sym is))
+    same_turns a n.key (option_map (without n.version) (known_at (tomb_places a.items) n.key)) (is ∙ sym (c.is_dead.ensures.none c.if-is_dead.false) ∙ ap (option_map (without n.version)) (sym is))
 
-pub returns-then-stands-clause-untold : goal.returns-then-stands-clause-untold
-returns-then-stands-clause-untold c =
+pub returns-then-is_dead-clause-untold : goal.returns-then-is_dead-clause-untold
+returns-then-is_dead-clause-untold c =
     let now = ap (λ (b : Tombs). all_untold (tomb_places b.items)) c.set.ensures in
     let fewer = fated_untold c.args.self.now.items c.args.name.key Gone gone_tells in
     omega (arith, now, fewer)
