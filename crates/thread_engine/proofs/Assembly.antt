@@ -190,7 +190,14 @@ module _ {P : Type 0} (state : P → State) (refused : Bool) (s : State) (word :
         -- core c's end, its worker, its piece, and its steps
         abbrev Full : ℕ → CoreEnd refused → Type 0
         Full c y = IsEnd o r refused t shown given c y × (slice_get back.workers.items c ≡ Some y.last.worker) × ((q : P) × (slice_get back.pieces.items c ≡ Some q) × (state q ≡ y.last.region))
-            × (steps_of (order (group_of l c)) (member_of l c) ≡ y.last.trail.steps) × (A.rest ≡ [] → y.later ≡ [])
+            × (steps_of (order (group_of l c)) (member_of l c) ≡ y.last.trail.steps)
+
+        -- where one doesn't wind down, all were dealt
+        all_there : (c : ℕ) (y : Worker) → slice_get back.workers.items c ≡ Some y → y.winds_down ≡ false → A.rest ≡ []
+        all_there c y at on = by in_all refl where
+          by : (b : Bool) → in_all ≡ b → A.rest ≡ []
+          by true e = A.whole e
+          by false e = absurd (let both : true ≡ false = sym (A.wound e c y at) ∙ on in cc both)
 
         ended : (c : ℕ) → c < l.cores → (y : CoreEnd refused) × Full c y
         ended c low =
@@ -203,8 +210,8 @@ module _ {P : Type 0} (state : P → State) (refused : Bool) (s : State) (word :
             let loads = subst (λ (w : Group). LoadsLook (view_of w (member_of l c)) (trail_at O.4.own)) (S.manned.opened_on (group_of l c) b.0 b.1) made.1 in
             let taken : TakesPiece t (state O.3) = subst (λ (y : P). TakesPiece t (state y)) (get_index back.pieces.items c O.3 O.3 O.9) (takes c O.3 (get_low back.pieces.items c O.3 O.9)) in
             let end = core_end state refused o r is_layout given tables x.crew pieces x.cuts.items S.manned table_count S.workers.each (seat_there s word r o F B x.crew.workers.items S.seated worker_count) (start_there s word r o F B) A.dealt A.rest A.split piece_count piece_at cuts_are
-            c low O.0 O.1 O.2 O.6 O.7 O.8 t shown O.3 O.4 O.5 O.12 taken view loads in
-            (end.0, (end.1, O.11, (O.3, O.9, refl), made.0, λ none. ap (dealt_from l.cores c (length A.dealt)) none))
+            c low O.0 O.1 O.2 O.6 O.7 O.8 t shown O.3 O.4 O.5 O.12 taken view loads (all_there c O.5 O.11) in
+            (end.0, (end.1, O.11, (O.3, O.9, refl), made.0))
 
         chosen_by : (c : ℕ) (b : Bool) → nat_lt c l.cores ≡ b → Option (CoreEnd refused)
         chosen_by c true e = Some (ended c (ltb-true c l.cores e)).0
@@ -239,4 +246,4 @@ module _ {P : Type 0} (state : P → State) (refused : Bool) (s : State) (word :
               (region_superblock s word r o F B x.cuts.items cuts_are mid t D J) (λ c low. (full c low).2.0.piece.piece.faults)
               (next_joined s mid t x.cuts.items D J state back.pieces.items l.cores (λ c low. (full c low).0.last.region) N (A.pieces_count ∙ piece_count)
               (λ c low q at. (let f = (full c low).2.2 in ap state (one_of q f.0 (sym at ∙ f.1)) ∙ f.2)))
-              report in_all end refusal moment at_cut order (λ c low. (full c low).2.3) order_shown (λ is c low. A.memory is c (full c low).0.last.worker (full c low).2.1) (λ is c low. (full c low).2.4 (A.whole is))
+              report in_all end refusal moment at_cut order (λ c low. (full c low).2.3) order_shown (λ is c low. A.memory is c (full c low).0.last.worker (full c low).2.1)

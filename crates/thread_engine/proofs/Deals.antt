@@ -12,17 +12,17 @@ use Rattle.thread_engine.specs.declared.core_job.CoreJob.{CoreJob}
 use Rattle.thread_engine.specs.Windows.{dealt_from, IsDealt, AreDealt}
 
 -- a place that is set, and another one
-set_count : {X : Type 0} (ys : List X) (i : ℕ) (x : X) → length (slice_set ys i x) ≡ length ys
+pub set_count : {X : Type 0} (ys : List X) (i : ℕ) (x : X) → length (slice_set ys i x) ≡ length ys
 set_count [] i x = refl
 set_count (y ∷ ys) zero x = refl
 set_count (y ∷ ys) (suc i) x = (let r = set_count ys i x in omega (arith, r))
 
-set_here : {X : Type 0} (ys : List X) (i : ℕ) (x d : X) → i < length ys → slice_index_or (slice_set ys i x) i d ≡ x
+pub set_here : {X : Type 0} (ys : List X) (i : ℕ) (x d : X) → i < length ys → slice_index_or (slice_set ys i x) i d ≡ x
 set_here [] i x d low = absurd (omega (arith, low))
 set_here (y ∷ ys) zero x d low = refl
 set_here (y ∷ ys) (suc i) x d low = set_here ys i x d (omega (arith, low))
 
-set_other : {X : Type 0} (ys : List X) (i c : ℕ) (x d : X) → c ≢ i → slice_index_or (slice_set ys i x) c d ≡ slice_index_or ys c d
+pub set_other : {X : Type 0} (ys : List X) (i c : ℕ) (x d : X) → c ≢ i → slice_index_or (slice_set ys i x) c d ≡ slice_index_or ys c d
 set_other [] i c x d ne = refl
 set_other (y ∷ ys) zero zero x d ne = absurd (ne refl)
 set_other (y ∷ ys) zero (suc c) x d ne = refl

@@ -140,6 +140,7 @@ pub record IsEnd (o : Origin) (r : Recovered) (refused : Bool) (t : State) (grou
   pub piece : IsPieceOf x.seat.place x.seat.number o.region x.first.region
   pub queue : x.first.queue ≡ []
   pub dealt : joined_in x.seat refused x.first x.last x.works ++ x.later ≡ requests_to (layout_of o.found) c given
+  pub whole : x.last.worker.winds_down ≡ false → x.later ≡ []
   pub kept : given_in x.seat refused x.first x.last x.works ≡ []
   pub at_work : IsAtWork x.seat x.first
   pub idle : x.first.trail.steps ≡ []
@@ -396,6 +397,7 @@ module _ (chain : ChainLaw) (keys_open : OpeningKeys) (doubts_open : OpeningDoub
     ended = Y.ended;
     later = y.later;
     dealt = Y.dealt;
+    whole = Y.whole;
     loads = Y.loads;
     shown = Y.shown;
     places = λ k own. ap (λ (d : ℕ). (hands_in (ends d)).place k) own ∙ ap (λ d. (hands_in d).place k) (at c low);
@@ -531,9 +533,9 @@ module _ (chain : ChainLaw) (keys_open : OpeningKeys) (doubts_open : OpeningDoub
         clash true refl (sym (sym (X (g * l.group + h) low').shown.holds ∙ there) ∙ (rested (g * l.group + h) low').holds)
 
   -- With memory everything is answered and nothing is under way.
-  module _ (works : (c : ℕ) (low : c < l.cores) → (x c low).last.worker.winds_down ≡ false) (all_dealt : (c : ℕ) (low : c < l.cores) → (x c low).later ≡ []) where
+  module _ (works : (c : ℕ) (low : c < l.cores) → (x c low).last.worker.winds_down ≡ false) where
     none_waits : (c : ℕ) (low : c < l.cores) → (x c low).last.queue ++ (x c low).later ≡ []
-    none_waits c low = (λ i. (rested c low).queue (works c low) i ++ all_dealt c low i)
+    none_waits c low = (λ i. (rested c low).queue (works c low) i ++ (X c low).whole (works c low) i)
 
     rest_none : (k : ℕ) → rest k ≡ []
     rest_none k =
@@ -690,7 +692,7 @@ module _ (chain : ChainLaw) (keys_open : OpeningKeys) (doubts_open : OpeningDoub
         (report : IsReport kept (report_in out)) (in_all : Bool) (end : out.end ≡ end_by in_all (any_stopped workers)) (refusal : RefusalLaw) (moment : MomentLaw) (at_cut : CutLaw) (order : ℕ → List (ℕ × TrailStep))
         (made : (c : ℕ) (low : c < l.cores) → steps_of (order (group_of l c)) (member_of l c) ≡ (x c low).last.trail.steps)
         (order_shown : (g : ℕ) → g < groups_in l → (late early : List (ℕ × TrailStep)) → order g ≡ late ++ early → (w : Group) × IsShown (place_at l g) o.found early w)
-        (memory : in_all ≡ true → (c : ℕ) (low : c < l.cores) → (x c low).last.worker.winds_down ≡ false) (all_dealt : in_all ≡ true → (c : ℕ) (low : c < l.cores) → (x c low).later ≡ []) where
+        (memory : in_all ≡ true → (c : ℕ) (low : c < l.cores) → (x c low).last.worker.winds_down ≡ false) where
       with_memory : out.end ≢ closings.Memory → in_all ≡ true
       with_memory not_memory = had_memory in_all (any_stopped workers) (λ is. not_memory (end ∙ is))
 
@@ -736,7 +738,7 @@ module _ (chain : ChainLaw) (keys_open : OpeningKeys) (doubts_open : OpeningDoub
         report = report;
         reports = reports_by t o e kept (report_in out) promised (all_long workers t.stamp blanks ∙ places_are) shows refl report;
         promised = promised;
-        done = λ not_memory. is_done (memory (with_memory not_memory)) (all_dealt (with_memory not_memory)) promised;
+        done = λ not_memory. is_done (memory (with_memory not_memory)) promised;
         ceased = λ memory. ceased;
         fault = has_stopped;
         complete = goes_on;

@@ -23,7 +23,9 @@ mod Places
 mod Manning
 mod Mustering
 mod Deals
+mod Changes
 mod WindowWork
+mod WindingDown
 mod Supplying
 mod Went
 mod RunEnds

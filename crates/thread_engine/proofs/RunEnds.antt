@@ -1,5 +1,5 @@
 -- Each core at the end of a run, by what was supplied, what the split gave, what came back, and the tables as they were closed.
-use Rattle.std.proofs.Common.{◌≡◌, ℕ, zero, suc, ◌+◌, ◌*◌, ◌<◌, ◌==◌, Bool, List, [], ◌∷◌, ◌++◌, length, Some, refl, sym, ◌∙◌, ap, subst, arith, append-nil}
+use Rattle.std.proofs.Common.{◌≡◌, ℕ, zero, suc, ◌+◌, ◌*◌, ◌<◌, ◌==◌, Bool, false, List, [], ◌∷◌, ◌++◌, length, Some, refl, sym, ◌∙◌, ap, subst, arith, append-nil}
 use Rattle.std.specs.List.{slice_get, enumerate_from}
 use Rattle.std.proofs.lemmas.Bool.{eqb-true}
 use Rattle.std.proofs.lemmas.Nat.{div-add-mod'}
@@ -179,7 +179,7 @@ module _ {P : Type 0} (state : P → State) (refused : Bool) (o : Origin) (r : R
 
     -- and at the end
     module _ (s : State) (group : ℕ → Group) (b : P) (u : SeatToken) (y : Worker) (G : Went state refused p t w (dealt_from (length pieces) c 0 dealt) b u y) (joined : TakesPiece s (state b)) (shown : HasView (group (group_of l c)) (member_of l c) (view_at u.own))
-        (loads : LoadsLook (view_of (opened (place_at l (group_of l c)) o.found) (member_of l c)) (trail_at u.own)) where
+        (loads : LoadsLook (view_of (opened (place_at l (group_of l c)) o.found) (member_of l c)) (trail_at u.own)) (whole : y.winds_down ≡ false → rest ≡ []) where
       -- the requests of its keys
       pub all_dealt : {joined : List (ℕ × Request)} → joined ≡ dealt_from (length pieces) c 0 dealt → joined ++ dealt_from l.cores c (length dealt) rest ≡ requests_to l c given
       all_dealt e =
@@ -207,6 +207,7 @@ module _ {P : Type 0} (state : P → State) (refused : Bool) (o : Origin) (r : R
           piece = piece_is;
           queue = refl;
           dealt = all_dealt G.works.joins;
+          whole = λ on. ap (dealt_from l.cores c (length dealt)) (whole on);
           kept = G.works.gives;
           at_work = first_works;
           idle = idle_trail t.own.seat.me.0 (manned.idle (group_of l c) (member_of l c) table.0 t table.1 (member_low l is_layout c) t_there);

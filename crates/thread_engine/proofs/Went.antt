@@ -119,6 +119,9 @@ module _ {P : Type 0} (state : P → State) (pieces : List P) (crew : Crew) (job
           memory = λ is c y at_y.
               let Z = map_get (λ (j : Job). j.worker) new c y (ap (λ l. slice_get l c) (sym G.workers) ∙ at_y) in
               ap (λ (v : Worker). v.winds_down) Z.2 ∙ sym (ap (λ (j : Job). j.worker.winds_down) (get_index new c Z.0 Z.0 Z.1)) ∙ W.memory is c Z.0 (get_low new c Z.0 Z.1);
+          wound = λ is c y at_y.
+              let Z = map_get (λ (j : Job). j.worker) new c y (ap (λ l. slice_get l c) (sym G.workers) ∙ at_y) in
+              ap (λ (v : Worker). v.winds_down) Z.2 ∙ sym (ap (λ (j : Job). j.worker.winds_down) (get_index new c Z.0 Z.0 Z.1)) ∙ W.wound is c Z.0 (get_low new c Z.0 Z.1);
           pieces_count = ap length G.pieces ∙ map_long (λ (j : Job). j.piece) new ∙ long ∙ sym pieces_long;
           tokens_count = sym (map_long (λ (s : SeatToken). s.own) r.tokens.items) ∙ ap length G.seats ∙ map_long (λ (j : Job). j.seat.own) new ∙ long ∙ sym pieces_long;
           workers_count = ap length G.workers ∙ map_long (λ (j : Job). j.worker) new ∙ long ∙ sym pieces_long;

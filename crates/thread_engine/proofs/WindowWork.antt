@@ -96,6 +96,10 @@ module _ {B P : Type 0} (seat : B → SeatAt) (sight : B → Sight) (state : P �
         (went_on (dealt_from (length a) c n xs) (dealt_from (length a) c (n + length xs) ys) (slice_index_or a c d) (slice_index_or b c d) (slice_index_or e c d) (D.each c d low) later);
   }
 
+  -- a window more
+  pub window_more : (n : ℕ) (xs ys : List Request) (a b e : List Job) → length xs ≡ n → AllWentOn seat sight state refused 0 xs a b → AllWentOn seat sight state refused n ys b e → AllWentOn seat sight state refused 0 (xs ++ ys) a e
+  window_more n xs ys a b e long D E = more_went 0 xs ys a b e D (subst (λ m. AllWentOn seat sight state refused m ys b e) (let z : n ≡ 0 + length xs = omega (arith, long) in z) E)
+
   -- so far they are at work
   pub at_work_on : (n : ℕ) (xs : List Request) (a b : List Job) → AreAtWork seat sight state a → AllWentOn seat sight state refused n xs a b → AreAtWork seat sight state b
   at_work_on n xs a b A G = record {

@@ -1,5 +1,5 @@
 -- A run on threads, core by core: each core's chain of moves, and the state in which all of them end.
-use Rattle.std.specs.Prelude.{◌≡◌, ℕ, ◌<◌, ◌==◌, List, [], ◌∷◌, ◌++◌, filter, Bool, true, Some}
+use Rattle.std.specs.Prelude.{◌≡◌, ℕ, ◌<◌, ◌==◌, List, [], ◌∷◌, ◌++◌, filter, Bool, true, false, Some}
 use Rattle.std.specs.List.{slice_get, enumerate_from}
 use Rattle.fs_model.specs.declared.model.Request.{Request}
 use Rattle.fs_model.specs.Cells.{key_of}
@@ -88,7 +88,7 @@ LoadsLook v (x ∷ xs) = (is_load x.kind ≡ true
     → x.view ≡ record (view_after v xs) { looked = x.view.looked })
     × LoadsLook v xs
 
--- Core c's run: its worker is the one that opens on what recovery gave for it, in the core's piece of the region, with no request before it; a chain of moves leads to its end, in which the requests of its keys join in their order, but for those that come later; and the run's last state has what the core has then.
+-- Core c's run: its worker is the one that opens on what recovery gave for it, in the core's piece of the region, with no request before it; a chain of moves leads to its end, in which the requests of its keys join in their order, all of them unless its worker winds down; and the run's last state has what the core has then.
 pub record CoreRun (o : Origin) (r : Recovered) (refused : Bool) (e : Engine) (c : ℕ) : Type 0 where
   pub seat : SeatAt
   pub place : seat.place ≡ place_at e.layout (group_of e.layout c)
@@ -110,6 +110,7 @@ pub record CoreRun (o : Origin) (r : Recovered) (refused : Bool) (e : Engine) (c
   pub ended : HasEnded last
   pub later : List (ℕ × Request)
   pub dealt : joined_in seat refused first last works ++ later ≡ requests_to e.layout c e.given
+  pub whole : last.worker.winds_down ≡ false → later ≡ []
   pub loads : LoadsLook first.view last.trail.steps
   -- the last state
   pub shown : HasView (e.group (group_of e.layout c)) (member_of e.layout c) last.view

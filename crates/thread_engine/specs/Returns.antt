@@ -76,7 +76,7 @@ pub record Went {P : Type 0} (state : P → State) (refused : Bool) (p : P) (t :
       (core_stands state q u x left)
   pub ended : HasEnded (core_stands state q u x left)
 
--- All did, and gave back what they have. The first of a run's requests were dealt to the owners of their keys; where there was memory, all of them.
+-- All did, and gave back what they have. The first of a run's requests were dealt to the owners of their keys; where there was memory, all of them, and else every worker winds down.
 pub record AllWent {P : Type 0} (state : P → State) (refused : Bool) (pieces : List P) (crew : Crew)
     (given : List Request) (all : Bool) (x : Returned P) : Type 0 where
   pub dealt : List Request
@@ -85,6 +85,8 @@ pub record AllWent {P : Type 0} (state : P → State) (refused : Bool) (pieces :
   pub whole : all ≡ true → rest ≡ []
   pub memory : all ≡ true → (c : ℕ) (y : Worker) → slice_get x.workers.items c ≡ Some y
       → y.winds_down ≡ false
+  pub wound : all ≡ false → (c : ℕ) (y : Worker) → slice_get x.workers.items c ≡ Some y
+      → y.winds_down ≡ true
   pub pieces_count : length x.pieces.items ≡ length pieces
   pub tokens_count : length x.tokens.items ≡ length pieces
   pub workers_count : length x.workers.items ≡ length pieces

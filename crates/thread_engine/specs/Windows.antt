@@ -13,6 +13,11 @@ use Rattle.thread_engine.specs.WorkStates.{Sight, IsAtWork, WorksOn, HasEnded, s
 abbrev pub dealt_from : ℕ → ℕ → ℕ → List Request → List (ℕ × Request)
 dealt_from cores c n xs = filter (λ x. (key_of x.1 % cores) == c) (enumerate_from n xs)
 
+-- As many as before, and each changed so.
+pub record EachChanges {X : Type 0} (R : X → X → Type 0) (old new : List X) : Type 0 where
+  pub count : length new ≡ length old
+  pub each : (i : ℕ) (d : X) → i < length old → R (slice_index_or old i d) (slice_index_or new i d)
+
 -- These requests joined those that wait for the core, and nothing else changed.
 pub record IsDealt {B P : Type 0} (more : List (ℕ × Request)) (old new : CoreJob B P) : Type 0 where
   pub seat : new.seat ≡ old.seat
@@ -82,6 +87,17 @@ abbrev pub HaveMemory : {B P : Type 0} → List (CoreJob B P) → Type 0
 HaveMemory {B} {P} jobs = (c : ℕ) (d : CoreJob B P) → c < length jobs
     → (slice_index_or jobs c d).worker.winds_down ≡ false
 
+-- all workers wind down
+abbrev pub WindDown : {B P : Type 0} → List (CoreJob B P) → Type 0
+WindDown {B} {P} jobs = (c : ℕ) (d : CoreJob B P) → c < length jobs
+    → (slice_index_or jobs c d).worker.winds_down ≡ true
+
+-- Its worker was told to wind down. Nothing else changed, and its core is at work.
+pub record Winds {B P : Type 0} (seat : B → SeatAt) (sight : B → Sight) (state : P → State)
+    (old new : CoreJob B P) : Type 0 where
+  pub winds : new ≡ record old { worker = record old.worker { winds_down = true } }
+  pub work : IsAtWork (seat old.seat) (stands_at sight state new)
+
 -- The first of the requests that were to come were dealt, numbered from n, and worked off to the cores' ends.
 pub record WorksOffSome {B P : Type 0} (seat : B → SeatAt) (sight : B → Sight) (state : P → State)
     (refused : Bool) (n : ℕ) (left : List Request) (old new : List (CoreJob B P)) : Type 0 where
@@ -102,7 +118,7 @@ pub record WorksOffTo {B P : Type 0} (seat : B → SeatAt) (sight : B → Sight)
   pub ended : HaveEnded sight state new
   pub memory : HaveMemory new
 
--- The first of a run's requests were dealt and worked off to the cores' ends; where there was memory, all of them.
+-- The first of a run's requests were dealt and worked off to the cores' ends; where there was memory, all of them, and else every worker winds down.
 pub record WorksThrough {B P : Type 0} (seat : B → SeatAt) (sight : B → Sight) (state : P → State)
     (refused : Bool) (given : List Request) (all : Bool)
     (old new : List (CoreJob B P)) : Type 0 where
@@ -113,3 +129,4 @@ pub record WorksThrough {B P : Type 0} (seat : B → SeatAt) (sight : B → Sigh
   pub ended : HaveEnded sight state new
   pub whole : all ≡ true → rest ≡ []
   pub memory : all ≡ true → HaveMemory new
+  pub wound : all ≡ false → WindDown new

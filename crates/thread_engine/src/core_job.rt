@@ -107,10 +107,12 @@ impl<B: Board, P: Region> CoreJob<B, P> {
         }
     }
 
-    // Lets the worker wind down.
-    fn wind_down(&mut self)
+    /// Lets the worker wind down.
+    pub fn wind_down(&mut self)
         requires { IsAtWork (B.seat self.old.seat)
             (stands_at (sight_by B.view B.trail B.at) P.state self.old) }
+        ensures winds { self.new
+            ≡ record self.old { worker = record self.old.worker { winds_down = true } } }
         ensures seat { self.new.seat ≡ self.old.seat }
         ensures work { IsAtWork (B.seat self.old.seat)
             (stands_at (sight_by B.view B.trail B.at) P.state self.new) }

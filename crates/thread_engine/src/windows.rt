@@ -1,8 +1,9 @@
 // The requests of a run, dealt window by window to the cores that own their keys, and worked off.
-ghost use Rattle.std.specs.Prelude.{◌≡◌, ℕ, ◌+◌, ◌<◌, ◌≤◌, ◌∷◌, [], length, true, OnOk, OnErr};
+ghost use Rattle.std.specs.Prelude.{◌≡◌, ℕ, ◌+◌, ◌<◌, ◌≤◌, ◌∷◌, [], length, slice_index_or, true, OnOk, OnErr};
 ghost use Rattle.std.specs.List.{list_any};
-ghost use Rattle.thread_engine.specs.WorkStates.{sight_by};
-ghost use Rattle.thread_engine.specs.Windows.{AreDealt, DealsSome, DealsTo, AreAtWork, WorksOffSome, WorksOffTo, WorksThrough};
+ghost use Rattle.thread_engine.specs.declared.core_job.CoreJob as data_of;
+ghost use Rattle.thread_engine.specs.WorkStates.{IsAtWork, sight_by, stands_at};
+ghost use Rattle.thread_engine.specs.Windows.{AreDealt, DealsSome, DealsTo, AreAtWork, EachChanges, Winds, WorksOffSome, WorksOffTo, WorksThrough};
 
 use crate::core_job::CoreJob;
 use crate::crew::work_all;
@@ -62,6 +63,19 @@ fn is_short<B, P>(jobs: &[CoreJob<B, P>]) -> bool
     jobs.iter().any(|job| job.worker.winding_down())
 }
 
+// Lets all workers wind down.
+fn wind_all_down<B: Board, P: Region>(jobs: &mut [CoreJob<B, P>])
+    requires { (c : ℕ) (d : data_of.CoreJob B P) → c < length jobs.old
+        → IsAtWork (B.seat (slice_index_or jobs.old c d).seat)
+        (stands_at (sight_by B.view B.trail B.at) P.state (slice_index_or jobs.old c d)) }
+    ensures { EachChanges (Winds B.seat (sight_by B.view B.trail B.at) P.state)
+        jobs.old jobs.new }
+{
+    for job in jobs.iter_mut() {
+        job.wind_down();
+    }
+}
+
 // Deals the requests of a window, which are those before number `to`, and lets all cores work them off. Answers whether
 // there was memory for all.
 fn work_window<
@@ -82,6 +96,7 @@ fn work_window<
     requires some { 0 < length jobs.old }
     requires work { AreAtWork B.seat (sight_by B.view B.trail B.at) P.state jobs.old }
     requires order { from ≤ to }
+    requires few { to ≤ from + WINDOW }
     requires within { to ≤ from + length (Q.left requests.old) }
     ensures some_ { WorksOffSome B.seat (sight_by B.view B.trail B.at) P.state
         (G.may_refuse gate.now) from (Q.left requests.old) jobs.old jobs.new }
@@ -98,6 +113,8 @@ fn work_window<
 fn window_end(from: u64, count: u64) -> u64
     requires { from ≤ count }
     ensures after { from ≤ result }
+    ensures moves { from < count → from < result }
+    ensures few { result ≤ from + WINDOW }
     ensures within { result ≤ count }
 {
     if count - from < WINDOW {
@@ -108,7 +125,7 @@ fn window_end(from: u64, count: u64) -> u64
 }
 
 /// Lets all cores work the requests off, window by window. Answers whether there was memory for all of them. Where
-/// there was not, what was posted or taken is finished, and nothing more is begun.
+/// there was not, what was posted or taken is finished, nothing more is begun, and every worker winds down.
 pub fn work_windows<
     T: Threads + Wait + Sync,
     B: Board + Send,
@@ -126,6 +143,7 @@ pub fn work_windows<
     for _ in rt.forever() {
         let to = window_end(from, count);
         if !work_window(rt, alloc, requests, jobs, gate, from, to) {
+            wind_all_down(jobs);
             return false;
         }
         if to == count {
