@@ -4,7 +4,7 @@ use Rattle.crossbeam_queue.specs.Passes.{Pass}
 use Rattle.core_worker.specs.declared.types.Answer.{Answer}
 use Rattle.answer_queue.specs.declared.window_sizes.TheConstants.{PARTS}
 use Rattle.answer_queue.specs.declared.account.Account.{Account}
-use Rattle.answer_queue.specs.declared.queue.AnswerQueue.{AnswerQueue}
+use Rattle.answer_queue.specs.declared.answer_queue.AnswerQueue.{AnswerQueue}
 use Rattle.answer_queue.specs.Accounts.{AreAmong, without_all, without_numbers, with_numbers, after_puts, joined, granted}
 use Rattle.answer_queue.specs.Queues.{account_of}
 use Rattle.answer_queue.proofs.Clients.{leaves_all, times_append}

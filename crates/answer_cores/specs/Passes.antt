@@ -7,7 +7,7 @@ use Rattle.fs_model.specs.declared.model.Request.{Request}
 use Rattle.core_worker.specs.declared.types.Answer.{Answer}
 use Rattle.answer_queue.specs.declared.window_sizes.TheConstants.{PARTS}
 use Rattle.answer_queue.specs.declared.account.Account.{Account}
-use Rattle.answer_queue.specs.declared.queue.AnswerQueue.{AnswerQueue}
+use Rattle.answer_queue.specs.declared.answer_queue.AnswerQueue.{AnswerQueue}
 use Rattle.answer_queue.specs.Accounts.{with_numbers, without_numbers, after_puts, joined}
 use Rattle.answer_queue.specs.Queues.{IsOf, account_of}
 

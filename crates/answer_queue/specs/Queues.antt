@@ -2,7 +2,7 @@
 use Rattle.crossbeam_queue.specs.Passes.{Pass, view, IsPassOf}
 use Rattle.core_worker.specs.declared.types.Answer.{Answer}
 use Rattle.answer_queue.specs.declared.account.Account.{Account}
-use Rattle.answer_queue.specs.declared.queue.AnswerQueue.{AnswerQueue}
+use Rattle.answer_queue.specs.declared.answer_queue.AnswerQueue.{AnswerQueue}
 
 -- it is a pass of this queue
 abbrev pub IsOf : AnswerQueue → Pass Answer Account → Type 0

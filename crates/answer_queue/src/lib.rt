@@ -3,12 +3,12 @@
 #![tactic(auto)]
 
 mod account;
-mod queue;
+mod answer_queue;
 mod queue_calls;
 mod taking;
 mod window_sizes;
 
 pub use account::{Account, Numbers};
-pub use queue::{AnswerPass, AnswerQueue};
+pub use answer_queue::{AnswerPass, AnswerQueue};
 pub use taking::take_all;
 pub use window_sizes::{PARTS, WINDOW};

@@ -5,7 +5,7 @@ ghost use Rattle.answer_queue.specs.Accounts.{AreDistinct, times, AreAmong, gran
 ghost use Rattle.answer_queue.specs.Queues.{IsOf, account_of};
 
 use crate::account::{Account, Deals, Grants, Joins, Kept, Numbers, Puts, Takes};
-use crate::queue::{AnswerPass, AnswerQueue};
+use crate::answer_queue::{AnswerPass, AnswerQueue};
 use crate::window_sizes::WINDOW;
 use core_worker::Answer;
 use crossbeam_queue::RuledArrayQueue;

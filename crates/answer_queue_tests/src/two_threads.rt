@@ -1,7 +1,8 @@
 // Two threads put, and the caller takes.
 ghost use Rattle.std.specs.Prelude.{◌≡◌, ◌<◌, ◌≤◌, ◌+◌, ◌++◌, [], length, IfOk, IsPermutation};
-ghost use Rattle.answer_queue.specs.Accounts.{AreAmong, AreDistinct, numbers, with_numbers, after_puts};
+ghost use Rattle.answer_queue.specs.Accounts.{AreAmong, AreDistinct, numbers, after_puts};
 ghost use Rattle.answer_queue.specs.Queues.{IsOf, account_of};
+ghost use Rattle.answer_queue_tests.specs.Putting.{MayPut, HasPut};
 
 use answer_queue::{AnswerPass, AnswerQueue, WINDOW, take_all};
 use core_worker::Answer;
@@ -53,14 +54,12 @@ pub fn exchange<R: Threads + Wait + Sync>(
     let (one, two) = thread::join(
         rt,
         move || -> AnswerPass
-            requires { IsOf shared.now one × (account_of one ≡ with_numbers (numbers first.items)) }
-            ensures { IsOf shared.entry.now result
-                × (account_of result ≡ after_puts (with_numbers (numbers first.items)) first.items) }
+            requires { MayPut shared.now first.items one }
+            ensures { HasPut shared.entry.now first.items result }
         { put_all(rt, shared, one, first) },
         move || -> AnswerPass
-            requires { IsOf shared.now two × (account_of two ≡ with_numbers (numbers second.items)) }
-            ensures { IsOf shared.entry.now result
-                × (account_of result ≡ after_puts (with_numbers (numbers second.items)) second.items) }
+            requires { MayPut shared.now second.items two }
+            ensures { HasPut shared.entry.now second.items result }
         { put_all(rt, shared, two, second) },
     );
     queue.absorb(&mut pass, one);

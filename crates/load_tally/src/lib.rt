@@ -1,8 +1,8 @@
 //! What a load counts: its replies, window by window, and the live pairs of the region afterwards.
 #![tactic(auto)]
 
-mod counting;
+mod tallying;
 #[cfg(test)]
-mod counting_tests;
+mod tallying_tests;
 
-pub use counting::{add_pairs, add_replies, nothing};
+pub use tallying::{add_pairs, add_replies, nothing};

@@ -1,5 +1,5 @@
 use Rattle.std.proofs.Common.{[], ◌++◌}
-use Rattle.load_tally.proofs.counting_tests.tallied.Goals as goal
+use Rattle.load_tally.proofs.tallying_tests.tallied.Goals as goal
 
 pub add_replies-requires-2 : goal.add_replies-requires-2
 add_replies-requires-2 c = (c.args.front.now, c.add_replies.ensures [] c.nothing-tally.ensures, c.requires)
