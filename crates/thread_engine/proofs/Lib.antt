@@ -19,6 +19,7 @@ mod CutKeys
 mod CutOrders
 mod LastState
 mod KeptAnswers
+mod WindowAnswers
 mod Places
 mod Manning
 mod Mustering

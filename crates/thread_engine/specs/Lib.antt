@@ -2,6 +2,7 @@ pub mod WorkStates
 pub mod WorkLaws
 pub mod Pieces
 pub mod CoreRuns
+pub mod WindowLaws
 pub mod Cuts
 pub mod RanApart
 pub mod Manned

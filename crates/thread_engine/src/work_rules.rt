@@ -1,5 +1,5 @@
 // The laws of a core's work.
-ghost use Rattle.std.specs.Prelude.{◌≡◌, ℕ, Bool};
+ghost use Rattle.std.specs.Prelude.{◌≡◌, ℕ, Bool, false};
 ghost use Rattle.pm_region.specs.State.{State, IsTelling, cell_now};
 ghost use Rattle.pm_region.specs.Split.{TakesPiece};
 ghost use Rattle.group_laws.specs.Places.{Place};
@@ -12,6 +12,7 @@ ghost use Rattle.group_board.specs.Seats.{SeatAt};
 ghost use Rattle.thread_engine.specs.WorkStates.{WorkState, IsAtWork, Works, HasEnded, joined_in, given_in};
 ghost use Rattle.thread_engine.specs.WorkLaws.{KeepsDoubts, WorksOff, HasRested};
 ghost use Rattle.thread_engine.specs.CoreRuns.{fixed_in};
+ghost use Rattle.thread_engine.specs.WindowLaws.{AnswersOnce};
 
 use engine_laws::engine_rules;
 
@@ -32,6 +33,17 @@ pub fn every_chain()
 pub fn every_end()
     ensures { (seat : SeatAt) (x : WorkState) → IsAtWork seat x → HasEnded x → HasRested seat x }
 {}
+
+/// A window, which is a chain from one end of a core to another: each request that joined in it is answered once, unless
+/// its worker winds down, and no other is.
+pub fn every_window()
+    ensures { (seat : SeatAt) (refused : Bool) (a b : WorkState)
+        → IsAtWork seat a → KeepsDoubts seat a.view
+        → HasEnded a → a.worker.winds_down ≡ false → HasEnded b
+        → (w : Works seat refused a b) → AnswersOnce seat refused a b w }
+{
+    every_chain();
+}
 
 /// A worker that is tied to a region is so to its piece.
 pub fn every_piece()
