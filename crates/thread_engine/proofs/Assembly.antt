@@ -246,4 +246,4 @@ module _ {P : Type 0} (state : P → State) (refused : Bool) (s : State) (word :
               (region_superblock s word r o F B x.cuts.items cuts_are mid t D J) (λ c low. (full c low).2.0.piece.piece.faults)
               (next_joined s mid t x.cuts.items D J state back.pieces.items l.cores (λ c low. (full c low).0.last.region) N (A.pieces_count ∙ piece_count)
               (λ c low q at. (let f = (full c low).2.2 in ap state (one_of q f.0 (sym at ∙ f.1)) ∙ f.2)))
-              report in_all end refusal moment at_cut order (λ c low. (full c low).2.3) order_shown (λ is c low. A.memory is c (full c low).0.last.worker (full c low).2.1)
+              report in_all end refusal moment at_cut order (λ c low. (full c low).2.3) order_shown (λ is c low. A.memory is c (full c low).0.last.worker (full c low).2.1) (λ is c low. A.wound is c (full c low).0.last.worker (full c low).2.1)

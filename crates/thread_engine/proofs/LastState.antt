@@ -189,6 +189,11 @@ had_memory : (a b : Bool) → (end_by a b ≡ closings.Memory → ⊥) → a ≡
 had_memory true b no_ = refl
 had_memory false b no_ = absurd (no_ refl)
 
+lacked : (a b : Bool) → end_by a b ≡ closings.Memory → a ≡ false
+lacked true true e = absurd (cc e)
+lacked true false e = absurd (cc e)
+lacked false b e = refl
+
 -- the front of rising numbers, and no numbers
 up_front : (xs ys : List (ℕ × Request)) → IsUp (xs ++ ys) → IsUp xs
 up_front [] ys u = tt
@@ -692,7 +697,8 @@ module _ (chain : ChainLaw) (keys_open : OpeningKeys) (doubts_open : OpeningDoub
         (report : IsReport kept (report_in out)) (in_all : Bool) (end : out.end ≡ end_by in_all (any_stopped workers)) (refusal : RefusalLaw) (moment : MomentLaw) (at_cut : CutLaw) (order : ℕ → List (ℕ × TrailStep))
         (made : (c : ℕ) (low : c < l.cores) → steps_of (order (group_of l c)) (member_of l c) ≡ (x c low).last.trail.steps)
         (order_shown : (g : ℕ) → g < groups_in l → (late early : List (ℕ × TrailStep)) → order g ≡ late ++ early → (w : Group) × IsShown (place_at l g) o.found early w)
-        (memory : in_all ≡ true → (c : ℕ) (low : c < l.cores) → (x c low).last.worker.winds_down ≡ false) where
+        (memory : in_all ≡ true → (c : ℕ) (low : c < l.cores) → (x c low).last.worker.winds_down ≡ false)
+        (short : in_all ≡ false → (c : ℕ) (low : c < l.cores) → (x c low).last.worker.winds_down ≡ true) where
       with_memory : out.end ≢ closings.Memory → in_all ≡ true
       with_memory not_memory = had_memory in_all (any_stopped workers) (λ is. not_memory (end ∙ is))
 
@@ -740,6 +746,8 @@ module _ (chain : ChainLaw) (keys_open : OpeningKeys) (doubts_open : OpeningDoub
         promised = promised;
         done = λ not_memory. is_done (memory (with_memory not_memory)) promised;
         ceased = λ memory. ceased;
+        wound = λ is. short (lacked in_all (any_stopped workers) (sym end ∙ is));
+        works = λ not_memory. memory (with_memory not_memory);
         fault = has_stopped;
         complete = goes_on;
       }

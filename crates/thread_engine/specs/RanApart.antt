@@ -1,5 +1,5 @@
 -- What a run on threads comes to.
-use Rattle.std.specs.Prelude.{◌≡◌, ◌≢◌, ℕ, ◌<◌, ◌≤◌, List, length, Bool, false, Option, Some}
+use Rattle.std.specs.Prelude.{◌≡◌, ◌≢◌, ℕ, ◌<◌, ◌≤◌, List, length, Bool, true, false, Option, Some}
 use Rattle.fs_model.specs.declared.model.Request.{Request}
 use Rattle.pm_region.specs.State.{State, IsTelling, cell_now, counted, Rose}
 use Rattle.pm_region.specs.Split.{TellsFrom}
@@ -81,5 +81,10 @@ pub record RanApart (s : State) (word : ℕ → ℕ) (refused : Bool) (r : Recov
   -- With memory everything is answered and nothing is under way. Without it what was posted or taken is finished.
   pub done : x.end ≢ ends.Memory → IsDone origin last
   pub ceased : x.end ≡ ends.Memory → HasCeased last
+  -- without it every worker winds down, and with it none does
+  pub wound : x.end ≡ ends.Memory → (c : ℕ) (low : c < last.layout.cores)
+      → (ran.cores c low).last.worker.winds_down ≡ true
+  pub works : x.end ≢ ends.Memory → (c : ℕ) (low : c < last.layout.cores)
+      → (ran.cores c low).last.worker.winds_down ≡ false
   pub fault : x.end ≡ ends.RegionFault → HasStopped last
   pub complete : x.end ≡ ends.Complete → (c : ℕ) → c < last.layout.cores → last.stopped c ≡ false
