@@ -1,15 +1,12 @@
 -- Each core at the end of a run, by what was supplied, what the split gave, what came back, and the tables as they were closed.
-use Rattle.std.proofs.Common.{◌≡◌, ℕ, zero, suc, ◌+◌, ◌*◌, ◌<◌, ◌==◌, Bool, false, List, [], ◌∷◌, ◌++◌, length, Some, refl, sym, ◌∙◌, ap, subst, arith, append-nil}
-use Rattle.std.specs.List.{slice_get, enumerate_from}
-use Rattle.std.proofs.lemmas.Bool.{eqb-true}
+use Rattle.std.proofs.Common.{◌≡◌, ℕ, zero, suc, ◌+◌, ◌*◌, ◌<◌, Bool, false, List, [], ◌∷◌, ◌++◌, length, Some, refl, sym, ◌∙◌, ap, subst, arith}
+use Rattle.std.specs.List.{slice_get}
 use Rattle.std.proofs.lemmas.Nat.{div-add-mod'}
 use Rattle.fs_model.specs.declared.model.Request.{Request}
-use Rattle.fs_model.specs.Cells.{key_of}
 use Rattle.pm_region.specs.State.{State}
 use Rattle.pm_region.specs.Split.{IsPiece, TakesPiece}
 use Rattle.chunk_map.specs.declared.layouts.Geometry.{Geometry}
-use Rattle.chunk_map.specs.Layouts.{layout_of, owner, part_first, IsLayout}
-use Rattle.store_image.specs.Facts.{In}
+use Rattle.chunk_map.specs.Layouts.{layout_of, part_first, IsLayout}
 use Rattle.recover.specs.declared.types.CoreStart.{CoreStart}
 use Rattle.recover.specs.declared.types.Recovered.{Recovered}
 use Rattle.group_laws.specs.Places.{Place}
@@ -31,13 +28,12 @@ use Rattle.engine_laws.specs.Parts.{group_of, member_of}
 use Rattle.engine_laws.specs.Origins.{Origin}
 use Rattle.engine_laws.specs.Stands.{opening}
 use Rattle.engine_laws.specs.Workers.{Sits}
-use Rattle.engine_laws.proofs.Clients.{of_member, group_low, member_low, core_is, in_all, in_filter}
+use Rattle.engine_laws.proofs.Clients.{of_member, group_low, member_low, core_is}
 use Rattle.core_worker.specs.declared.worker.Worker.{Worker}
 use Rattle.core_worker.specs.Beginning.{answers_of}
 use Rattle.core_worker.specs.Left.{fair}
 use Rattle.core_worker.specs.Openings.{IsNew, IsStartAt}
 use Rattle.core_worker.specs.WorkerMoves.{hands_of}
-use Rattle.group_engine.specs.Calls.{AreOwn}
 use Rattle.group_engine.specs.Shows.{Seat}
 use Rattle.group_engine.specs.Working.{IsMember, may_take, leads}
 use Rattle.thread_engine.specs.declared.muster.Crew.{Crew}

@@ -4,7 +4,7 @@ use Rattle.fs_model.specs.declared.model.Request.{Request}
 use Rattle.pm_region.specs.State.{State}
 use Rattle.group_board.specs.Seats.{SeatAt}
 use Rattle.thread_engine.specs.declared.core_job.CoreJob.{CoreJob}
-use Rattle.thread_engine.specs.WorkStates.{Sight, WorkState, IsAtWork, HasEnded, stands_at}
+use Rattle.thread_engine.specs.WorkStates.{Sight, WorkState, HasEnded, stands_at}
 use Rattle.thread_engine.specs.WorkStates.Move.{winds_down}
 use Rattle.thread_engine.specs.Windows.{dealt_from, WentOn, AllWentOn, HaveEnded, EachChanges, WindDown, Winds}
 use Rattle.thread_engine.proofs.WorkMoves.{on_one}

@@ -1,4 +1,4 @@
-use Rattle.std.proofs.Common.{length, subst}
+use Rattle.std.proofs.Common.{subst}
 use Rattle.std.proofs.lemmas.Result.{IfOk-weaker}
 use Rattle.thread_engine.specs.Supplied.{IsSupplied}
 use Rattle.thread_engine.proofs.run_apart.run.Goals as goal

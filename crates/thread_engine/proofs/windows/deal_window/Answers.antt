@@ -1,4 +1,4 @@
-use Rattle.std.proofs.Common.{◌+◌, ◌++◌, [], ◌∷◌, length, length-append, sym, ◌∙◌, ap, subst, append_assoc, arith}
+use Rattle.std.proofs.Common.{◌++◌, [], ◌∷◌, length-append, sym, ◌∙◌, ap, subst, append_assoc, arith}
 use Rattle.thread_engine.specs.Requests.{Makes}
 use Rattle.thread_engine.specs.Windows.{AreDealt}
 use Rattle.thread_engine.proofs.Deals.{more_dealt}

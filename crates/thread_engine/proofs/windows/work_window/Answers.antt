@@ -1,4 +1,4 @@
-use Rattle.std.proofs.Common.{◌≡◌, ℕ, ◌<◌, Bool, true, false, not, length, sym, ◌∙◌, ap, arith}
+use Rattle.std.proofs.Common.{◌≡◌, length, sym, ◌∙◌, arith}
 use Rattle.thread_engine.proofs.WindowWork.{all_dealt, all_went, none_any, ok_then, not_so}
 use Rattle.thread_engine.specs.WorkStates.{sight_by}
 use Rattle.thread_engine.proofs.windows.work_window.Goals as goal

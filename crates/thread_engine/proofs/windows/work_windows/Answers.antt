@@ -1,4 +1,4 @@
-use Rattle.std.proofs.Common.{◌≡◌, ℕ, ◌+◌, ◌++◌, [], length, length-append, refl, sym, ◌∙◌, ap, subst, append_assoc, arith}
+use Rattle.std.proofs.Common.{◌++◌, [], length, length-append, refl, sym, ◌∙◌, ap, append_assoc, arith}
 use Rattle.std.proofs.lemmas.List.{nil_from_length}
 use Rattle.thread_engine.proofs.WindowWork.{none_went, window_more, at_work_on}
 use Rattle.thread_engine.proofs.WindingDown.{wound_went, wound_ended, wound_all}

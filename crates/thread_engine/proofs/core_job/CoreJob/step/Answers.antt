@@ -1,5 +1,5 @@
 -- A step is a move of the worker.
-use Rattle.std.proofs.Common.{rules, ◌≡◌, [], ◌∷◌, length, refl, sym, ◌∙◌, subst}
+use Rattle.std.proofs.Common.{rules, ◌≡◌, [], length, refl, sym, ◌∙◌, subst}
 use Rattle.std.specs.VecDeque.{deque_len}
 use Rattle.std.proofs.lemmas.List.{nil_from_length}
 use Rattle.thread_engine.specs.WorkStates.{takes, Accepts, MakesTurn, stands_at, sight_by}
