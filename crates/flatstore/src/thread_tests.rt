@@ -152,6 +152,31 @@ fn as_a_replay(rt: HostRuntime) -> Result<(), Fail> {
     Ok(())
 }
 
+// So many gets of a key, then a put of it and one more get; and their replies.
+fn gets_and_a_put(alloc: Global, gets: u64) -> Result<(String, String), AllocError> {
+    let mut input = String::new(alloc);
+    let mut replies = String::new(alloc);
+    for _ in 0..gets {
+        input.push_str("get 1\n")?;
+        replies.push_str("absent\n")?;
+    }
+    input.push_str("put 1 x\nget 1\n")?;
+    replies.push_str("stored\nvalue x\n")?;
+    Ok((input, replies))
+}
+
+// The put is the last request of the first window, and the get behind it the first of the second.
+#[test]
+fn two_windows(rt: HostRuntime) -> Result<(), Fail> {
+    let alloc = rt.alloc();
+    let (input, replies) = gets_and_a_put(alloc, 4095)?;
+    let mut region = SteadyRegion::new(alloc, fresh_of(alloc, 1, 1)?, 5000)?;
+    let (report, written) = run(&rt, &mut region, input.as_str())?;
+    assert_eq!(rt; report.status, Status::Done);
+    assert_eq!(rt; written.as_slice(), replies.as_bytes());
+    Ok(())
+}
+
 const LOADS: u64 = 500_000_000;
 
 // Counts how often each of two cores asks. Core 0's first ask waits for core 1's second, and that one for core 0's
