@@ -149,6 +149,25 @@ pub pushed_long : (b : Bool) (xs : List EntryName) (n : EntryName) → length (c
 pushed_long true xs n = let e = length-append xs (n ∷ []) in omega (arith, e)
 pushed_long false xs n = omega arith
 
+-- each name that is to vanish takes a place of those that there were
+pub few_on : (most : ℕ) (st : StandingState) (old new : ClearingState) (n : EntryName) → length old.doomed + old.room ≤ most → (0 < times_in old.names n.key n.version → new ≡ old) → (times_in old.names n.key n.version ≡ 0 → 0 < old.room → NotesNew st old new n) → (old.room ≡ 0 → new ≡ old) → length new.doomed + new.room ≤ most
+few_on most st old new n few again first full = by_times (times_in old.names n.key n.version) refl where
+  stays : new ≡ old → length new.doomed + new.room ≤ most
+  stays e = subst (λ (c : ClearingState). length c.doomed + c.room ≤ most) (sym e) few
+
+  by_room : times_in old.names n.key n.version ≡ 0 → (r : ℕ) → old.room ≡ r → length new.doomed + new.room ≤ most
+  by_room none zero e = stays (full e)
+  by_room none (suc r) e =
+      let N = first none (omega (arith, e)) in
+      let long = pushed_long (is_doomed st n.key n.version) old.doomed n in
+      let list = ap (λ (ns : List EntryName). length ns) N.doomed in
+      let room = N.room in
+      omega (arith, few, long, list, room)
+
+  by_times : (i : ℕ) → times_in old.names n.key n.version ≡ i → length new.doomed + new.room ≤ most
+  by_times zero e = by_room e old.room refl
+  by_times (suc i) e = stays (again (omega (arith, e)))
+
 -- whatever is read, only lone dead names are to vanish
 pub lone_first : (st : StandingState) (c : ClearingState) → IsFresh c → AreLone st c.doomed
 lone_first st c fresh k v some = absurd (let none = ap (λ (ns : List EntryName). times_in ns k v) fresh.1 in omega (arith, none, some))

@@ -160,6 +160,7 @@ impl Clearing {
             → IsGathered standing.now (entries_in (R.state region.now) log.now chunk) self.new }
         ensures lone { AreLone standing.now self.new.doomed }
         ensures noted { AreNoted self.new }
+        ensures few { length self.new.doomed ≤ self.old.room }
         ensures chunk { self.new.chunk ≡ self.old.chunk }
     {
         let mut place = 0;
@@ -183,6 +184,7 @@ impl Clearing {
         // Whatever the region tells.
         ensures lone { AreLone standing.now self.new.doomed }
         ensures noted { AreNoted self.new }
+        ensures few { length self.new.doomed ≤ self.old.room }
         ensures chunk { self.new.chunk ≡ self.old.chunk }
     {
         let chunk = self.chunk();

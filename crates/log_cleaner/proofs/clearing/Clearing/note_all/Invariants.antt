@@ -1,4 +1,4 @@
-use Rattle.std.proofs.Common.{◌≡◌, ◌-◌, ℕ}
+use Rattle.std.proofs.Common.{◌≡◌, ◌+◌, ◌-◌, ◌≤◌, ℕ, length}
 use Rattle.pm_region.specs.State.{State, IsTelling}
 use Rattle.core_log.specs.Log.{LogState, tail_in}
 use Rattle.core_log.specs.Walking.{IsReadable, entries_in}
@@ -12,6 +12,7 @@ pub record SoFar (s : State) (log : LogState) (st : StandingState) (j place : �
   pub chunk : c.chunk ≡ old.chunk
   pub lone : AreLone st c.doomed
   pub noted : AreNoted c
+  pub few : length c.doomed + c.room ≤ old.room
   pub told : IsTelling s → Gathering st (entries_in s log j) place c
 
 abbrev pub invariant-loop-found : goal.invariant-loop-found
