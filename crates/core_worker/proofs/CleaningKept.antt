@@ -10,7 +10,7 @@ use Rattle.core_worker.specs.declared.types.Cleaning.TheVariants.{Nothing, Copyi
 use Rattle.core_worker.specs.declared.worker.Worker.{Worker}
 use Rattle.core_worker.specs.Supplies.{room_for, under_way, IsSmall}
 use Rattle.core_worker.specs.Status.{is_leading}
-use Rattle.core_worker.specs.KeepsCleaning.{GoesOn, HasPhase, KeepsCleaning}
+use Rattle.core_worker.specs.KeepsCleaning.{HasPhase, KeepsCleaning}
 use Rattle.core_worker.proofs.UnderWay.{still_nothing, wound_way, room_same}
 
 -- who has stopped goes on with nothing
@@ -29,13 +29,13 @@ leads_none p m v w K leading = ⊎_elim (λ none. none) (λ C. absurd (let both 
 pub small_way : (p : Place) (m : ℕ) (v : View) (w : Worker) → KeepsCleaning p m v w → IsSmall (under_way w)
 small_way p m v w K = ⊎_elim
     (λ none. subst IsSmall (sym none) tt)
-    (λ C. subst IsSmall (sym (runs_way w C.runs C.works)) (by w.cleaning C.goes))
+    (λ C. subst IsSmall (sym (runs_way w C.runs C.works)) (by C.now w.cleaning C.phase))
     K
   where
-    by : (c : Cleaning) → GoesOn c → IsSmall c
-    by Nothing goes = absurd goes
-    by (Copying victim first) goes = absurd goes
-    by (Doomed chunk) goes = tt
+    by : (x : ClearingState) (c : Cleaning) → HasPhase p m v.doomed v.dead w.log w.standing x w.own_gone c → IsSmall c
+    by x Nothing h = absurd h
+    by x (Copying victim first) h = h.small
+    by x (Doomed chunk) h = tt
 
 -- it may wind down
 pub keeps_winds : (p : Place) (m : ℕ) (v : View) (w : Worker) (winds : Bool) → (winds ≡ false → w.winds_down ≡ false) → KeepsCleaning p m v w → KeepsCleaning p m v (record w { winds_down = winds })
@@ -90,7 +90,7 @@ keeps_seen p m v u w doomed dead K = ⊎_elim
     }))
     K
   where
-    by : (x : ClearingState) (c : Cleaning) → HasPhase p m v.doomed v.dead w.log w.standing x w.own_gone.items c → HasPhase p m u.doomed u.dead w.log w.standing x w.own_gone.items c
+    by : (x : ClearingState) (c : Cleaning) → HasPhase p m v.doomed v.dead w.log w.standing x w.own_gone c → HasPhase p m u.doomed u.dead w.log w.standing x w.own_gone c
     by x Nothing h = h
     by x (Copying victim first) h = h
     by x (Doomed chunk) h = (h.0, (λ k n is. let y = h.1 k n is in record { marked = doomed k n y.marked; dies = dead k n y.dies; lone = y.lone; noted = y.noted }), h.2)
@@ -115,7 +115,7 @@ keeps_counts p m v w st counts K = ⊎_elim
     }))
     K
   where
-    by : (x : ClearingState) (c : Cleaning) → HasPhase p m v.doomed v.dead w.log w.standing x w.own_gone.items c → HasPhase p m v.doomed v.dead w.log st x w.own_gone.items c
+    by : (x : ClearingState) (c : Cleaning) → HasPhase p m v.doomed v.dead w.log w.standing x w.own_gone c → HasPhase p m v.doomed v.dead w.log st x w.own_gone c
     by x Nothing h = h
     by x (Copying victim first) h = h
     by x (Doomed chunk) h = (h.0, (λ k n is. let y = h.1 k n is in record { marked = y.marked; dies = y.dies; lone = counts k n ∙ y.lone; noted = y.noted }), h.2)

@@ -54,7 +54,7 @@ use Rattle.core_worker.proofs.PostMoves.{fault_moves}
 use Rattle.core_worker.proofs.TurnLaws.{nothing_fixed}
 
 module _ (s : State) (p : Place) (m : ℕ) (v : View) (w : Worker) (H : Holds p m v w) (S : Stands s p m v w) (O : InOrder p m v w) (d : (j : ℕ) × (under_way w ≡ Doomed j)) where
-  pub cleans : Cleans p m v.doomed v.dead w.stopped w.winds_down w.leading w.log w.allocator w.standing w.clearing w.own_gone.items w.cleaning
+  pub cleans : Cleans p m v.doomed v.dead w.stopped w.winds_down w.leading w.log w.allocator w.standing w.clearing w.own_gone w.cleaning
   cleans = ⊎_elim (λ none. absurd (let both : Nothing ≡ Doomed d.0 = sym none ∙ d.1 in cc both)) (λ C. C) H.cleaning
 
   pub runs : w.stopped ≡ false
@@ -83,8 +83,8 @@ module _ (s : State) (p : Place) (m : ℕ) (v : View) (w : Worker) (H : Holds p 
     now_is : cleans.now ≡ c
     now_is = let both : Some cleans.now ≡ Some c = sym cleans.is ∙ is in cc both
 
-    phase : HasPhase p m v.doomed v.dead w.log w.standing c w.own_gone.items (Doomed d.0)
-    phase = subst (λ (x : ClearingState). HasPhase p m v.doomed v.dead w.log w.standing x w.own_gone.items (Doomed d.0)) now_is (subst (HasPhase p m v.doomed v.dead w.log w.standing cleans.now w.own_gone.items) way_is cleans.phase)
+    phase : HasPhase p m v.doomed v.dead w.log w.standing c w.own_gone (Doomed d.0)
+    phase = subst (λ (x : ClearingState). HasPhase p m v.doomed v.dead w.log w.standing x w.own_gone (Doomed d.0)) now_is (subst (HasPhase p m v.doomed v.dead w.log w.standing cleans.now w.own_gone) way_is cleans.phase)
 
     pub has_chunk : is_some (tail_of w.log.chunks c.chunk) ≡ true
     has_chunk = subst (λ (x : ClearingState). is_some (tail_of w.log.chunks x.chunk) ≡ true) now_is cleans.chunk
@@ -144,7 +144,7 @@ keeps_ended seat s t before after v u w x c H S O E R moments outside made =
     }
 
 -- After a fault the core has stopped, and nothing else became of it.
-module _ (s t : State) (p : Place) (m : ℕ) (v : View) (w : Worker) (H : Holds p m v w) (S : Stands s p m v w) (O : InOrder p m v w) (C : Cleans p m v.doomed v.dead w.stopped w.winds_down w.leading w.log w.allocator w.standing w.clearing w.own_gone.items w.cleaning) where
+module _ (s t : State) (p : Place) (m : ℕ) (v : View) (w : Worker) (H : Holds p m v w) (S : Stands s p m v w) (O : InOrder p m v w) (C : Cleans p m v.doomed v.dead w.stopped w.winds_down w.leading w.log w.allocator w.standing w.clearing w.own_gone w.cleaning) where
   abbrev stops : Worker
   stops = record w { clearing = None; stopped = true }
 
@@ -213,7 +213,7 @@ module _ (s t : State) (p : Place) (m : ℕ) (v : View) (w : Worker) (H : Holds 
     names = λ r. absurd (cc r);
   }
 
-pub keeps_lost : (seat : SeatAt) (s t : State) (before after : Option Group) (v u : View) (w x : Worker) → HoldsAt seat v w → StandsAt s seat v w → InOrderAt seat v w → Cleans seat.place seat.number v.doomed v.dead w.stopped w.winds_down w.leading w.log w.allocator w.standing w.clearing w.own_gone.items w.cleaning
+pub keeps_lost : (seat : SeatAt) (s t : State) (before after : Option Group) (v u : View) (w x : Worker) → HoldsAt seat v w → StandsAt s seat v w → InOrderAt seat v w → Cleans seat.place seat.number v.doomed v.dead w.stopped w.winds_down w.leading w.log w.allocator w.standing w.clearing w.own_gone w.cleaning
     → x ≡ record w { clearing = None; stopped = true } → u ≡ v → after ≡ before → PartLies t.frame w.allocator → (IsTelling t → Licensed seat.place seat.number v (cell_now t)) → StaysLicensed s t seat v → WritesPart s t seat → Rose s.faults t.faults → KeepsTurn seat s t before after v u w x
 keeps_lost seat s t before after v u w x H S O C same view group lies exit moments outside rose =
     let y = record w { clearing = None; stopped = true } in

@@ -37,6 +37,7 @@ use Rattle.core_worker.specs.Stopping.{WithdrawsOrUnlocks}
 use Rattle.core_worker.specs.Openings.{IsNew}
 use Rattle.core_worker.specs.Turns.{Moment, SameButLeading, UnpledgedAt, PersistsOrLoses, Posts, Receives}
 use Rattle.log_cleaner.specs.Clearing.{ClearingState}
+use Rattle.core_worker.specs.DoomsNames.{DoomsIn}
 use Rattle.core_worker.specs.EndsCleaning.{EndsIn}
 use Rattle.core_worker.specs.GoneNames.{is_forgotten}
 use Rattle.core_worker.proofs.EndedKeys.{key_restarted}
@@ -388,6 +389,10 @@ just_ends p m v u w x c E J runs works k =
     let busy = ap (λ (b : Bool). cond {A = ℕ} b 1 0) (same_busy w.places.items x.places.items k (λ s. ap key_in (E.ends.loses.forgets.places s) ∙ key_restarted (is_forgotten w.own_gone.items w.places.items E.ends.loses.mid) (place_at w.places.items s))) in
     omega (arith, was, room, queue, busy)
 
+-- nor do names that are doomed
+just_dooms : (s : State) (p : groups.Place) (m : ℕ) (v u : View) (w x : Worker) → DoomsIn s p m v u w x → HasJustRoom w → HasJustRoom x
+just_dooms s p m v u w x D J = subst HasJustRoom (sym D.same) J
+
 just_did : (s t : State) (refused : Bool) (before : Option Group) (seat : SeatAt) (a b : Moment) → AreApart a.worker.places.items → Did s t refused before seat a b → HasJustRoom a.worker → HasJustRoom b.worker
 just_did s t refused before seat a b apart (Did.goes_round calm (inl C)) J = same_leading a.worker b.worker C.same J
 just_did s t refused before seat a b apart (Did.goes_round calm (inr R)) J = same_leading a.worker b.worker R.same J
@@ -400,6 +405,7 @@ just_did s t refused before seat a b apart (Did.posts P plain calm) J = just_pos
 just_did s t refused before seat a b apart (Did.loses_block L) J = just_stopped b.worker (ap (λ (y : Worker). y.stopped) L.same)
 just_did s t refused before seat a b apart (Did.drops calm all D) J = just_stopped b.worker (ap (λ (y : Worker). y.stopped) D.drops.rest ∙ ap (λ (y : Worker). y.stopped) D.drops.puts.lets.rest ∙ D.stopped)
 just_did s t refused before seat a b apart (Did.receives calm R) J = just_receives refused seat.place seat.number a b R J
+just_did s t refused before seat a b apart (Did.dooms calm D) J = just_dooms s seat.place seat.number D.mid b.view a.worker b.worker D.dooms J
 just_did s t refused before seat a b apart (Did.clears C) J = just_ends seat.place seat.number C.mid b.view a.worker b.worker C.clearing C.ends J
 just_did s t refused before seat a b apart (Did.loses_clearing L) J = just_stopped b.worker (ap (λ (y : Worker). y.stopped) L.same)
 just_did s t refused before seat a b apart (Did.locks calm L) J = same_leading a.worker b.worker L.same J

@@ -7,7 +7,7 @@ use Rattle.group_laws.specs.declared.types.Slot.TheVariants as slots
 use Rattle.group_laws.specs.Places.{members}
 use Rattle.group_laws.specs.State.{Group}
 use Rattle.group_laws.specs.Updates.{put2}
-use Rattle.group_laws.specs.Steps.{posts, CanPost, locks, takes, CanTake, unlocks, marks, CanMark, fails, CanFail, finishes, CanFinish, gives_up, CanGiveUp, withdraws, CanWithdraw, retires}
+use Rattle.group_laws.specs.Steps.{posts, CanPost, locks, takes, CanTake, unlocks, marks, CanMark, fails, CanFail, finishes, CanFinish, gives_up, CanGiveUp, withdraws, CanWithdraw, dooms, retires}
 use Rattle.group_laws.specs.Tidying.{Tidied}
 use Rattle.group_laws.specs.Invariant.{Lawful}
 use Rattle.core_worker.specs.Left.{slot_left, offers, any_offers, lock_left, slots_left, under_way}
@@ -104,3 +104,7 @@ unlocks_none w m mine none =
 -- names that vanish touch no slot, no lock and no mailbox
 pub retires_way : (w u : Group) (m : ℕ) (ns : List EntryName) → Tidied (retires w m ns) m u → under_way u ≡ under_way w
 retires_way w u m ns tidied = tidied_way (retires w m ns) u m tidied
+
+-- nor do names that may vanish
+pub dooms_way : (w u : Group) (m : ℕ) (ns : List EntryName) → u ≡ dooms w m ns → under_way u ≡ under_way w
+dooms_way w u m ns is = ap under_way is

@@ -113,7 +113,10 @@ pub mod Clients
 pub mod ClearsLeft
 pub mod RetiredKeys
 pub mod EndedKeys
-pub mod EndedHolds
+pub mod Dooming
+mod DoomedHolds
+mod DoomedItem
+mod EndedHolds
 pub mod EndedOrder
 pub mod EndedStands
 pub mod EndedMoves

@@ -1,11 +1,13 @@
 -- A cleaning under way, as a worker keeps it between two calls.
-use Rattle.std.specs.Prelude.{◌≡◌, ◌≢◌, ◌⊎◌, ℕ, ◌*◌, ◌≤◌, ◌<◌, Bool, true, false, List, Option, Some, None, is_some}
+use Rattle.std.specs.Prelude.{◌≡◌, ◌≢◌, ◌⊎◌, ℕ, ◌*◌, ◌≤◌, ◌<◌, Bool, true, false, List, Option, Some, None, is_some, Vec, vec_capacity}
+use Rattle.std.specs.Global.{Global}
 use Rattle.chunk_map.specs.Layouts.{payload_lines}
 use Rattle.log_entry.specs.declared.entry.EntryName.{EntryName}
 use Rattle.core_log.specs.Log.{LogState, tail_of}
 use Rattle.lazy_alloc.specs.Sets.{Sets, chunk_is_free, chunk_class, free_chunk_count}
 use Rattle.log_standing.specs.NameCounts.{StandingState, count_of, times_in}
 use Rattle.log_cleaner.specs.Clearing.{ClearingState, IsFresh}
+use Rattle.log_cleaner.specs.declared.types.Victim.{Victim}
 use Rattle.group_laws.specs.Updates.{has}
 use Rattle.group_laws.specs.Places.{Place}
 use Rattle.group_laws.specs.MemberViews.{View}
@@ -18,10 +20,10 @@ use Rattle.core_worker.specs.declared.worker.Worker.{Worker}
 use Rattle.core_worker.specs.Supplies.{under_way, rest, IsSmall}
 use Rattle.core_worker.specs.LogNames.{AreOwnOf}
 
--- Which cleanings a turn goes on with: one whose names are doomed.
+-- Which cleanings a turn goes on with: one of which nothing is left to be copied, and one whose names are doomed.
 abbrev pub GoesOn : Cleaning → Type 0
 GoesOn Nothing = ⊥
-GoesOn (Copying victim first) = ⊥
+GoesOn (Copying victim first) = victim.entries ≡ 0
 GoesOn (Doomed chunk) = Unit {0}
 
 -- A name that may vanish: it is doomed and dead, stands in one chunk alone, and is among the names noted of that chunk.
@@ -32,21 +34,28 @@ pub record MayVanish (doomed dead : ℕ → ℕ → Bool) (st : StandingState) (
   pub lone : count_of st k n ≡ 1
   pub noted : 0 < times_in names k n
 
--- How far a cleaning is, by what its clearing has noted: nothing while it copies, which pledges no more than a third of a chunk; and then the names that may vanish, of which the own ones are in hand.
+-- Nothing was noted of the chunk that is copied, which pledges no more than a third of a chunk; and there are places for as many own names as it has room for.
+pub record IsBegun (log : LogState) (c : ClearingState) (own : Vec EntryName Global)
+    (victim : Victim) (first : Bool) : Type 0 where
+  pub chunk : c.chunk ≡ victim.chunk
+  pub fresh : IsFresh c
+  pub small : IsSmall (Copying victim first)
+  pub third : 3 * rest (Copying victim first) ≤ payload_lines log.layout
+  pub places : c.room ≤ vec_capacity own
+
+-- How far a cleaning is, by what its clearing has noted: nothing while it copies; and then the names that may vanish, of which the own ones are in hand.
 abbrev pub HasPhase : Place → ℕ → (ℕ → ℕ → Bool) → (ℕ → ℕ → Bool) → LogState → StandingState
-    → ClearingState → List EntryName → Cleaning → Type 0
+    → ClearingState → Vec EntryName Global → Cleaning → Type 0
 HasPhase p m doomed dead log st c own Nothing = ⊥
-HasPhase p m doomed dead log st c own (Copying victim first) = (c.chunk ≡ victim.chunk) × IsFresh c
-    × IsSmall (Copying victim first)
-    × (3 * rest (Copying victim first) ≤ payload_lines log.layout)
+HasPhase p m doomed dead log st c own (Copying victim first) = IsBegun log c own victim first
 HasPhase p m doomed dead log st c own (Doomed chunk) = (c.chunk ≡ chunk)
     × ((k n : ℕ) → has c.doomed k n ≡ true → MayVanish doomed dead st c.names k n)
-    × AreOwnOf p m c.doomed own
+    × AreOwnOf p m c.doomed own.items
 
 -- A worker cleans a chunk of its log that isn't the open one, while it runs and leads nothing; at most one chunk is free meanwhile.
 pub record Cleans (p : Place) (m : ℕ) (doomed dead : ℕ → ℕ → Bool) (stopped winds : Bool)
     (leading : Leading) (log : LogState) (a : Sets) (st : StandingState)
-    (clearing : Option ClearingState) (own : List EntryName) (cleaning : Cleaning) : Type 0 where
+    (clearing : Option ClearingState) (own : Vec EntryName Global) (cleaning : Cleaning) : Type 0 where
   pub goes : GoesOn cleaning
   pub runs : stopped ≡ false
   pub works : winds ≡ false
@@ -64,4 +73,4 @@ pub record Cleans (p : Place) (m : ℕ) (doomed dead : ℕ → ℕ → Bool) (st
 abbrev pub KeepsCleaning : Place → ℕ → View → Worker → Type 0
 KeepsCleaning p m v w = (under_way w ≡ Nothing)
     ⊎ Cleans p m v.doomed v.dead w.stopped w.winds_down w.leading w.log w.allocator
-    w.standing w.clearing w.own_gone.items w.cleaning
+    w.standing w.clearing w.own_gone w.cleaning

@@ -64,5 +64,6 @@ pub mod Mails
 pub mod GivingUp
 pub mod Counted
 pub mod CleaningParts
+pub mod DoomsNames
 pub mod EndsCleaning
 pub mod CleaningLeft

@@ -20,7 +20,7 @@ use Rattle.core_worker.specs.declared.types.Turn.TheVariants.{Moved, Idle}
 use Rattle.core_worker.specs.declared.choose_item.Choice.{Choice}
 use Rattle.core_worker.specs.declared.choose_item.Choice.TheVariants.{Pass, Drop, Post}
 use Rattle.core_worker.specs.OwnPlaces.{is_staged, IsLowest}
-use Rattle.core_worker.specs.Turns.{Moment, InOrderAt, GoesRound, PersistsOrLoses, Marks, Fails, Finishes, Posts, LosesBlock, Receives, Locks, Idles, PassesItems, PassesPost, FindsPosted, Clears, LosesClearing}
+use Rattle.core_worker.specs.Turns.{Moment, InOrderAt, GoesRound, PersistsOrLoses, Marks, Fails, Finishes, Posts, LosesBlock, Receives, Locks, Idles, PassesItems, PassesPost, FindsPosted, Dooms, Clears, LosesClearing}
 use Rattle.core_worker.specs.Posting.{PointsNowhere}
 use Rattle.core_worker.specs.Stopping.{Drops, WithdrawsOrUnlocks}
 use Rattle.core_worker.specs.WorkerMoves.{Fixed, hands_of, WorkerMoves}
@@ -81,6 +81,8 @@ pub data Did (s t : State) (refused : Bool) (before : Option Group) (seat : Seat
   drops : t ≡ s → (all : Bool) → DropsLowest s seat.number a b all
       → Did s t refused before seat a b
   receives : t ≡ s → Receives refused seat.place seat.number a b
+      → Did s t refused before seat a b
+  dooms : t ≡ s → Dooms s refused seat.place seat.number a b
       → Did s t refused before seat a b
   clears : Clears refused seat.place seat.number a b → Did s t refused before seat a b
   loses_clearing : LosesClearing refused seat.place seat.number a b → Did s t refused before seat a b

@@ -38,6 +38,7 @@ use Rattle.core_worker.specs.declared.types.Place.{Place as WorkerPlace}
 use Rattle.core_worker.specs.declared.types.Place.TheVariants.{Free, Staged, Posted}
 use Rattle.core_worker.specs.declared.worker.Worker.{Worker}
 use Rattle.core_worker.specs.OwnPlaces.{place_at, is_staged, is_posted, IsLowest, HasNone, Replaces}
+use Rattle.core_worker.specs.DoomsNames.{DoomsIn}
 use Rattle.core_worker.specs.EndsCleaning.{EndsIn}
 use Rattle.core_worker.specs.Ties.{LeadsNothing}
 use Rattle.core_worker.specs.StandingTies.{AddsNames}
@@ -293,6 +294,14 @@ pub record Receives (refused : Bool) (p : Place) (m : ℕ) (a b : Moment) : Type
   pub from : ℕ
   pub empty : (h : ℕ) → h < from → h ≢ m → In (Mail h m false) before.looked.looks
   pub hears : Hears p m from mid b.view a.worker b.worker
+
+-- Item 6, the doom: nothing of the chunk that is cleaned is left to be copied, and the names that vanish with it are doomed.
+pub record Dooms (s : State) (refused : Bool) (p : Place) (m : ℕ) (a b : Moment) : Type 0 where
+  pub mid : View
+  pub before : PassesItems m a SLOTS mid
+  pub post : PassesPost refused a.worker
+  pub mail : PassesMail p m a.worker before.looked.looks
+  pub dooms : DoomsIn s p m mid b.view a.worker b.worker
 
 -- Item 6, the end of a cleaning: its chunk is free again, and what stood there alone is gone.
 pub record Clears (refused : Bool) (p : Place) (m : ℕ) (a b : Moment) : Type 0 where

@@ -4,7 +4,7 @@ ghost use Rattle.group_laws.specs.declared.group_sizes.TheConstants.{SLOTS};
 ghost use Rattle.group_laws.specs.State.{Group};
 ghost use Rattle.group_laws.specs.MemberViews.{View};
 ghost use Rattle.batch_leader.specs.TurnSteps.{TurnSteps, trail_with};
-ghost use Rattle.core_worker.specs.declared.types.Cleaning.TheVariants.{Doomed};
+ghost use Rattle.core_worker.specs.declared.types.Cleaning.TheVariants.{Copying, Doomed};
 ghost use Rattle.core_worker.specs.Left.{HasOffer, Lowers, MeasuresTurn, StartsFirst};
 ghost use Rattle.core_worker.specs.Mails.{PassesMail};
 ghost use Rattle.core_worker.specs.Resting.{IfIdleTurn, TriedIf};
@@ -14,13 +14,62 @@ ghost use Rattle.core_worker.specs.Turning.{KeepsTurn, Did, Turned, Tells, at_en
 ghost use Rattle.core_worker.specs.Turns.{InOrderAt, PassesItems, PassesPost};
 
 use crate::clear_turn::end_cleaning;
-use crate::types::{Cleaning, Turn};
+use crate::doom_turn::doom_chunk;
+use crate::types::{Cleaning, Turn, Victim};
 use crate::worker::Worker;
 use group_board::Board;
 use pm_region::Region;
 use std::mem;
 
 impl Worker {
+    // Dooms the names that vanish with a chunk of which nothing is left to be copied.
+    fn doom<R: Region, B: Board>(&mut self, region: &R, board: &mut B, victim: &Victim)
+        requires holds { HoldsAt (B.seat board.old) (B.view board.old) self.old }
+        requires stands { StandsAt (R.state region.now) (B.seat board.old)
+            (B.view board.old) self.old }
+        requires order { InOrderAt (B.seat board.old) (B.view board.old) self.old }
+        requires copies { (first : Bool) × (under_way self.old ≡ Copying victim.now first) }
+        ensures seat { B.seat board.new ≡ B.seat board.old }
+        ensures keeps { KeepsTurn (B.seat board.old) (R.state region.now) (R.state region.now)
+            (B.whole board.old) (B.whole board.new) (B.view board.old) (B.view board.new)
+            self.old self.new }
+        ensures did { (refused : Bool) (before : Option Group) (v : View)
+            → PassesPost refused self.old
+            → (passes : PassesItems (B.seat board.old).number (at_entry self.old v) SLOTS
+            (B.view board.old))
+            → PassesMail (B.seat board.old).place (B.seat board.old).number self.old
+            passes.looked.looks
+            → Did (R.state region.now) (R.state region.now) refused before (B.seat board.old)
+            (at_entry self.old v) (at_entry self.new (B.view board.new)) }
+        ensures less { Lowers (B.whole board.old) (B.whole board.new) self.old self.new }
+        ensures starts { StartsFirst self.new }
+        ensures works { self.new.winds_down ≡ self.old.winds_down }
+        ensures steps { (passes : Bool) → TurnSteps passes (R.state region.now) (R.state region.now)
+            (B.view board.old) (B.view board.new)
+            (trail_with (B.trail board.old) (B.at board.old))
+            (trail_with (B.trail board.new) (B.at board.new)) }
+    {
+        match mem::replace(&mut self.clearing, None) {
+            Some(mut clearing) => {
+                doom_chunk(
+                    region,
+                    board,
+                    &self.log,
+                    &self.standing,
+                    &mut clearing,
+                    &mut self.own_gone,
+                    &self.layout,
+                    self.core,
+                );
+                self.clearing = Some(clearing);
+                self.cleaning = Cleaning::Doomed {
+                    chunk: victim.chunk,
+                };
+            }
+            None => unreachable!(),
+        }
+    }
+
     // Ends the cleaning whose names are doomed: its chunk is free again, and what stood there alone is gone. After a
     // fault the core stops.
     fn end_clean<R: Region, B: Board>(&mut self, region: &mut R, board: &mut B)
@@ -111,8 +160,11 @@ impl Worker {
             Cleaning::Nothing => {
                 return self.serve_lock(board, posted);
             }
-            // No turn makes copies yet.
-            Cleaning::Copying { .. } => unreachable!(),
+            // No turn makes copies yet: none are left to be made.
+            Cleaning::Copying { victim, .. } => {
+                self.doom(&*region, board, &victim);
+                return Turn::Moved;
+            }
             Cleaning::Doomed { .. } => {
                 self.end_clean(region, board);
                 return Turn::Moved;

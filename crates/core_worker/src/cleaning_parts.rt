@@ -1,5 +1,5 @@
 // Parts of a turn that receives, and of one that dooms.
-ghost use Rattle.std.specs.Prelude.{◌≡◌, ℕ, ◌≤◌, ◌<◌, true, false, [], length, is_some};
+ghost use Rattle.std.specs.Prelude.{◌≡◌, ℕ, ◌≤◌, ◌<◌, true, false, [], ◌∷◌, length, is_some};
 ghost use Rattle.pm_region.specs.State.{IsTelling};
 ghost use Rattle.core_log.specs.Log.{StandsIn, tail_of};
 ghost use Rattle.core_log.specs.Walking.{entries_in};
@@ -10,7 +10,8 @@ ghost use Rattle.group_laws.specs.Runs as runs;
 ghost use Rattle.group_board.specs.Views.{after_find, after_doom};
 ghost use Rattle.group_board.specs.Told.{Makes, MakesBoth};
 ghost use Rattle.log_standing.specs.NameCounts.{is_told};
-ghost use Rattle.log_cleaner.specs.Clearing.{IsFresh, IsGathered};
+ghost use Rattle.group_board.specs.Trails.{step_with};
+ghost use Rattle.log_cleaner.specs.Clearing.{IsFresh, AreLone, AreNoted, IsGathered};
 ghost use Rattle.log_cleaner.specs.Vanishing.{MayGo};
 ghost use Rattle.core_worker.specs.GoneNames.{KnowsAll};
 ghost use Rattle.core_worker.specs.LogNames.{KnowsBy};
@@ -82,7 +83,13 @@ pub(crate) fn doom_names<R: Region, B: Board>(
     ensures may { MayGo (B.view board.new) clearing.new.doomed }
     ensures gathered { IsTelling (R.state region.now) → IsGathered standing.now
         (entries_in (R.state region.now) log.now clearing.old.chunk) clearing.new }
+    ensures lone { AreLone standing.now clearing.new.doomed }
+    ensures noted { AreNoted clearing.new }
+    ensures few { length clearing.new.doomed ≤ clearing.old.room }
     ensures chunk { clearing.new.chunk ≡ clearing.old.chunk }
+    ensures steps { (B.trail board.new
+        ≡ step_with (runs.Kind.Doom clearing.new.doomed) (B.view board.new) ∷ B.trail board.old)
+        × (B.at board.new ≡ (R.state region.now).stamp) }
     ensures made { Makes (B.whole board.old) (B.seat board.old).number
         (runs.Kind.Doom clearing.new.doomed) (B.whole board.new) (B.view board.new) }
 {

@@ -13,6 +13,7 @@ mod cleaning_parts;
 mod clear_turn;
 mod clears_left;
 mod copy_turn;
+mod doom_turn;
 mod finish_item;
 mod gate;
 mod giving_up;

@@ -24,7 +24,7 @@ use Rattle.core_worker.specs.OwnPlaces.{place_at}
 use Rattle.core_worker.specs.KeyTies.{IsPlaced, Offers}
 use Rattle.core_worker.specs.Ties.{Holds}
 use Rattle.core_worker.specs.Turning.{Did, TurnedTo, at_entry}
-use Rattle.core_worker.specs.Turning.Did.{goes_round, withdraws, writes, marks, fails, finishes, posts, loses_block, drops, receives, locks, clears, loses_clearing}
+use Rattle.core_worker.specs.Turning.Did.{goes_round, withdraws, writes, marks, fails, finishes, posts, loses_block, drops, receives, locks, dooms, clears, loses_clearing}
 use Rattle.core_worker.specs.Turns.{PersistsOrLoses}
 use Rattle.thread_engine.specs.WorkLaws.{in_doubt}
 
@@ -137,6 +137,7 @@ module _ (p : Place) (m : ℕ) (s t : State) (refused : Bool) (before : Option G
   did_keeps (loses_block L) = ap (λ (z : View). z.blocks q) L.view ∙ ap (λ (z : View). z.blocks q) L.before.looked.view
   did_keeps (drops quiet all D) = ap (λ (z : View). z.blocks q) D.view ∙ ap (λ (z : View). z.blocks q) D.before.looked.view
   did_keeps (receives quiet R) = ap (λ (z : View). z.blocks q) R.hears.view.4 ∙ ap (λ (z : View). z.blocks q) R.before.looked.view
+  did_keeps (dooms quiet D) = ap (λ (z : View). z.blocks q) D.dooms.view ∙ ap (λ (z : View). z.blocks q) D.before.looked.view
   did_keeps (clears C) = ap (λ (z : View). z.blocks q) C.ends.tidied.4 ∙ ap (λ (z : View). z.blocks q) C.before.looked.view
   did_keeps (loses_clearing L) = ap (λ (z : View). z.blocks q) L.view ∙ ap (λ (z : View). z.blocks q) L.before.looked.view
   did_keeps (locks quiet L) = ap (λ (z : View). z.blocks q) L.view ∙ ap (λ (z : View). z.blocks q) L.before.looked.view

@@ -22,7 +22,7 @@ use Rattle.core_worker.specs.declared.worker.Worker.{Worker}
 use Rattle.core_worker.specs.Order.{InOrder, MayLeadStopped}
 use Rattle.core_worker.specs.Ties.{Holds, LeadsAt, LeadsNothing}
 use Rattle.core_worker.specs.Turning.{Did, TurnedTo, at_entry}
-use Rattle.core_worker.specs.Turning.Did.{goes_round, withdraws, writes, marks, fails, finishes, posts, loses_block, drops, receives, locks, clears, loses_clearing}
+use Rattle.core_worker.specs.Turning.Did.{goes_round, withdraws, writes, marks, fails, finishes, posts, loses_block, drops, receives, locks, dooms, clears, loses_clearing}
 use Rattle.core_worker.specs.Turns.{PersistsOrLoses}
 use Rattle.thread_engine.specs.WorkStates.{WorkState, IsAtWork, Accepts, MakesTurn, Move, Leads, Works, HasEnded}
 use Rattle.thread_engine.specs.WorkStates.Move.{accepts, turns, winds_down, joins, hands_over}
@@ -102,6 +102,7 @@ module _ (p : Place) (m : ℕ) (v u : View) (w x : Worker) (H : Holds p m v w) (
     stopped_stays stop (loses_block L) = absurd (clash w.stopped stop L.runs.0)
     stopped_stays stop (drops quiet all D) = stays_as _ (D.view ∙ D.before.looked.view) refl refl
     stopped_stays stop (receives quiet R) = absurd (clash w.stopped stop R.runs.0)
+    stopped_stays stop (dooms quiet D) = absurd (clash w.stopped stop D.dooms.runs)
     stopped_stays stop (clears C) = absurd (clash w.stopped stop C.ends.runs)
     stopped_stays stop (loses_clearing L) = absurd (clash w.stopped stop L.runs)
     stopped_stays stop (locks quiet L) = (
@@ -137,6 +138,7 @@ module _ (p : Place) (m : ℕ) (v u : View) (w x : Worker) (H : Holds p m v w) (
     now_rests runs stop D (loses_block L) = absurd (no_doubt runs (doubted_in _ (L.view ∙ L.before.looked.view) refl D))
     now_rests runs stop D (drops quiet all E) = absurd (clash w.stopped E.stopped runs)
     now_rests runs stop D (receives quiet R) = absurd (still (ap (λ (z : Worker). z.stopped) R.hears.same) runs stop)
+    now_rests runs stop D (dooms quiet E) = absurd (still (ap (λ (z : Worker). z.stopped) E.dooms.same) runs stop)
     now_rests runs stop D (clears C) = absurd (still (ap (λ (z : Worker). z.stopped) C.ends.same) runs stop)
     now_rests runs stop D (loses_clearing L) = absurd (no_doubt runs (doubted_in _ (L.view ∙ L.before.looked.view) refl D))
     now_rests runs stop D (locks quiet L) = absurd (still (ap (λ (z : Worker). z.stopped) L.same) runs stop)

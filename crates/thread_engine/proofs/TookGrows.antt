@@ -19,7 +19,7 @@ use Rattle.core_worker.specs.declared.types.Turn.{Turn}
 use Rattle.core_worker.specs.declared.types.Turn.TheVariants.{Moved, Idle}
 use Rattle.core_worker.specs.declared.worker.Worker.{Worker}
 use Rattle.core_worker.specs.Turning.{Did, TurnedTo, at_entry}
-use Rattle.core_worker.specs.Turning.Did.{goes_round, withdraws, writes, marks, fails, finishes, posts, loses_block, drops, receives, locks, clears, loses_clearing}
+use Rattle.core_worker.specs.Turning.Did.{goes_round, withdraws, writes, marks, fails, finishes, posts, loses_block, drops, receives, locks, dooms, clears, loses_clearing}
 use Rattle.core_worker.specs.Turns.{PersistsOrLoses}
 
 module _ (s t : State) (refused : Bool) (before : Option Group) (seat : SeatAt) (v u : View) (w x : Worker) where
@@ -51,6 +51,7 @@ module _ (s t : State) (refused : Bool) (before : Option Group) (seat : SeatAt) 
   did_grows (loses_block L) = same L.mid L.view (ap (λ (z : View). lines_in z.took) L.before.looked.view)
   did_grows (drops quiet all D) = same D.mid D.view (ap (λ (z : View). lines_in z.took) D.before.looked.view)
   did_grows (receives quiet R) = let at = ap (λ (z : View). lines_in z.took) R.hears.view.4 in let was = ap (λ (z : View). lines_in z.took) R.before.looked.view in omega (arith, at, was)
+  did_grows (dooms quiet D) = let at = ap (λ (z : View). lines_in z.took) D.dooms.view in let was = ap (λ (z : View). lines_in z.took) D.before.looked.view in omega (arith, at, was)
   did_grows (clears C) = let at = ap (λ (z : View). lines_in z.took) C.ends.tidied.4 in let was = ap (λ (z : View). lines_in z.took) C.before.looked.view in omega (arith, at, was)
   did_grows (loses_clearing L) = same L.mid L.view (ap (λ (z : View). lines_in z.took) L.before.looked.view)
   did_grows (locks quiet L) = let at = ap (λ (z : View). lines_in z.took) L.view in let was = ap (λ (z : View). lines_in z.took) L.before.looked.view in omega (arith, at, was)

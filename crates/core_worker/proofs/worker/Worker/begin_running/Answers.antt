@@ -202,5 +202,8 @@ returns-in-Absent-clause-most g c =
     let way = answered_way c.args.self.now c.answer_at_once-in-Absent.new.self _ c.answer_at_once-in-Absent.ensures.rest c.answer_at_once-in-Absent.ensures.less in
     omega (arith, way)
 
+pub returns-in-Get-clause-rule : goal.returns-in-Get-clause-rule
+returns-in-Get-clause-rule g c h = answered_room c.args.self.now c.answer_at_once-in-Get.new.self c.answer_at_once-in-Get.ensures.rest h
+
 pub returns-in-Err-clause-rule : goal.returns-in-Err-clause-rule
 returns-in-Err-clause-rule g c h = answered_room c.args.self.now c.answer_at_once.new.self c.answer_at_once.ensures.rest h

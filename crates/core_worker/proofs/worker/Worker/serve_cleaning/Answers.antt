@@ -1,20 +1,12 @@
 -- A cleaning under way is gone on with, or the lock is tried.
-use Rattle.std.proofs.Common.{⊎_elim, sym, ◌∙◌, subst}
-use Rattle.core_worker.specs.KeepsCleaning.{GoesOn}
-use Rattle.core_worker.proofs.CleaningKept.{runs_way}
+use Rattle.std.proofs.Common.{sym, ◌∙◌}
 use Rattle.core_worker.proofs.worker.Worker.serve_cleaning.Goals as goal
 
 pub serve_lock-requires-clause-clean : goal.serve_lock-requires-clause-clean
 serve_lock-requires-clause-clean g c = sym c.under_way.ensures ∙ c.in-Nothing.is
 
-pub unreachable-requires : goal.unreachable-requires
-unreachable-requires g c =
-    let w = c.args.self.now in
-    let way = sym c.under_way.ensures ∙ c.in-Copying.is in
-    ⊎_elim
-    (λ none. cc (sym none ∙ way))
-    (λ C. subst GoesOn (sym (runs_way w C.runs C.works) ∙ way) C.goes)
-    c.requires.holds.cleaning
+pub doom-requires-clause-copies : goal.doom-requires-clause-copies
+doom-requires-clause-copies g c = (_, sym c.under_way.ensures ∙ c.in-Copying.is)
 
 pub end_clean-requires-clause-dooms : goal.end_clean-requires-clause-dooms
 end_clean-requires-clause-dooms g c = (_, sym c.under_way.ensures ∙ c.in-Doomed.is)
@@ -33,3 +25,9 @@ returns-in-Doomed-clause-turned g c refused before v passed tells mail = c.end_c
 
 pub returns-in-Doomed-clause-less : goal.returns-in-Doomed-clause-less
 returns-in-Doomed-clause-less g c offer = c.end_clean.ensures.less
+
+pub returns-in-Copying-clause-turned : goal.returns-in-Copying-clause-turned
+returns-in-Copying-clause-turned g c refused before v passed tells mail = c.doom.ensures.did refused before v passed tells.0 mail
+
+pub returns-in-Copying-clause-less : goal.returns-in-Copying-clause-less
+returns-in-Copying-clause-less g c offer = c.doom.ensures.less

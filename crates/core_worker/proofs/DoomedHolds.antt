@@ -1,0 +1,189 @@
+-- What the doom of a cleaned chunk's names leaves of the ties of a worker.
+use Rattle.std.proofs.Common.{◌≡◌, ◌≢◌, inl, inr, ⊎_elim, ℕ, ◌≤◌, ◌==◌, Bool, true, false, cond, List, [], ◌∷◌, length, Some, None, refl, sym, ◌∙◌, ap, subst, arith}
+use Rattle.std.specs.Prelude.{is_some}
+use Rattle.std.proofs.lemmas.Bool.{eqb-true, and_parts}
+use Rattle.pm_region.specs.State.{State, IsTelling}
+use Rattle.log_entry.specs.declared.entry.Entry.{Entry}
+use Rattle.core_log.specs.Log.{tail_of}
+use Rattle.core_log.specs.Walking.{entries_in}
+use Rattle.lazy_alloc.specs.Sets.{chunk_is_free, chunk_class}
+use Rattle.log_standing.specs.NameCounts.{is_told, count_of}
+use Rattle.log_cleaner.specs.Copying.{left_to_copy}
+use Rattle.group_laws.specs.Places.{Place}
+use Rattle.group_laws.specs.Updates.{has}
+use Rattle.group_laws.specs.MemberViews.{View}
+use Rattle.group_board.specs.Views.{after_doom}
+use Rattle.licence.specs.Licence.{grounded}
+use Rattle.licence.proofs.Clients.{allowed}
+use Rattle.core_worker.specs.declared.types.Cleaning.TheVariants.{Nothing, Copying, Doomed}
+use Rattle.core_worker.specs.declared.types.Leading.TheVariants as leads
+use Rattle.core_worker.specs.declared.worker.Worker.{Worker}
+use Rattle.core_worker.specs.DoomsNames.{DoomsIn}
+use Rattle.core_worker.specs.KeepsCleaning.{GoesOn, HasPhase, MayVanish, IsBegun, Cleans}
+use Rattle.core_worker.specs.LogNames.{CopiesIn, ClearsIn, IsCleanedBy}
+use Rattle.core_worker.specs.Order.{InOrder}
+use Rattle.core_worker.specs.Supplies.{under_way}
+use Rattle.core_worker.specs.Ties.{LeadsAt, HasSpaceFor, Holds, Stands}
+use Rattle.core_worker.proofs.CleaningKept.{runs_way}
+use Rattle.core_worker.proofs.LogNames.{has_times}
+use Rattle.core_worker.proofs.MailKept.{mail_same}
+
+-- who goes on with copies cleans a chunk as its ties say
+module _ (p : Place) (m : ℕ) (v : View) (w : Worker) (H : Holds p m v w) (victim : _) (first : Bool) (way : under_way w ≡ Copying victim first) where
+  pub cleans : Cleans p m v.doomed v.dead w.stopped w.winds_down w.leading w.log w.allocator w.standing w.clearing w.own_gone w.cleaning
+  cleans = ⊎_elim (λ none. absurd (let both : Nothing ≡ Copying victim first = sym none ∙ way in cc both)) (λ C. C) H.cleaning
+
+  pub way_is : w.cleaning ≡ Copying victim first
+  way_is = sym (runs_way w cleans.runs cleans.works) ∙ way
+
+  pub begun : IsBegun w.log cleans.now w.own_gone victim first
+  begun = subst (HasPhase p m v.doomed v.dead w.log w.standing cleans.now w.own_gone) way_is cleans.phase
+
+  pub copied : victim.entries ≡ 0
+  copied = subst GoesOn way_is cleans.goes
+
+module _ (s : State) (p : Place) (m : ℕ) (v u : View) (w x : Worker) (H : Holds p m v w) (O : InOrder p m v w) (D : DoomsIn s p m v u w x) where
+  abbrev C : Cleans p m v.doomed v.dead w.stopped w.winds_down w.leading w.log w.allocator w.standing w.clearing w.own_gone w.cleaning
+  C = cleans p m v w H D.victim D.first D.way
+
+  abbrev B : IsBegun w.log C.now w.own_gone D.victim D.first
+  B = begun p m v w H D.victim D.first D.way
+
+  -- the clearing is that of the same chunk
+  chunk_is : C.now.chunk ≡ D.now.chunk
+  chunk_is = B.chunk ∙ sym D.chunk
+
+  abbrev now : View
+  now = after_doom D.now.doomed v
+
+  -- what becomes of it
+  abbrev to : Worker
+  to = record w { cleaning = Doomed D.victim.chunk; clearing = x.clearing; own_gone = x.own_gone }
+
+  marked : (k n : ℕ) → has D.now.doomed k n ≡ true → now.doomed k n ≡ true
+  marked k n is = ap (λ (b : Bool). cond b true (v.doomed k n)) is
+
+  may : (k n : ℕ) → has D.now.doomed k n ≡ true → MayVanish now.doomed now.dead w.standing D.now.names k n
+  may k n is =
+      let some = has_times D.now.doomed k n is in
+      let lone = and_parts (is_told w.standing k n) (count_of w.standing k n == 1) (D.lone k n some) in
+      record {
+        marked = marked k n is;
+        dies = (O.log D.runs D.works).deaths k n lone.0;
+        lone = eqb-true (count_of w.standing k n) 1 lone.1;
+        noted = D.noted k n some;
+      }
+
+  cleans_now : Cleans p m now.doomed now.dead w.stopped w.winds_down w.leading w.log w.allocator w.standing x.clearing x.own_gone (Doomed D.victim.chunk)
+  cleans_now = record {
+    goes = tt;
+    runs = D.runs;
+    works = D.works;
+    idle = C.idle;
+    now = D.now;
+    is = D.is;
+    chunk = subst (λ (j : ℕ). is_some (tail_of w.log.chunks j) ≡ true) chunk_is C.chunk;
+    closed = subst (λ (j : ℕ). w.log.opened ≢ Some j) chunk_is C.closed;
+    taken = subst (λ (j : ℕ). chunk_is_free w.allocator j ≡ false) chunk_is C.taken;
+    uncut = subst (λ (j : ℕ). chunk_class w.allocator j ≡ None) chunk_is C.uncut;
+    scarce = C.scarce;
+    phase = (D.chunk, may, D.own);
+  }
+
+  pub doomed_holds : Holds p m u x
+  doomed_holds = subst (λ (y : Worker). Holds p m u y) (sym D.same) (subst (λ (y : View). Holds p m y to) (sym D.view) (record {
+    place = H.place;
+    member = H.member;
+    core = H.core;
+    layout = H.layout;
+    log_layout = H.log_layout;
+    log_part = H.log_part;
+    sets = H.sets;
+    allocator_layout = H.allocator_layout;
+    allocator_part = H.allocator_part;
+    spelled = H.spelled;
+    eight = H.eight;
+    placed = λ t lt. H.placed t lt;
+    apart = H.apart;
+    pending = H.pending;
+    admitted = H.admitted;
+    keys = λ k own which. let K = H.keys k own which in record { last = K.last; cell = K.cell; present = K.present; told = K.told };
+    mail = mail_same p m v now w.winds_down w.notices.items refl refl refl refl refl H.mail;
+    blocks = record {
+      held = H.blocks.held;
+      staged = λ q y. H.blocks.staged q (record { slot = y.slot; number = y.number; entry = y.entry; value = y.value; place = y.place; points = y.points });
+      once = λ q y z. H.blocks.once q (record { slot = y.slot; number = y.number; entry = y.entry; value = y.value; place = y.place; points = y.points }) (record { slot = z.slot; number = z.number; entry = z.entry; value = z.value; place = z.place; points = z.points });
+      only = λ q used. ⊎_elim (λ b. inl b) (λ y. inr (record { slot = y.slot; number = y.number; entry = y.entry; value = y.value; place = y.place; points = y.points })) (H.blocks.only q used);
+    };
+    waits = H.waits;
+    leads = record { seat = H.leads.seat; place = H.leads.place; number = H.leads.number; at = subst (LeadsAt H.leads.seat now) (sym C.idle.1) leads_now };
+    space = λ r. subst (HasSpaceFor to) (sym C.idle.1) tt;
+    broken = H.broken;
+    lost = H.lost;
+    cleaning = inr cleans_now;
+    remembers = H.remembers;
+    chunks = H.chunks;
+  })) where
+    leads_now : LeadsAt H.leads.seat now (leads.Nothing C.idle.0)
+    leads_now = let had : LeadsAt H.leads.seat v (leads.Nothing C.idle.0) = subst (LeadsAt H.leads.seat v) C.idle.1 H.leads.at in (had.0, had.1, had.2)
+
+  pub doomed_order : InOrder p m u x
+  doomed_order = subst (λ (y : Worker). InOrder p m u y) (sym D.same) (subst (λ (y : View). InOrder p m y to) (sym D.view) (record {
+    owned = O.owned;
+    single = O.single;
+    distinct = O.distinct;
+    heard = O.heard;
+    told = O.told;
+    versions = O.versions;
+    mine = O.mine;
+    next = O.next;
+    spelled = O.spelled;
+    recalls = O.recalls;
+    answers = O.answers;
+    hand = O.hand;
+    stops = O.stops;
+    agrees = O.agrees;
+    log = O.log;
+    names = O.names;
+  }))
+
+  -- what may vanish by v may still
+  more : (k n : ℕ) → v.doomed k n ≡ true → now.doomed k n ≡ true
+  more k n is = by (has D.now.doomed k n) where
+    by : (b : Bool) → cond b true (v.doomed k n) ≡ true
+    by true = refl
+    by false = is
+
+  -- nothing was left to be copied
+  none_left : (es : List (ℕ × Entry)) → length es ≤ D.victim.entries → es ≡ []
+  none_left [] few = refl
+  none_left (e ∷ es) few = absurd (let none = D.copied in omega (arith, few, none))
+
+  clears_now : Stands s p m v w → IsTelling s → IsCleanedBy s w.log w.standing x.clearing (Doomed D.victim.chunk)
+  clears_now S telling c is =
+      let here : D.now ≡ c = (let both : Some D.now ≡ Some c = sym D.is ∙ is in cc both) in
+      let had : CopiesIn s w.log w.standing D.victim w.clearing = subst (IsCleanedBy s w.log w.standing w.clearing) (way_is p m v w H D.victim D.first D.way) (S.names D.runs D.works telling).cleaned in
+      subst (ClearsIn s w.log w.standing) here (record {
+        chunk = subst (λ (j : ℕ). is_some (tail_of w.log.chunks j) ≡ true) chunk_is C.chunk;
+        ready = record {
+          gathered = D.gathered telling;
+          copied = none_left (left_to_copy w.standing (entries_in s w.log D.now.chunk)) (subst (λ (j : ℕ). length (left_to_copy w.standing (entries_in s w.log j)) ≤ D.victim.entries) (sym D.chunk) had.bounds.entries);
+        };
+      })
+
+  pub doomed_stands : Stands s p m v w → Stands s p m u x
+  doomed_stands S = subst (λ (y : Worker). Stands s p m u y) (sym D.same) (subst (λ (y : View). Stands s p m y to) (sym D.view) (record {
+    lies = S.lies;
+    licensed = λ telling image may. allowed p m v now image (record { kept = refl; flying = refl; doomed = more; blocks = λ q b e. e }) (S.licensed telling image may);
+    landed = λ whole still telling image may. allowed p m (grounded v) (grounded now) image (record { kept = refl; flying = refl; doomed = more; blocks = λ q b e. e }) (S.landed whole still telling image may);
+    log = S.log;
+    free = S.free;
+    due = S.due;
+    cut = S.cut;
+    names = λ r on telling. let N = S.names r on telling in record {
+      counted = N.counted;
+      read = N.read;
+      knows = N.knows;
+      cleaned = clears_now S telling;
+    };
+  }))

@@ -1,0 +1,97 @@
+-- The turn that dooms the names that vanish with a cleaned chunk.
+use Rattle.std.proofs.Common.{[], ◌∷◌, Some, refl, sym}
+use Rattle.group_laws.specs.Runs as runs
+use Rattle.group_board.specs.Trails.{step_with}
+use Rattle.core_worker.specs.declared.types.Cleaning.TheVariants.{Doomed}
+use Rattle.core_worker.specs.DoomsNames.{DoomsIn}
+use Rattle.core_worker.specs.Turning.Did.{dooms}
+use Rattle.core_worker.proofs.DoomedItem as doomed
+use Rattle.core_worker.proofs.LeftFair.{starts_nothing}
+use Rattle.core_worker.proofs.Made.{one_step}
+use Rattle.core_worker.proofs.worker.Worker.doom.Goals as goal
+
+pub doom_chunk-requires-clause-stands : goal.doom_chunk-requires-clause-stands
+doom_chunk-requires-clause-stands g c =
+    let seat = g.B.Board.seat c.args.board.now in
+    doomed.stands (g.R.Region.state c.args.region.now) seat.place seat.number (g.B.Board.view c.args.board.now) c.args.self.now c.requires.holds c.requires.stands c.requires.order c.args.victim.now c.requires.copies
+
+pub doom_chunk-requires-clause-has : goal.doom_chunk-requires-clause-has
+doom_chunk-requires-clause-has g c =
+    let seat = g.B.Board.seat c.args.board.now in
+    doomed.has_chunk (g.R.Region.state c.args.region.now) seat.place seat.number (g.B.Board.view c.args.board.now) c.args.self.now c.requires.holds c.requires.stands c.requires.order c.args.victim.now c.requires.copies c.in-Some.clearing (sym c.in-Some.ensures.value)
+
+pub doom_chunk-requires-clause-fresh : goal.doom_chunk-requires-clause-fresh
+doom_chunk-requires-clause-fresh g c =
+    let seat = g.B.Board.seat c.args.board.now in
+    doomed.fresh (g.R.Region.state c.args.region.now) seat.place seat.number (g.B.Board.view c.args.board.now) c.args.self.now c.requires.holds c.requires.stands c.requires.order c.args.victim.now c.requires.copies c.in-Some.clearing (sym c.in-Some.ensures.value)
+
+pub doom_chunk-requires-clause-room : goal.doom_chunk-requires-clause-room
+doom_chunk-requires-clause-room g c telling =
+    let seat = g.B.Board.seat c.args.board.now in
+    doomed.room (g.R.Region.state c.args.region.now) seat.place seat.number (g.B.Board.view c.args.board.now) c.args.self.now c.requires.holds c.requires.stands c.requires.order c.args.victim.now c.requires.copies c.in-Some.clearing (sym c.in-Some.ensures.value) telling
+
+pub doom_chunk-requires-clause-places : goal.doom_chunk-requires-clause-places
+doom_chunk-requires-clause-places g c =
+    let seat = g.B.Board.seat c.args.board.now in
+    doomed.places (g.R.Region.state c.args.region.now) seat.place seat.number (g.B.Board.view c.args.board.now) c.args.self.now c.requires.holds c.requires.stands c.requires.order c.args.victim.now c.requires.copies c.in-Some.clearing (sym c.in-Some.ensures.value)
+
+pub doom_chunk-requires-clause-told : goal.doom_chunk-requires-clause-told
+doom_chunk-requires-clause-told g c k n is =
+    let seat = g.B.Board.seat c.args.board.now in
+    doomed.told (g.R.Region.state c.args.region.now) seat.place seat.number (g.B.Board.view c.args.board.now) c.args.self.now c.requires.holds c.requires.stands c.requires.order c.args.victim.now c.requires.copies k n is
+
+pub doom_chunk-requires-clause-idle : goal.doom_chunk-requires-clause-idle
+doom_chunk-requires-clause-idle g c =
+    let seat = g.B.Board.seat c.args.board.now in
+    doomed.flying (g.R.Region.state c.args.region.now) seat.place seat.number (g.B.Board.view c.args.board.now) c.args.self.now c.requires.holds c.requires.stands c.requires.order c.args.victim.now c.requires.copies
+
+pub returns-clause-keeps : goal.returns-clause-keeps
+returns-clause-keeps g c =
+    let seat = g.B.Board.seat c.args.board.now in
+    let s = g.R.Region.state c.args.region.now in
+    let v = g.B.Board.view c.args.board.now in
+    let u = g.B.Board.view c.doom_chunk.new.board in
+    let w = c.args.self.now in
+    let x = record w { cleaning = Doomed c.args.victim.now.chunk; clearing = Some c.doom_chunk.new.clearing; own_gone = c.doom_chunk.new.own } in
+    let D : DoomsIn s seat.place seat.number v u w x = doomed.dooms_in s seat.place seat.number v w c.requires.holds c.requires.stands c.requires.order c.args.victim.now c.requires.copies c.in-Some.clearing (sym c.in-Some.ensures.value) u x c.doom_chunk.new.clearing refl c.doom_chunk.ensures.chunk c.doom_chunk.ensures.lone c.doom_chunk.ensures.noted c.doom_chunk.ensures.gathered c.doom_chunk.ensures.owned c.doom_chunk.ensures.view refl in
+    let before = g.B.Board.whole c.args.board.now in
+    let after = g.B.Board.whole c.doom_chunk.new.board in
+    let kind = runs.Kind.Doom c.doom_chunk.new.clearing.doomed in
+    doomed.keeps_doomed seat s before after v u w x c.requires.holds c.requires.stands c.requires.order D (kind ∷ [], one_step before after seat.number kind u c.doom_chunk.ensures.made)
+
+pub returns-clause-did : goal.returns-clause-did
+returns-clause-did g c refused before start passed passes mail =
+    let seat = g.B.Board.seat c.args.board.now in
+    let s = g.R.Region.state c.args.region.now in
+    let v = g.B.Board.view c.args.board.now in
+    let u = g.B.Board.view c.doom_chunk.new.board in
+    let w = c.args.self.now in
+    let x = record w { cleaning = Doomed c.args.victim.now.chunk; clearing = Some c.doom_chunk.new.clearing; own_gone = c.doom_chunk.new.own } in
+    let D : DoomsIn s seat.place seat.number v u w x = doomed.dooms_in s seat.place seat.number v w c.requires.holds c.requires.stands c.requires.order c.args.victim.now c.requires.copies c.in-Some.clearing (sym c.in-Some.ensures.value) u x c.doom_chunk.new.clearing refl c.doom_chunk.ensures.chunk c.doom_chunk.ensures.lone c.doom_chunk.ensures.noted c.doom_chunk.ensures.gathered c.doom_chunk.ensures.owned c.doom_chunk.ensures.view refl in
+    dooms refl (record { mid = v; before = passes; post = passed; mail = mail; dooms = D })
+
+pub returns-clause-less : goal.returns-clause-less
+returns-clause-less g c =
+    let seat = g.B.Board.seat c.args.board.now in
+    let s = g.R.Region.state c.args.region.now in
+    let v = g.B.Board.view c.args.board.now in
+    let u = g.B.Board.view c.doom_chunk.new.board in
+    let w = c.args.self.now in
+    let x = record w { cleaning = Doomed c.args.victim.now.chunk; clearing = Some c.doom_chunk.new.clearing; own_gone = c.doom_chunk.new.own } in
+    let D : DoomsIn s seat.place seat.number v u w x = doomed.dooms_in s seat.place seat.number v w c.requires.holds c.requires.stands c.requires.order c.args.victim.now c.requires.copies c.in-Some.clearing (sym c.in-Some.ensures.value) u x c.doom_chunk.new.clearing refl c.doom_chunk.ensures.chunk c.doom_chunk.ensures.lone c.doom_chunk.ensures.noted c.doom_chunk.ensures.gathered c.doom_chunk.ensures.owned c.doom_chunk.ensures.view refl in
+    doomed.doomed_lower (g.B.Board.whole c.args.board.now) (g.B.Board.whole c.doom_chunk.new.board) seat.number c.doom_chunk.new.clearing.doomed u w x c.doom_chunk.ensures.made (g.met.B.Board.lawful c.args.board.now)
+    (doomed.doomed_less s seat.place seat.number v u w x c.requires.holds c.requires.order D)
+
+pub returns-clause-starts : goal.returns-clause-starts
+returns-clause-starts g c =
+    let seat = g.B.Board.seat c.args.board.now in
+    let s = g.R.Region.state c.args.region.now in
+    let v = g.B.Board.view c.args.board.now in
+    let u = g.B.Board.view c.doom_chunk.new.board in
+    let w = c.args.self.now in
+    let x = record w { cleaning = Doomed c.args.victim.now.chunk; clearing = Some c.doom_chunk.new.clearing; own_gone = c.doom_chunk.new.own } in
+    let D : DoomsIn s seat.place seat.number v u w x = doomed.dooms_in s seat.place seat.number v w c.requires.holds c.requires.stands c.requires.order c.args.victim.now c.requires.copies c.in-Some.clearing (sym c.in-Some.ensures.value) u x c.doom_chunk.new.clearing refl c.doom_chunk.ensures.chunk c.doom_chunk.ensures.lone c.doom_chunk.ensures.noted c.doom_chunk.ensures.gathered c.doom_chunk.ensures.owned c.doom_chunk.ensures.view refl in
+    starts_nothing x D.idle
+
+pub returns-clause-steps : goal.returns-clause-steps
+returns-clause-steps g c passes = record { made = step_with (runs.Kind.Doom c.doom_chunk.new.clearing.doomed) (g.B.Board.view c.doom_chunk.new.board) ∷ []; more = c.doom_chunk.ensures.steps.0; loads = tt; ends = refl; last = record { handed = λ _. c.doom_chunk.ensures.steps.1; alone = λ _ no. absurd (cc no) }; asks = λ no. absurd (cc no) }

@@ -1,0 +1,38 @@
+-- The names that vanish with a cleaned chunk are doomed, of the parts of a worker.
+use Rattle.std.specs.Prelude.{◌≡◌, Bool, false, ℕ, Some}
+use Rattle.pm_region.specs.State.{State, IsTelling}
+use Rattle.core_log.specs.Walking.{entries_in}
+use Rattle.log_cleaner.specs.Clearing.{ClearingState, AreLone, AreNoted, IsGathered}
+use Rattle.log_cleaner.specs.declared.types.Victim.{Victim}
+use Rattle.group_laws.specs.Places as groups
+use Rattle.group_laws.specs.MemberViews.{View}
+use Rattle.group_board.specs.Views.{after_doom}
+use Rattle.core_worker.specs.declared.types.Cleaning.TheVariants.{Copying, Doomed}
+use Rattle.core_worker.specs.declared.worker.Worker.{Worker}
+use Rattle.core_worker.specs.LogNames.{AreOwnOf}
+use Rattle.core_worker.specs.Supplies.{under_way}
+use Rattle.core_worker.specs.Ties.{LeadsNothing}
+
+-- Of a chunk of which nothing is left to be copied the names were noted, and those were doomed that were told dead and stand there alone: exactly these, where the region tells. The own ones of the doomed are in hand.
+pub record DoomsIn (s : State) (p : groups.Place) (m : ℕ) (v u : View) (w x : Worker) :
+    Type 0 where
+  pub runs : w.stopped ≡ false
+  pub works : w.winds_down ≡ false
+  pub idle : LeadsNothing w
+  pub victim : Victim
+  pub first : Bool
+  pub way : under_way w ≡ Copying victim first
+  pub copied : victim.entries ≡ 0
+  pub now : ClearingState
+  pub is : x.clearing ≡ Some now
+  pub chunk : now.chunk ≡ victim.chunk
+  pub lone : AreLone w.standing now.doomed
+  pub noted : AreNoted now
+  pub gathered : IsTelling s → IsGathered w.standing (entries_in s w.log now.chunk) now
+  pub own : AreOwnOf p m now.doomed x.own_gone.items
+  pub view : u ≡ after_doom now.doomed v
+  pub same : x ≡ record w {
+    cleaning = Doomed victim.chunk;
+    clearing = x.clearing;
+    own_gone = x.own_gone;
+  }

@@ -1,0 +1,82 @@
+// The turn that dooms the names that vanish with a cleaned chunk.
+ghost use Rattle.std.specs.Prelude.{◌≡◌, ℕ, ◌≤◌, ◌<◌, ◌==◌, true, [], ◌∷◌, length, is_some, vec_capacity};
+ghost use Rattle.std.specs.List.{filter};
+ghost use Rattle.pm_region.specs.State.{IsTelling};
+ghost use Rattle.chunk_map.specs.Layouts.{owner};
+ghost use Rattle.core_log.specs.Log.{StandsIn, tail_of};
+ghost use Rattle.core_log.specs.Walking.{entries_in};
+ghost use Rattle.group_laws.specs.Places.{IsPlace, members, core_of};
+ghost use Rattle.group_laws.specs.Runs as runs;
+ghost use Rattle.group_board.specs.Told.{Makes};
+ghost use Rattle.group_board.specs.Trails.{step_with};
+ghost use Rattle.group_board.specs.Views.{after_doom};
+ghost use Rattle.log_standing.specs.NameCounts.{is_told};
+ghost use Rattle.log_cleaner.specs.Clearing.{IsFresh, AreLone, AreNoted, IsGathered};
+ghost use Rattle.core_worker.specs.LogNames.{AreOwnOf};
+
+use crate::cleaning_parts::doom_names;
+use chunk_map::Layout;
+use core_log::CoreLog;
+use group_board::Board;
+use log_cleaner::Clearing;
+use log_entry::EntryName;
+use log_standing::Standing;
+use pm_region::Region;
+use store_image::geometry::owner;
+
+// Notes which of the names are of the core's own keys.
+fn own_names(layout: &Layout, core: u32, names: &[EntryName], own: &mut Vec<EntryName>)
+    requires room { length names.now ≤ vec_capacity own.old }
+    ensures { own.new.items ≡ filter (λ n. owner layout.now n.key == core) names.now }
+{
+    let geometry = layout.geometry();
+    own.clear();
+    for name in names {
+        if owner(&geometry, name.key) == core {
+            own.push(*name).unwrap();
+        }
+    }
+}
+
+// Dooms the dead names that stand in a cleaned chunk alone, and notes which of them are of own keys.
+pub(crate) fn doom_chunk<R: Region, B: Board>(
+    region: &R,
+    board: &mut B,
+    log: &CoreLog,
+    standing: &Standing,
+    clearing: &mut Clearing,
+    own: &mut Vec<EntryName>,
+    layout: &Layout,
+    core: u32,
+)
+    requires place { IsPlace (B.seat board.old).place }
+    requires layout { layout.now ≡ (B.seat board.old).place.layout }
+    requires core { core ≡ core_of (B.seat board.old).place (B.seat board.old).number }
+    requires stands { StandsIn (R.state region.now) log.now }
+    requires has { is_some (tail_of log.now.chunks clearing.old.chunk) ≡ true }
+    requires fresh { IsFresh clearing.old }
+    requires room { IsTelling (R.state region.now)
+        → length (entries_in (R.state region.now) log.now clearing.old.chunk) ≤ clearing.old.room }
+    requires places { clearing.old.room ≤ vec_capacity own.old }
+    requires member { (B.seat board.old).number < members (B.seat board.old).place }
+    requires told { (k n : ℕ) → is_told standing.now k n ≡ true
+        → (B.view board.old).dead k n ≡ true }
+    requires idle { (B.view board.old).flying ≡ [] }
+    ensures seat { B.seat board.new ≡ B.seat board.old }
+    ensures view { B.view board.new ≡ after_doom clearing.new.doomed (B.view board.old) }
+    ensures gathered { IsTelling (R.state region.now) → IsGathered standing.now
+        (entries_in (R.state region.now) log.now clearing.old.chunk) clearing.new }
+    ensures lone { AreLone standing.now clearing.new.doomed }
+    ensures noted { AreNoted clearing.new }
+    ensures chunk { clearing.new.chunk ≡ clearing.old.chunk }
+    ensures owned { AreOwnOf (B.seat board.old).place (B.seat board.old).number clearing.new.doomed
+        own.new.items }
+    ensures steps { (B.trail board.new
+        ≡ step_with (runs.Kind.Doom clearing.new.doomed) (B.view board.new) ∷ B.trail board.old)
+        × (B.at board.new ≡ (R.state region.now).stamp) }
+    ensures made { Makes (B.whole board.old) (B.seat board.old).number
+        (runs.Kind.Doom clearing.new.doomed) (B.whole board.new) (B.view board.new) }
+{
+    doom_names(region, board, log, standing, clearing);
+    own_names(layout, core, clearing.doomed_of(), own);
+}
