@@ -1,5 +1,8 @@
 -- A cleaning under way stays so between two calls, or none is gone on with once the worker stops or winds down.
-use Rattle.std.proofs.Common.{◌≡◌, inl, inr, ⊎_elim, ℕ, ◌≤◌, ◌||◌, Bool, true, false, cond, None, refl, sym, ◌∙◌, ap, subst, arith}
+use Rattle.std.proofs.Common.{◌≡◌, ◌≢◌, inl, inr, ⊎_elim, ℕ, ◌≤◌, ◌||◌, Bool, true, false, cond, None, refl, sym, ◌∙◌, ap, subst, arith}
+use Rattle.std.specs.Prelude.{Vec, vec_capacity}
+use Rattle.std.specs.Global.{Global}
+use Rattle.crash_core.specs.declared.names.Notices.{Notices}
 use Rattle.group_laws.specs.Places.{Place}
 use Rattle.group_laws.specs.MemberViews.{View}
 use Rattle.lazy_alloc.specs.Sets.{Sets, chunk_is_free, chunk_class, free_chunk_count}
@@ -10,7 +13,8 @@ use Rattle.core_worker.specs.declared.types.Cleaning.TheVariants.{Nothing, Copyi
 use Rattle.core_worker.specs.declared.worker.Worker.{Worker}
 use Rattle.core_worker.specs.Supplies.{room_for, under_way, IsSmall}
 use Rattle.core_worker.specs.Status.{is_leading}
-use Rattle.core_worker.specs.KeepsCleaning.{HasPhase, KeepsCleaning}
+use Rattle.core_worker.specs.GoneMail.{HasPlacesFor}
+use Rattle.core_worker.specs.KeepsCleaning.{GoesOn, HasPhase, may_go, KeepsCleaning}
 use Rattle.core_worker.proofs.UnderWay.{still_nothing, wound_way, room_same}
 
 -- who has stopped goes on with nothing
@@ -32,7 +36,7 @@ small_way p m v w K = ⊎_elim
     (λ C. subst IsSmall (sym (runs_way w C.runs C.works)) (by C.now w.cleaning C.phase))
     K
   where
-    by : (x : ClearingState) (c : Cleaning) → HasPhase p m v.doomed v.dead w.log w.standing x w.own_gone c → IsSmall c
+    by : (x : ClearingState) (c : Cleaning) → HasPhase p m v.doomed v.dead w.log w.standing x w.own_gone.items c → IsSmall c
     by x Nothing h = absurd h
     by x (Copying victim first) h = h.small
     by x (Doomed chunk) h = tt
@@ -67,6 +71,8 @@ keeps_few p m v w a F K = ⊎_elim
       uncut = F.uncut C.now.chunk C.taken C.uncut;
       scarce = (let were = C.scarce in let few = F.few in omega (arith, were, few));
       phase = C.phase;
+      own_places = C.own_places;
+      places = C.places;
     }))
     K
 
@@ -87,13 +93,15 @@ keeps_seen p m v u w doomed dead K = ⊎_elim
       uncut = C.uncut;
       scarce = C.scarce;
       phase = by C.now w.cleaning C.phase;
+      own_places = C.own_places;
+      places = C.places;
     }))
     K
   where
-    by : (x : ClearingState) (c : Cleaning) → HasPhase p m v.doomed v.dead w.log w.standing x w.own_gone c → HasPhase p m u.doomed u.dead w.log w.standing x w.own_gone c
+    by : (x : ClearingState) (c : Cleaning) → HasPhase p m v.doomed v.dead w.log w.standing x w.own_gone.items c → HasPhase p m u.doomed u.dead w.log w.standing x w.own_gone.items c
     by x Nothing h = h
     by x (Copying victim first) h = h
-    by x (Doomed chunk) h = (h.0, (λ k n is. let y = h.1 k n is in record { marked = doomed k n y.marked; dies = dead k n y.dies; lone = y.lone; noted = y.noted }), h.2)
+    by x (Doomed chunk) h = (h.0, (λ k n is. let y = h.1 k n is in record { marked = doomed k n y.marked; dies = dead k n y.dies; lone = y.lone; noted = y.noted }), h.2, h.3)
 
 -- names are counted as before
 pub keeps_counts : (p : Place) (m : ℕ) (v : View) (w : Worker) (st : StandingState) → ((k n : ℕ) → count_of st k n ≡ count_of w.standing k n) → KeepsCleaning p m v w → KeepsCleaning p m v (record w { standing = st })
@@ -112,16 +120,45 @@ keeps_counts p m v w st counts K = ⊎_elim
       uncut = C.uncut;
       scarce = C.scarce;
       phase = by C.now w.cleaning C.phase;
+      own_places = C.own_places;
+      places = C.places;
     }))
     K
   where
-    by : (x : ClearingState) (c : Cleaning) → HasPhase p m v.doomed v.dead w.log w.standing x w.own_gone c → HasPhase p m v.doomed v.dead w.log st x w.own_gone c
+    by : (x : ClearingState) (c : Cleaning) → HasPhase p m v.doomed v.dead w.log w.standing x w.own_gone.items c → HasPhase p m v.doomed v.dead w.log st x w.own_gone.items c
     by x Nothing h = h
     by x (Copying victim first) h = h
-    by x (Doomed chunk) h = (h.0, (λ k n is. let y = h.1 k n is in record { marked = y.marked; dies = y.dies; lone = counts k n ∙ y.lone; noted = y.noted }), h.2)
+    by x (Doomed chunk) h = (h.0, (λ k n is. let y = h.1 k n is in record { marked = y.marked; dies = y.dies; lone = counts k n ∙ y.lone; noted = y.noted }), h.2, h.3)
 
 -- the room that a leader is told of stays where a worker that leads winds down
 pub led_room : (p : Place) (m : ℕ) (v : View) (w : Worker) (winds : Bool) → (winds ≡ false → w.winds_down ≡ false) → KeepsCleaning p m v w → is_leading w.leading ≡ true → room_for (record w { winds_down = winds }) ≡ room_for w
 led_room p m v w winds works K leading =
     let none = leads_none p m v w K leading in
     room_same w winds (still_nothing w.cleaning w.stopped w.winds_down w.stopped winds (λ r. r) works none ∙ sym none)
+
+-- what waits to be told may be another, where there are as many places for gone names
+pub keeps_boxes : (p : Place) (m : ℕ) (v : View) (w : Worker) (boxes : Vec Notices Global) → ((most : ℕ) → under_way w ≢ Nothing → most ≤ vec_capacity w.own_gone → HasPlacesFor most w.notices.items → HasPlacesFor most boxes.items) → KeepsCleaning p m v w → KeepsCleaning p m v (record w { notices = boxes })
+keeps_boxes p m v w boxes places K = ⊎_elim
+    (λ none. inl none)
+    (λ C. inr (record {
+      goes = C.goes;
+      runs = C.runs;
+      works = C.works;
+      idle = C.idle;
+      now = C.now;
+      is = C.is;
+      chunk = C.chunk;
+      closed = C.closed;
+      taken = C.taken;
+      uncut = C.uncut;
+      scarce = C.scarce;
+      phase = C.phase;
+      own_places = C.own_places;
+      places = places (may_go C.now w.cleaning) (λ none. goes_on w.cleaning C.goes (sym (runs_way w C.runs C.works) ∙ none)) C.own_places C.places;
+    }))
+    K
+  where
+    goes_on : (c : Cleaning) → GoesOn c → c ≢ Nothing
+    goes_on Nothing goes is = absurd goes
+    goes_on (Copying victim first) goes is = (cc is)
+    goes_on (Doomed chunk) goes is = (cc is)

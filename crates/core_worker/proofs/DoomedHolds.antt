@@ -1,6 +1,6 @@
 -- What the doom of a cleaned chunk's names leaves of the ties of a worker.
 use Rattle.std.proofs.Common.{◌≡◌, ◌≢◌, inl, inr, ⊎_elim, ℕ, ◌≤◌, ◌==◌, Bool, true, false, cond, List, [], ◌∷◌, length, Some, None, refl, sym, ◌∙◌, ap, subst, arith}
-use Rattle.std.specs.Prelude.{is_some}
+use Rattle.std.specs.Prelude.{is_some, vec_capacity}
 use Rattle.std.proofs.lemmas.Bool.{eqb-true, and_parts}
 use Rattle.pm_region.specs.State.{State, IsTelling}
 use Rattle.log_entry.specs.declared.entry.Entry.{Entry}
@@ -8,6 +8,7 @@ use Rattle.core_log.specs.Log.{tail_of}
 use Rattle.core_log.specs.Walking.{entries_in}
 use Rattle.lazy_alloc.specs.Sets.{chunk_is_free, chunk_class}
 use Rattle.log_standing.specs.NameCounts.{is_told, count_of}
+use Rattle.log_cleaner.specs.Clearing.{ClearingState}
 use Rattle.log_cleaner.specs.Copying.{left_to_copy}
 use Rattle.group_laws.specs.Places.{Place}
 use Rattle.group_laws.specs.Updates.{has}
@@ -15,11 +16,13 @@ use Rattle.group_laws.specs.MemberViews.{View}
 use Rattle.group_board.specs.Views.{after_doom}
 use Rattle.licence.specs.Licence.{grounded}
 use Rattle.licence.proofs.Clients.{allowed}
+use Rattle.core_worker.specs.declared.types.Cleaning.{Cleaning}
 use Rattle.core_worker.specs.declared.types.Cleaning.TheVariants.{Nothing, Copying, Doomed}
 use Rattle.core_worker.specs.declared.types.Leading.TheVariants as leads
 use Rattle.core_worker.specs.declared.worker.Worker.{Worker}
 use Rattle.core_worker.specs.DoomsNames.{DoomsIn}
-use Rattle.core_worker.specs.KeepsCleaning.{GoesOn, HasPhase, MayVanish, IsBegun, Cleans}
+use Rattle.core_worker.specs.GoneMail.{HasPlacesFor}
+use Rattle.core_worker.specs.KeepsCleaning.{GoesOn, HasPhase, MayVanish, IsBegun, may_go, Cleans}
 use Rattle.core_worker.specs.LogNames.{CopiesIn, ClearsIn, IsCleanedBy}
 use Rattle.core_worker.specs.Order.{InOrder}
 use Rattle.core_worker.specs.Supplies.{under_way}
@@ -30,23 +33,23 @@ use Rattle.core_worker.proofs.MailKept.{mail_same}
 
 -- who goes on with copies cleans a chunk as its ties say
 module _ (p : Place) (m : ℕ) (v : View) (w : Worker) (H : Holds p m v w) (victim : _) (first : Bool) (way : under_way w ≡ Copying victim first) where
-  pub cleans : Cleans p m v.doomed v.dead w.stopped w.winds_down w.leading w.log w.allocator w.standing w.clearing w.own_gone w.cleaning
+  pub cleans : Cleans p m v.doomed v.dead w.stopped w.winds_down w.leading w.log w.allocator w.standing w.clearing w.own_gone w.notices.items w.cleaning
   cleans = ⊎_elim (λ none. absurd (let both : Nothing ≡ Copying victim first = sym none ∙ way in cc both)) (λ C. C) H.cleaning
 
   pub way_is : w.cleaning ≡ Copying victim first
   way_is = sym (runs_way w cleans.runs cleans.works) ∙ way
 
-  pub begun : IsBegun w.log cleans.now w.own_gone victim first
-  begun = subst (HasPhase p m v.doomed v.dead w.log w.standing cleans.now w.own_gone) way_is cleans.phase
+  pub begun : IsBegun w.log cleans.now victim first
+  begun = subst (HasPhase p m v.doomed v.dead w.log w.standing cleans.now w.own_gone.items) way_is cleans.phase
 
   pub copied : victim.entries ≡ 0
   copied = subst GoesOn way_is cleans.goes
 
 module _ (s : State) (p : Place) (m : ℕ) (v u : View) (w x : Worker) (H : Holds p m v w) (O : InOrder p m v w) (D : DoomsIn s p m v u w x) where
-  abbrev C : Cleans p m v.doomed v.dead w.stopped w.winds_down w.leading w.log w.allocator w.standing w.clearing w.own_gone w.cleaning
+  abbrev C : Cleans p m v.doomed v.dead w.stopped w.winds_down w.leading w.log w.allocator w.standing w.clearing w.own_gone w.notices.items w.cleaning
   C = cleans p m v w H D.victim D.first D.way
 
-  abbrev B : IsBegun w.log C.now w.own_gone D.victim D.first
+  abbrev B : IsBegun w.log C.now D.victim D.first
   B = begun p m v w H D.victim D.first D.way
 
   -- the clearing is that of the same chunk
@@ -71,10 +74,23 @@ module _ (s : State) (p : Place) (m : ℕ) (v u : View) (w x : Worker) (H : Hold
         marked = marked k n is;
         dies = (O.log D.runs D.works).deaths k n lone.0;
         lone = eqb-true (count_of w.standing k n) 1 lone.1;
-        noted = D.noted k n some;
+        noted = (let times = D.noted k n in omega (arith, some, times));
       }
 
-  cleans_now : Cleans p m now.doomed now.dead w.stopped w.winds_down w.leading w.log w.allocator w.standing x.clearing x.own_gone (Doomed D.victim.chunk)
+  old_is : D.old ≡ C.now
+  old_is = let both : Some D.old ≡ Some C.now = sym D.was ∙ C.is in cc both
+
+  -- no more names are gone than the chunk had room for
+  fewer : length D.now.doomed ≤ C.now.room
+  fewer = subst (λ (c : ClearingState). length D.now.doomed ≤ c.room) old_is D.few
+
+  room_places : C.now.room ≤ vec_capacity w.own_gone
+  room_places = subst (λ (c : Cleaning). may_go C.now c ≤ vec_capacity w.own_gone) (way_is p m v w H D.victim D.first D.way) C.own_places
+
+  boxes_places : HasPlacesFor C.now.room w.notices.items
+  boxes_places = subst (λ (c : Cleaning). HasPlacesFor (may_go C.now c) w.notices.items) (way_is p m v w H D.victim D.first D.way) C.places
+
+  cleans_now : Cleans p m now.doomed now.dead w.stopped w.winds_down w.leading w.log w.allocator w.standing x.clearing x.own_gone w.notices.items (Doomed D.victim.chunk)
   cleans_now = record {
     goes = tt;
     runs = D.runs;
@@ -87,7 +103,9 @@ module _ (s : State) (p : Place) (m : ℕ) (v u : View) (w x : Worker) (H : Hold
     taken = subst (λ (j : ℕ). chunk_is_free w.allocator j ≡ false) chunk_is C.taken;
     uncut = subst (λ (j : ℕ). chunk_class w.allocator j ≡ None) chunk_is C.uncut;
     scarce = C.scarce;
-    phase = (D.chunk, may, D.own);
+    phase = (D.chunk, may, D.own, D.noted);
+    own_places = (let few = fewer in let had = room_places in let more = D.places in omega (arith, few, had, more));
+    places = λ h n is. (let few = fewer in let had = boxes_places h n is in omega (arith, few, had));
   }
 
   pub doomed_holds : Holds p m u x

@@ -26,7 +26,7 @@ use Rattle.core_worker.specs.declared.worker.Worker.{Worker}
 use Rattle.core_worker.specs.CleaningLeft.{clears_left}
 use Rattle.core_worker.specs.DoomsNames.{DoomsIn}
 use Rattle.core_worker.specs.Left.{serves_left, left, Lowers}
-use Rattle.core_worker.specs.KeepsCleaning.{IsBegun, Cleans}
+use Rattle.core_worker.specs.KeepsCleaning.{IsBegun, may_go, Cleans}
 use Rattle.core_worker.specs.LogNames.{AreOwnOf, CopiesIn, IsCleanedBy}
 use Rattle.core_worker.specs.Order.{InOrder}
 use Rattle.core_worker.specs.OwnPlaces.{own}
@@ -47,10 +47,10 @@ use Rattle.core_worker.proofs.TurnLaws.{nothing_fixed}
 
 -- what a turn finds that dooms
 module _ (s : State) (p : Place) (m : ℕ) (v : View) (w : Worker) (H : Holds p m v w) (S : Stands s p m v w) (O : InOrder p m v w) (victim : Victim) (d : (first : Bool) × (under_way w ≡ Copying victim first)) where
-  pub cleans : Cleans p m v.doomed v.dead w.stopped w.winds_down w.leading w.log w.allocator w.standing w.clearing w.own_gone w.cleaning
+  pub cleans : Cleans p m v.doomed v.dead w.stopped w.winds_down w.leading w.log w.allocator w.standing w.clearing w.own_gone w.notices.items w.cleaning
   cleans = doomed.cleans p m v w H victim d.0 d.1
 
-  begun : IsBegun w.log cleans.now w.own_gone victim d.0
+  begun : IsBegun w.log cleans.now victim d.0
   unfolding cleans
   begun = doomed.begun p m v w H victim d.0 d.1
 
@@ -68,8 +68,8 @@ module _ (s : State) (p : Place) (m : ℕ) (v : View) (w : Worker) (H : Holds p 
     now_is : cleans.now ≡ c
     now_is = let both : Some cleans.now ≡ Some c = sym cleans.is ∙ is in cc both
 
-    begun_now : IsBegun w.log c w.own_gone victim d.0
-    begun_now = subst (λ (y : ClearingState). IsBegun w.log y w.own_gone victim d.0) now_is begun
+    begun_now : IsBegun w.log c victim d.0
+    begun_now = subst (λ (y : ClearingState). IsBegun w.log y victim d.0) now_is begun
 
     pub has_chunk : is_some (tail_of w.log.chunks c.chunk) ≡ true
     has_chunk = subst (λ (y : ClearingState). is_some (tail_of w.log.chunks y.chunk) ≡ true) now_is cleans.chunk
@@ -78,16 +78,16 @@ module _ (s : State) (p : Place) (m : ℕ) (v : View) (w : Worker) (H : Holds p 
     fresh = begun_now.fresh
 
     pub places : c.room ≤ vec_capacity w.own_gone
-    places = begun_now.places
+    places = subst (λ (y : ClearingState). y.room ≤ vec_capacity w.own_gone) now_is (subst (λ (k : Cleaning). may_go cleans.now k ≤ vec_capacity w.own_gone) (doomed.way_is p m v w H victim d.0 d.1) cleans.own_places)
 
     pub room : IsTelling s → length (entries_in s w.log c.chunk) ≤ c.room
     room telling = subst (λ (j : ℕ). length (entries_in s w.log j) ≤ c.room) (sym begun_now.chunk) (had.room c is) where
       had : CopiesIn s w.log w.standing victim w.clearing
       had = subst (IsCleanedBy s w.log w.standing w.clearing) (doomed.way_is p m v w H victim d.0 d.1) (S.names cleans.runs cleans.works telling).cleaned
 
-    pub dooms_in : (u : View) (x : Worker) (now : ClearingState) → x.clearing ≡ Some now → now.chunk ≡ c.chunk → AreLone w.standing now.doomed → AreNoted now → (IsTelling s → IsGathered w.standing (entries_in s w.log c.chunk) now)
+    pub dooms_in : (u : View) (x : Worker) (now : ClearingState) → x.clearing ≡ Some now → now.chunk ≡ c.chunk → AreLone w.standing now.doomed → AreNoted now → length now.doomed ≤ c.room → vec_capacity w.own_gone ≤ vec_capacity x.own_gone → (IsTelling s → IsGathered w.standing (entries_in s w.log c.chunk) now)
         → AreOwnOf p m now.doomed x.own_gone.items → u ≡ after_doom now.doomed v → x ≡ record w { cleaning = Doomed victim.chunk; clearing = x.clearing; own_gone = x.own_gone } → DoomsIn s p m v u w x
-    dooms_in u x now has chunk lone noted gathered own view same = record {
+    dooms_in u x now has chunk lone noted few capacity gathered own view same = record {
       runs = cleans.runs;
       works = cleans.works;
       idle = cleans.idle;
@@ -95,13 +95,17 @@ module _ (s : State) (p : Place) (m : ℕ) (v : View) (w : Worker) (H : Holds p 
       first = d.0;
       way = d.1;
       copied = doomed.copied p m v w H victim d.0 d.1;
+      old = c;
+      was = is;
       now = now;
       is = has;
       chunk = chunk ∙ begun_now.chunk;
       lone = lone;
       noted = noted;
+      few = few;
       gathered = λ telling. subst (λ (j : ℕ). IsGathered w.standing (entries_in s w.log j) now) (sym chunk) (gathered telling);
       own = own;
+      places = capacity;
       view = view;
       same = same;
     }

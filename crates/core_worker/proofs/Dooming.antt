@@ -14,7 +14,7 @@ use Rattle.core_worker.specs.LogNames.{AreOwnOf}
 use Rattle.core_worker.proofs.StartBlocks.{own_of}
 
 -- names that a test of their keys chooses
-has_chosen : (test : ℕ → Bool) (ns : List EntryName) (k n : ℕ) → has (filter (λ (x : EntryName). test x.key) ns) k n ≡ (test k && has ns k n)
+pub has_chosen : (test : ℕ → Bool) (ns : List EntryName) (k n : ℕ) → has (filter (λ (x : EntryName). test x.key) ns) k n ≡ (test k && has ns k n)
 has_chosen test [] k n = by (test k) where
   by : (b : Bool) → false ≡ (b && false)
   by true = refl

@@ -34,10 +34,11 @@ use Rattle.core_worker.specs.GoneNames.{first_of, restarted_by, is_forgotten, la
 use Rattle.core_worker.specs.Hearing.{HearsAll, last_change}
 use Rattle.core_worker.specs.EndsCleaning.{EndsIn}
 use Rattle.core_worker.specs.Order.{InOrder}
-use Rattle.core_worker.specs.Outbox.{mailing, waiting_dead, as_told, KeepsMail}
+use Rattle.core_worker.specs.Outbox.{mailing, waiting_dead, KeepsMail}
 use Rattle.conflict_queue.specs.Waiting.{waiting}
 use Rattle.core_worker.specs.Ties.{LeadsAt, HasSpaceFor, Holds, is_lost}
 use Rattle.core_worker.proofs.EndedKeys.{knows_all, key_restarted}
+use Rattle.core_worker.proofs.FiledMail.{waiting_is, mail_filed}
 use Rattle.core_worker.proofs.GoneKeys.{knows_after, placed_after}
 use Rattle.core_worker.proofs.Posts.{busy_same}
 use Rattle.core_worker.proofs.HeardMail.{told_swap, told_still}
@@ -278,8 +279,8 @@ module _ (p : Place) (m : ℕ) (v u : View) (w x : Worker) (c : ClearingState) (
         (λ y. inr (y.0, busy_is k ∙ y.1, stopped_is ∙ y.2))
         (H.pending k q (sym (pending_is k) ∙ has));
     admitted = λ k busy. (let had = H.admitted k (sym (busy_is k) ∙ busy) in let room = room_is k in let waits = ap (λ (y : Worker). length (waiting y.queue k)) E.same in omega (arith, had, room, waits));
-    keys = λ k own which. subst (λ (y : Worker). KnowsKey p (as_told y u) k (known_at x.index k)) (sym E.same) (after.keys k own);
-    mail = subst (λ (y : Worker). KeepsMail p m u y.winds_down y.notices.items) (sym E.same) (mail_still p m v u w.winds_down w.notices.items still_now H.mail);
+    keys = λ k own which. subst (λ (ns : List EntryName). KnowsKey p (mailing ns u) k (known_at x.index k)) (sym (waiting_is p m c.doomed w.notices.items x.notices.items E.files)) (after.keys k own);
+    mail = subst (λ (b : Bool). KeepsMail p m u b x.notices.items) (sym (ap (λ (y : Worker). y.winds_down) E.same)) (mail_filed p m c.doomed w.notices.items x.notices.items E.files H.place u w.winds_down (mail_still p m v u w.winds_down w.notices.items still_now H.mail) leaves_now);
     blocks = record {
       held = λ q b has. block_still q (length b.bytes) (H.blocks.held q b (sym (ap (λ (f : ℕ → _). f q) blocks_is) ∙ has));
       staged = λ q y. let s = H.blocks.staged q (block_was q y) in (block_still q (length y.value) s.0, ap (λ (f : ℕ → _). f q) blocks_is ∙ s.1);
@@ -300,6 +301,9 @@ module _ (p : Place) (m : ℕ) (v u : View) (w x : Worker) (c : ClearingState) (
 
     leading_is : x.leading ≡ w.leading
     leading_is = ap (λ (y : Worker). y.leading) E.same
+
+    leaves_now : (k i : ℕ) → owner p k ≢ m → has c.doomed k i ≡ true → u.leaving k i ≡ true
+    leaves_now k i ne is = ap (λ (y : View). y.leaving k i) view_is ∙ (λ j. cond (not (ne_eqb (owner p k) m ne j) && is j) true (v.leaving k i))
 
     leads_now : LeadsAt H.leads.seat u (leads.Nothing E.idle.0)
     leads_now = (let had : LeadsAt H.leads.seat v (leads.Nothing E.idle.0) = subst (LeadsAt H.leads.seat v) E.idle.1 H.leads.at in (ap (λ (y : View). y.holds) view_is ∙ had.0, (λ a s. ap (λ (y : View). y.taken a s) view_is ∙ had.1 a s), (λ whole. ap (λ (y : View). y.flying) view_is ∙ had.2 (sym (ap (λ (y : View). y.broken) view_is) ∙ whole))))

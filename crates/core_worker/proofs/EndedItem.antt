@@ -1,5 +1,5 @@
 -- The turn that ends a cleaning: what it finds, what it keeps, and that less is left to do.
-use Rattle.std.proofs.Common.{◌≡◌, ◌≢◌, inl, ⊎_elim, ℕ, suc, ◌≤◌, ◌<◌, Bool, true, false, cond, List, [], ◌∷◌, length, Option, Some, None, refl, sym, ◌∙◌, ap, subst, arith}
+use Rattle.std.proofs.Common.{◌≡◌, ◌≢◌, inl, ⊎_elim, ℕ, suc, ◌≤◌, ◌<◌, ◌==◌, Bool, true, false, cond, List, [], ◌∷◌, length, Option, Some, None, refl, sym, ◌∙◌, ap, subst, arith}
 use Rattle.std.specs.Prelude.{is_some}
 use Rattle.pm_region.specs.State.{State, IsTelling, cell_now, Rose}
 use Rattle.log_entry.specs.declared.entry.EntryName.{EntryName}
@@ -9,6 +9,9 @@ use Rattle.lazy_alloc.specs.Sets.{chunk_is_free, chunk_class}
 use Rattle.lazy_alloc.specs.Written.{PartLies}
 use Rattle.log_cleaner.specs.Clearing.{ClearingState, IsReady}
 use Rattle.log_cleaner.specs.Copying.{IsUpToDate}
+use Rattle.log_cleaner.specs.Dropping.{lone_in}
+use Rattle.log_standing.specs.NameCounts.{count_of}
+use Rattle.std.proofs.lemmas.Bool.{eq-eqb}
 use Rattle.log_cleaner.specs.ImagesBeside.{AgreesIn}
 use Rattle.log_cleaner.specs.Vanishing.{MayGo, NoneElse}
 use Rattle.group_laws.specs.State.{Group}
@@ -29,8 +32,9 @@ use Rattle.core_worker.specs.declared.types.Place.TheVariants.{Free, Staged, Pos
 use Rattle.core_worker.specs.declared.worker.Worker.{Worker}
 use Rattle.core_worker.specs.CleaningLeft.{clears_left}
 use Rattle.core_worker.specs.EndsCleaning.{EndsCleaning, EndsIn, EndsInRegion}
+use Rattle.core_worker.specs.GoneMail.{HasPlacesFor, FilesGone}
 use Rattle.core_worker.specs.GoneNames.{first_of, restarted_by, is_forgotten}
-use Rattle.core_worker.specs.KeepsCleaning.{HasPhase, Cleans}
+use Rattle.core_worker.specs.KeepsCleaning.{HasPhase, may_go as may_go_with, Cleans}
 use Rattle.core_worker.specs.Left.{place_left, places_left, serves_left, left, Lowers}
 use Rattle.core_worker.specs.LogNames.{AreOwnOf, ClearsIn, IsCleanedBy, KnowsBy}
 use Rattle.core_worker.specs.Order.{InOrder, MayLeadStopped}
@@ -46,6 +50,8 @@ use Rattle.core_worker.proofs.EndedHolds.{ended_holds}
 use Rattle.core_worker.proofs.EndedMoves.{ended_moves, ended_room}
 use Rattle.core_worker.proofs.EndedOrder.{ended_order, names_now}
 use Rattle.core_worker.proofs.EndedStands.{ended_stands}
+use Rattle.core_worker.proofs.FiledLeft.{few_that, times_named}
+use Rattle.core_worker.proofs.FiledMail.{few_more}
 use Rattle.core_worker.proofs.Led.{runs_whole}
 use Rattle.core_worker.proofs.LeftItems.{IsLawful, lowers_step}
 use Rattle.core_worker.proofs.LeftSteps.{retires_way}
@@ -54,7 +60,7 @@ use Rattle.core_worker.proofs.PostMoves.{fault_moves}
 use Rattle.core_worker.proofs.TurnLaws.{nothing_fixed}
 
 module _ (s : State) (p : Place) (m : ℕ) (v : View) (w : Worker) (H : Holds p m v w) (S : Stands s p m v w) (O : InOrder p m v w) (d : (j : ℕ) × (under_way w ≡ Doomed j)) where
-  pub cleans : Cleans p m v.doomed v.dead w.stopped w.winds_down w.leading w.log w.allocator w.standing w.clearing w.own_gone w.cleaning
+  pub cleans : Cleans p m v.doomed v.dead w.stopped w.winds_down w.leading w.log w.allocator w.standing w.clearing w.own_gone w.notices.items w.cleaning
   cleans = ⊎_elim (λ none. absurd (let both : Nothing ≡ Doomed d.0 = sym none ∙ d.1 in cc both)) (λ C. C) H.cleaning
 
   pub runs : w.stopped ≡ false
@@ -83,8 +89,8 @@ module _ (s : State) (p : Place) (m : ℕ) (v : View) (w : Worker) (H : Holds p 
     now_is : cleans.now ≡ c
     now_is = let both : Some cleans.now ≡ Some c = sym cleans.is ∙ is in cc both
 
-    phase : HasPhase p m v.doomed v.dead w.log w.standing c w.own_gone (Doomed d.0)
-    phase = subst (λ (x : ClearingState). HasPhase p m v.doomed v.dead w.log w.standing x w.own_gone (Doomed d.0)) now_is (subst (HasPhase p m v.doomed v.dead w.log w.standing cleans.now w.own_gone) way_is cleans.phase)
+    phase : HasPhase p m v.doomed v.dead w.log w.standing c w.own_gone.items (Doomed d.0)
+    phase = subst (λ (x : ClearingState). HasPhase p m v.doomed v.dead w.log w.standing x w.own_gone.items (Doomed d.0)) now_is (subst (HasPhase p m v.doomed v.dead w.log w.standing cleans.now w.own_gone.items) way_is cleans.phase)
 
     pub has_chunk : is_some (tail_of w.log.chunks c.chunk) ≡ true
     has_chunk = subst (λ (x : ClearingState). is_some (tail_of w.log.chunks x.chunk) ≡ true) now_is cleans.chunk
@@ -101,6 +107,10 @@ module _ (s : State) (p : Place) (m : ℕ) (v : View) (w : Worker) (H : Holds p 
     pub owned : AreOwnOf p m c.doomed w.own_gone.items
     owned = phase.2
 
+    -- there are places for the names that are gone
+    pub boxes_places : HasPlacesFor (length c.doomed) w.notices.items
+    boxes_places = subst (λ (y : ClearingState). HasPlacesFor (length y.doomed) w.notices.items) now_is (subst (λ (k : Cleaning). HasPlacesFor (may_go_with cleans.now k) w.notices.items) way_is cleans.places)
+
     pub may_go : MayGo v c.doomed
     may_go = record { idle = flying; doomed = λ k n is. (phase.1 k n is).marked }
 
@@ -109,9 +119,9 @@ module _ (s : State) (p : Place) (m : ℕ) (v : View) (w : Worker) (H : Holds p 
       by : w.clearing ≡ Some c → ClearsIn s w.log w.standing c
       by = (subst (IsCleanedBy s w.log w.standing w.clearing) way_is (S.names runs cleans.works telling).cleaned) c
 
-    pub ends_in : (u : View) (x : Worker) → TidiedIn p m (after_retire p m c.doomed v) u → EndsCleaning w.core c w.own_gone.items w.log x.log w.allocator x.allocator w.places.items x.places.items w.index x.index w.standing x.standing
-        → x ≡ record w { log = x.log; allocator = x.allocator; places = x.places; index = x.index; standing = x.standing; cleaning = Nothing; clearing = None } → EndsIn p m v u w x c
-    ends_in u x tidied ends same = record {
+    pub ends_in : (u : View) (x : Worker) → TidiedIn p m (after_retire p m c.doomed v) u → EndsCleaning w.core c w.own_gone.items w.log x.log w.allocator x.allocator w.places.items x.places.items w.index x.index w.standing x.standing → FilesGone p m c.doomed w.notices.items x.notices.items
+        → x ≡ record w { log = x.log; allocator = x.allocator; places = x.places; index = x.index; standing = x.standing; notices = x.notices; cleaning = Nothing; clearing = None } → EndsIn p m v u w x c
+    ends_in u x tidied ends files same = record {
       runs = runs;
       way = d;
       scarce = cleans.scarce;
@@ -119,9 +129,11 @@ module _ (s : State) (p : Place) (m : ℕ) (v : View) (w : Worker) (H : Holds p 
       chunk = has_chunk;
       closed = is_closed;
       may = phase.1;
+      noted = phase.3;
       own = owned;
       tidied = tidied;
       ends = ends;
+      files = files;
       same = same;
     }
 
@@ -144,7 +156,7 @@ keeps_ended seat s t before after v u w x c H S O E R moments outside made =
     }
 
 -- After a fault the core has stopped, and nothing else became of it.
-module _ (s t : State) (p : Place) (m : ℕ) (v : View) (w : Worker) (H : Holds p m v w) (S : Stands s p m v w) (O : InOrder p m v w) (C : Cleans p m v.doomed v.dead w.stopped w.winds_down w.leading w.log w.allocator w.standing w.clearing w.own_gone w.cleaning) where
+module _ (s t : State) (p : Place) (m : ℕ) (v : View) (w : Worker) (H : Holds p m v w) (S : Stands s p m v w) (O : InOrder p m v w) (C : Cleans p m v.doomed v.dead w.stopped w.winds_down w.leading w.log w.allocator w.standing w.clearing w.own_gone w.notices.items w.cleaning) where
   abbrev stops : Worker
   stops = record w { clearing = None; stopped = true }
 
@@ -213,7 +225,7 @@ module _ (s t : State) (p : Place) (m : ℕ) (v : View) (w : Worker) (H : Holds 
     names = λ r. absurd (cc r);
   }
 
-pub keeps_lost : (seat : SeatAt) (s t : State) (before after : Option Group) (v u : View) (w x : Worker) → HoldsAt seat v w → StandsAt s seat v w → InOrderAt seat v w → Cleans seat.place seat.number v.doomed v.dead w.stopped w.winds_down w.leading w.log w.allocator w.standing w.clearing w.own_gone w.cleaning
+pub keeps_lost : (seat : SeatAt) (s t : State) (before after : Option Group) (v u : View) (w x : Worker) → HoldsAt seat v w → StandsAt s seat v w → InOrderAt seat v w → Cleans seat.place seat.number v.doomed v.dead w.stopped w.winds_down w.leading w.log w.allocator w.standing w.clearing w.own_gone w.notices.items w.cleaning
     → x ≡ record w { clearing = None; stopped = true } → u ≡ v → after ≡ before → PartLies t.frame w.allocator → (IsTelling t → Licensed seat.place seat.number v (cell_now t)) → StaysLicensed s t seat v → WritesPart s t seat → Rose s.faults t.faults → KeepsTurn seat s t before after v u w x
 keeps_lost seat s t before after v u w x H S O C same view group lies exit moments outside rose =
     let y = record w { clearing = None; stopped = true } in
@@ -248,14 +260,21 @@ places_restarted test (x ∷ xs) (y ∷ ys) e at =
     let rest = places_restarted test xs ys (omega (arith, e)) (λ s. at (suc s)) in
     omega (arith, here, rest)
 
+-- each name that is gone stands no more
+names_less : (p : Place) (m : ℕ) (v u : View) (w x : Worker) (c : ClearingState) → EndsIn p m v u w x c → length c.doomed ≤ lone_in w.standing c.names
+names_less p m v u w x c E = few_that (λ (n : EntryName). count_of w.standing n.key n.version == 1) c.doomed c.names E.noted
+    (λ k n some. eq-eqb (count_of w.standing k n) 1 (E.may k n (times_named c.doomed k n some)).lone)
+
 pub ended_less : (p : Place) (m : ℕ) (v u : View) (w x : Worker) (c : ClearingState) (j : ℕ) → w.cleaning ≡ Doomed j → EndsIn p m v u w x c → all_untold x.index ≤ all_untold w.index → left x < left w
 ended_less p m v u w x c j way E untold =
     let same = ap serves_left E.same in
     let places = places_restarted (is_forgotten w.own_gone.items w.places.items E.ends.loses.mid) w.places.items x.places.items E.ends.loses.forgets.count E.ends.loses.forgets.places in
-    let kept = ap (λ (y : Worker). clears_left y.accepted y.cleaning x.standing x.index y.notices.items) E.same in
+    let kept = ap (λ (y : Worker). clears_left y.accepted y.cleaning x.standing x.index x.notices.items) E.same in
     let was = ap (λ (d : Cleaning). clears_left w.accepted d w.standing w.index w.notices.items) way in
     let names = E.ends.names in
-    let less = clears.clears w.accepted w.standing x.standing w.index x.index w.notices.items w.notices.items j 0 (omega (arith, names)) untold (omega arith) in
+    let gone = names_less p m v u w x c E in
+    let boxes = few_more p m c.doomed w.notices.items x.notices.items E.files in
+    let less = clears.clears w.accepted w.standing x.standing w.index x.index w.notices.items x.notices.items j (length c.doomed) (omega (arith, names, gone)) untold boxes in
     omega (arith, same, places, kept, was, less)
 
 pub ended_lower : (before after : Option Group) (m : ℕ) (ns : List EntryName) (u : View) (w x : Worker) → Makes before m (Kind.Retire ns) after u → IsLawful before → left x < left w → Lowers before after w x

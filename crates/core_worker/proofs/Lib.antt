@@ -114,6 +114,9 @@ pub mod ClearsLeft
 pub mod RetiredKeys
 pub mod EndedKeys
 pub mod Dooming
+mod Filing
+mod FiledLeft
+mod FiledMail
 mod DoomedHolds
 mod DoomedItem
 mod EndedHolds

@@ -1,6 +1,6 @@
 -- What a core keeps where dead names are taken out of its index, to be sent to another member.
-use Rattle.std.proofs.Common.{◌≡◌, ◌≢◌, ◌⊎◌, inl, inr, ⊎_elim, ℕ, zero, suc, ◌<◌, ◌≤◌, ◌||◌, Bool, true, false, List, [], ◌∷◌, ◌++◌, length, Option, Some, None, option_map, refl, sym, ◌∙◌, ap, subst, arith}
-use Rattle.std.specs.Prelude.{slice_get, slice_set, Vec, unwrap_or}
+use Rattle.std.proofs.Common.{◌≡◌, ◌≢◌, ◌⊎◌, inl, inr, ⊎_elim, ℕ, zero, suc, ◌+◌, ◌<◌, ◌≤◌, ◌||◌, Bool, true, false, List, [], ◌∷◌, ◌++◌, length, Option, Some, None, option_map, refl, sym, ◌∙◌, ap, subst, arith}
+use Rattle.std.specs.Prelude.{slice_get, slice_set, Vec, unwrap_or, vec_capacity}
 use Rattle.std.specs.Global.{Global}
 use Rattle.std.proofs.lemmas.Bool.{cases_eq, cases_lt}
 use Rattle.std.proofs.lemmas.List.{get_or-set_same, get_or-set_other, length-set, set-get_or}
@@ -18,13 +18,16 @@ use Rattle.group_laws.specs.State.{Group}
 use Rattle.group_laws.specs.Updates.{has}
 use Rattle.group_laws.specs.MemberViews.{View}
 use Rattle.core_worker.specs.declared.worker.Worker.{Worker}
+use Rattle.core_worker.specs.declared.types.Cleaning.TheVariants.{Nothing}
+use Rattle.core_worker.specs.GoneMail.{HasPlacesFor}
 use Rattle.core_worker.specs.Hearing.{is_dead_by}
+use Rattle.core_worker.specs.Supplies.{under_way}
 use Rattle.core_worker.specs.KeyTies.{KnowsKey}
 use Rattle.core_worker.specs.Order.{InOrder}
 use Rattle.core_worker.specs.Outbox.{mailing, waiting_dead, as_told, AreToSend, HasSpare, KeepsMail, MayTell, TellsNothing}
 use Rattle.core_worker.specs.Sending.{EmptiesBox, KeepsTies, Sends, SendsBox, TakesAt, TakesNames}
 use Rattle.core_worker.specs.Ties.{Holds, LeadsNothing, HasSpaceFor}
-use Rattle.core_worker.proofs.CleaningKept.{keeps_winds}
+use Rattle.core_worker.proofs.CleaningKept.{keeps_winds, keeps_boxes}
 use Rattle.core_worker.proofs.Heard.{Hears, hears_none}
 use Rattle.core_worker.proofs.HeardNames.{stands_by, dies_by, awaits_by}
 use Rattle.core_worker.proofs.HeardMail.{spelled_same}
@@ -140,6 +143,14 @@ module _ (p : Place) (m to : ℕ) (v : View) (w : Worker) (H : Holds p m v w) (O
     ];
   }
 
+  places_taken : (most : ℕ) → HasPlacesFor most w.notices.items → HasPlacesFor most x.notices.items
+  places_taken most had h n is = elim (cases_eq h to) [
+    | inl here ↦
+        let same : X.new ≡ n = (let both : Some X.new ≡ Some n = sym X.now ∙ ap (slice_get x.notices.items) (sym here) ∙ is in cc both) in
+        subst (λ (b : Notices). length b.gone.names + most ≤ b.gone.room) same (subst (λ (g : Names). length g.names + most ≤ g.room) (sym X.gone) (had to X.old X.was))
+    | inr ne ↦ had h n (sym (X.others h ne) ∙ is)
+  ]
+
   taken_holds : Holds p m v taken
   taken_holds = record {
     place = H.place;
@@ -165,7 +176,7 @@ module _ (p : Place) (m to : ℕ) (v : View) (w : Worker) (H : Holds p m v w) (O
     space = λ r. subst (HasSpaceFor taken) (sym nothing.1) tt;
     broken = H.broken;
     lost = H.lost;
-    cleaning = keeps_winds p m v w x.winds_down works H.cleaning;
+    cleaning = keeps_boxes p m v (record w { winds_down = x.winds_down }) x.notices (λ most going few had. places_taken most had) (keeps_winds p m v w x.winds_down works H.cleaning);
     remembers = λ r k own none. forgets_told (core_of p to) w.index x.index told k ∙ H.remembers r k own none;
     chunks = H.chunks;
   }
@@ -226,8 +237,8 @@ takes_in home to w old new boxes ix winds was is takes gone = record {
 }
 
 -- other notices stand for a member, and nothing waits in them
-abbrev pub empties_in : (to : ℕ) (w : Worker) (old new : Notices) (boxes : Vec Notices Global) → slice_get w.notices.items to ≡ Some old → boxes.items ≡ slice_set w.notices.items to new → TellsNothing new → HasSpare new → EmptiesBox to w (record w { notices = boxes })
-empties_in to w old new boxes was is none spare = record {
+abbrev pub empties_in : (to : ℕ) (w : Worker) (old new : Notices) (boxes : Vec Notices Global) → slice_get w.notices.items to ≡ Some old → boxes.items ≡ slice_set w.notices.items to new → TellsNothing new → HasSpare new → (under_way w ≡ Nothing) ⊎ (new.gone.room ≡ vec_capacity w.own_gone) → EmptiesBox to w (record w { notices = boxes })
+empties_in to w old new boxes was is none spare places = record {
   old = old;
   new = new;
   was = was;
@@ -236,12 +247,13 @@ empties_in to w old new boxes was is none spare = record {
   count = ap (λ (ns : List Notices). length ns) is ∙ length-set w.notices.items to new;
   none = none;
   spare = spare;
+  places = places;
   same = refl;
 }
 
-pub box_sent : (sent : Bool) (m to : ℕ) (before after : Option Group) (v u : View) (w : Worker) (old new : Notices) (boxes : Vec Notices Global) → slice_get w.notices.items to ≡ Some old → boxes.items ≡ slice_set w.notices.items to new → HasSpare new → Sends sent m to old new before after v u → SendsBox sent m to before after v u w (record w { notices = boxes })
-box_sent true m to before after v u w old new boxes was is spare S = (empties_in to w old new boxes was is S.0 spare, S.1, S.2)
-box_sent false m to before after v u w old new boxes was is spare S = (
+pub box_sent : (sent : Bool) (m to : ℕ) (before after : Option Group) (v u : View) (w : Worker) (old new : Notices) (boxes : Vec Notices Global) → slice_get w.notices.items to ≡ Some old → boxes.items ≡ slice_set w.notices.items to new → HasSpare new → (sent ≡ true → (under_way w ≡ Nothing) ⊎ (new.gone.room ≡ vec_capacity w.own_gone)) → Sends sent m to old new before after v u → SendsBox sent m to before after v u w (record w { notices = boxes })
+box_sent true m to before after v u w old new boxes was is spare places S = (empties_in to w old new boxes was is S.0 spare (places refl), S.1, S.2)
+box_sent false m to before after v u w old new boxes was is spare places S = (
   refl,
   is ∙ ap (λ (n : Notices). slice_set w.notices.items to n) (S.0 ∙ sym (get_or_from_slice_get w.notices.items to old old was)) ∙ set-get_or w.notices.items to old,
   S.1,

@@ -1,6 +1,6 @@
 -- What a core keeps where it sends what waited for another member.
-use Rattle.std.proofs.Common.{◌≡◌, ◌≢◌, inl, inr, ⊎_elim, ℕ, zero, suc, ◌+◌, ◌*◌, ◌<◌, Bool, true, false, cond, List, [], ◌∷◌, ◌++◌, length, Option, Some, None, Result, Ok, Err, refl, sym, ◌∙◌, ap, subst, arith}
-use Rattle.std.specs.Prelude.{slice_get, IfOk}
+use Rattle.std.proofs.Common.{◌≡◌, ◌≢◌, inl, inr, ⊎_elim, ℕ, zero, suc, ◌+◌, ◌*◌, ◌<◌, ◌≤◌, Bool, true, false, cond, List, [], ◌∷◌, ◌++◌, length, Option, Some, None, Result, Ok, Err, refl, sym, ◌∙◌, ap, subst, arith}
+use Rattle.std.specs.Prelude.{slice_get, vec_capacity, IfOk}
 use Rattle.std.proofs.lemmas.Bool.{cases_eq}
 use Rattle.fs_errors.specs.declared.Memory.{Memory}
 use Rattle.pm_region.specs.State.{State}
@@ -21,6 +21,9 @@ use Rattle.group_board.specs.Views.{after_send}
 use Rattle.licence.specs.Licence.{Licensed, grounded, part_at, part_end}
 use Rattle.licence.proofs.Clients.{allowed}
 use Rattle.core_worker.specs.declared.worker.Worker.{Worker}
+use Rattle.core_worker.specs.declared.types.Cleaning.TheVariants.{Nothing}
+use Rattle.core_worker.specs.GoneMail.{HasPlacesFor}
+use Rattle.core_worker.specs.Supplies.{under_way}
 use Rattle.core_worker.specs.CleaningLeft.{notices_left, box_left, clears_left}
 use Rattle.core_worker.specs.Left.{left, Lowers}
 use Rattle.core_worker.specs.Order.{InOrder}
@@ -30,6 +33,7 @@ use Rattle.core_worker.specs.Ties.{Holds, HoldsAt, Stands, StandsAt, LeadsAt, Le
 use Rattle.core_worker.specs.Turning.{KeepsTurn}
 use Rattle.core_worker.specs.Turns.{InOrderAt, Steps}
 use Rattle.core_worker.specs.WorkerMoves.{stock_of}
+use Rattle.core_worker.proofs.CleaningKept.{keeps_boxes, keeps_seen}
 use Rattle.core_worker.proofs.LeftMails.{sends_lower}
 use Rattle.core_worker.proofs.MailKept.{nothing_sends}
 use Rattle.core_worker.proofs.MailTurns.{both_steps}
@@ -99,6 +103,17 @@ module _ (p : Place) (m to : ℕ) (v : View) (w : Worker) (H : Holds p m v w) (O
       leaves k i t true e = absurd (ne (sym (A.gone k i t).1 ∙ ((H.mail.each to X.old X.was).gone k i e).1))
       leaves k i t false e = ap (λ (b : Bool). cond b false (v.leaving k i)) e ∙ (A.gone k i t).0
 
+  -- there are places for the names that a cleaning may let go
+  places : (most : ℕ) → under_way w ≢ Nothing → most ≤ vec_capacity w.own_gone → HasPlacesFor most w.notices.items → HasPlacesFor most x.notices.items
+  places most going few had h n is = elim (cases_eq h to) [
+    | inl here ↦
+        let same : X.new ≡ n = (let both : Some X.new ≡ Some n = sym X.now ∙ ap (slice_get x.notices.items) (sym here) ∙ is in cc both) in
+        let none = ap {B = ℕ} (λ (ns : List EntryName). length ns) X.none.1 in
+        let room : X.new.gone.room ≡ vec_capacity w.own_gone = ⊎_elim (λ no. absurd (going no)) (λ e. e) X.places in
+        subst (λ (b : ToSend). length b.gone.names + most ≤ b.gone.room) same (omega (arith, none, room, few))
+    | inr ne ↦ had h n (sym (X.others h ne) ∙ is)
+  ]
+
   sent_holds : Holds p m view sender
   sent_holds = record {
     place = H.place;
@@ -129,7 +144,7 @@ module _ (p : Place) (m to : ℕ) (v : View) (w : Worker) (H : Holds p m v w) (O
     space = λ r. subst (HasSpaceFor sender) (sym nothing.1) tt;
     broken = H.broken;
     lost = H.lost;
-    cleaning = H.cleaning;
+    cleaning = keeps_seen p m v view sender (λ k i is. is) (λ k i is. is) (keeps_boxes p m v w x.notices places H.cleaning);
     remembers = H.remembers;
     chunks = H.chunks;
   }

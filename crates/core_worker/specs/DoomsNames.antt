@@ -1,5 +1,5 @@
 -- The names that vanish with a cleaned chunk are doomed, of the parts of a worker.
-use Rattle.std.specs.Prelude.{◌≡◌, Bool, false, ℕ, Some}
+use Rattle.std.specs.Prelude.{◌≡◌, ◌≤◌, Bool, false, ℕ, Some, length, vec_capacity}
 use Rattle.pm_region.specs.State.{State, IsTelling}
 use Rattle.core_log.specs.Walking.{entries_in}
 use Rattle.log_cleaner.specs.Clearing.{ClearingState, AreLone, AreNoted, IsGathered}
@@ -23,13 +23,17 @@ pub record DoomsIn (s : State) (p : groups.Place) (m : ℕ) (v u : View) (w x : 
   pub first : Bool
   pub way : under_way w ≡ Copying victim first
   pub copied : victim.entries ≡ 0
+  pub old : ClearingState
+  pub was : w.clearing ≡ Some old
   pub now : ClearingState
   pub is : x.clearing ≡ Some now
   pub chunk : now.chunk ≡ victim.chunk
   pub lone : AreLone w.standing now.doomed
   pub noted : AreNoted now
+  pub few : length now.doomed ≤ old.room
   pub gathered : IsTelling s → IsGathered w.standing (entries_in s w.log now.chunk) now
   pub own : AreOwnOf p m now.doomed x.own_gone.items
+  pub places : vec_capacity w.own_gone ≤ vec_capacity x.own_gone
   pub view : u ≡ after_doom now.doomed v
   pub same : x ≡ record w {
     cleaning = Doomed victim.chunk;

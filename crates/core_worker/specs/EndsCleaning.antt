@@ -9,9 +9,9 @@ use Rattle.core_log.specs.Retiring.{RetiredChunk}
 use Rattle.core_index.specs.Slots as slots
 use Rattle.lazy_alloc.specs.Sets.{Sets, AreSets, GivesChunk, free_chunk_count}
 use Rattle.log_standing.specs.NameCounts.{StandingState}
-use Rattle.log_cleaner.specs.Clearing.{ClearingState}
+use Rattle.log_cleaner.specs.Clearing.{ClearingState, AreNoted}
 use Rattle.log_cleaner.specs.Copying.{IsUpToDate}
-use Rattle.log_cleaner.specs.Dropping.{Drops}
+use Rattle.log_cleaner.specs.Dropping.{lone_in, Drops}
 use Rattle.licence.specs.Licence.{Licensed}
 use Rattle.group_laws.specs.Updates.{has}
 use Rattle.group_laws.specs.Places as groups
@@ -20,6 +20,7 @@ use Rattle.group_board.specs.Views.{after_retire, TidiedIn}
 use Rattle.core_worker.specs.declared.types.Place.{Place}
 use Rattle.core_worker.specs.declared.types.Cleaning.TheVariants.{Nothing, Doomed}
 use Rattle.core_worker.specs.declared.worker.Worker.{Worker}
+use Rattle.core_worker.specs.GoneMail.{FilesGone}
 use Rattle.core_worker.specs.GoneNames.{LosesNames}
 use Rattle.core_worker.specs.Hearing.{HearsAll}
 use Rattle.core_worker.specs.KeepsCleaning.{MayVanish}
@@ -28,7 +29,7 @@ use Rattle.core_worker.specs.StandingTies.{HearsOwn}
 use Rattle.core_worker.specs.Supplies.{under_way}
 use Rattle.core_worker.specs.Ties.{LeadsNothing}
 
--- The allocator has the chunk, the log has it no more, and each of its names has one copy less; of the names that vanish the own ones are gone from the index, and then the own dead names are told.
+-- The allocator has the chunk, the log has it no more, each of its names has one copy less, and one that had no other is a name less; of the names that vanish the own ones are gone from the index, and then the own dead names are told.
 pub record EndsCleaning (core : ℕ) (c : ClearingState) (own : List EntryName)
     (log log' : LogState) (a b : Sets) (ps qs : List Place) (es ix : List (ℕ × slots.Place))
     (old new : StandingState) : Type 0 where
@@ -42,9 +43,9 @@ pub record EndsCleaning (core : ℕ) (c : ClearingState) (own : List EntryName)
   pub heard : HearsAll core mid ix
   pub tells : HearsOwn core mid dropped new
   pub room : old.room ≤ new.room
-  pub names : length new.entries ≤ length old.entries
+  pub names : length new.entries + lone_in old c.names ≤ length old.entries
 
--- So a worker ends the cleaning of a closed chunk of its log whose doomed names may vanish.
+-- So a worker ends the cleaning of a closed chunk of its log whose doomed names may vanish; those of other members' keys wait to be told to their owners.
 pub record EndsIn (p : groups.Place) (m : ℕ) (v u : View) (w x : Worker) (c : ClearingState) :
     Type 0 where
   pub runs : w.stopped ≡ false
@@ -54,16 +55,19 @@ pub record EndsIn (p : groups.Place) (m : ℕ) (v u : View) (w x : Worker) (c : 
   pub chunk : is_some (tail_of w.log.chunks c.chunk) ≡ true
   pub closed : w.log.opened ≢ Some c.chunk
   pub may : (k n : ℕ) → has c.doomed k n ≡ true → MayVanish v.doomed v.dead w.standing c.names k n
+  pub noted : AreNoted c
   pub own : AreOwnOf p m c.doomed w.own_gone.items
   pub tidied : TidiedIn p m (after_retire p m c.doomed v) u
   pub ends : EndsCleaning w.core c w.own_gone.items w.log x.log w.allocator x.allocator
       w.places.items x.places.items w.index x.index w.standing x.standing
+  pub files : FilesGone p m c.doomed w.notices.items x.notices.items
   pub same : x ≡ record w {
     log = x.log;
     allocator = x.allocator;
     places = x.places;
     index = x.index;
     standing = x.standing;
+    notices = x.notices;
     cleaning = Nothing;
     clearing = None;
   }

@@ -58,6 +58,7 @@ pub use Rattle.conflict_queue.specs.Waiting
 pub use Rattle.pm_region.specs.Words
 pub use Rattle.lazy_alloc.specs.Written
 pub mod PostedPlaces
+pub mod GoneMail
 pub mod GoneNames
 pub mod LogNames
 pub mod Mails

@@ -1,5 +1,5 @@
 -- Dead names of own keys are taken from the index for the member where they stand, and sent to it.
-use Rattle.std.specs.Prelude.{◌≡◌, ◌≢◌, ℕ, ◌+◌, ◌<◌, Bool, true, false, List, [], ◌∷◌, ◌++◌, length, Option, Some, slice_get}
+use Rattle.std.specs.Prelude.{◌≡◌, ◌≢◌, ◌⊎◌, ℕ, ◌+◌, ◌<◌, Bool, true, false, List, [], ◌∷◌, ◌++◌, length, Option, Some, slice_get, vec_capacity}
 use Rattle.log_entry.specs.declared.entry.EntryName.{EntryName}
 use Rattle.core_index.specs.Index.{known_at, all_untold, Tells}
 use Rattle.core_index.specs.Records.{Awaits}
@@ -17,6 +17,8 @@ use Rattle.group_board.specs.Told.{Makes, MakesBoth}
 use Rattle.core_worker.specs.declared.worker.Worker.{Worker}
 use Rattle.core_worker.specs.CleaningLeft.{notices_left}
 use Rattle.core_worker.specs.Outbox.{HasSpare, TellsNothing}
+use Rattle.core_worker.specs.declared.types.Cleaning.TheVariants.{Nothing}
+use Rattle.core_worker.specs.Supplies.{under_way}
 use Rattle.core_worker.specs.Ties.{Holds, Stands}
 use Rattle.core_worker.specs.Order.{InOrder}
 
@@ -67,7 +69,7 @@ pub record KeepsTies (p : Place) (m : ℕ) (v : View) (w x : Worker) : Type 0 wh
   pub order : InOrder p m v x
   pub stands : (s : State) → Stands s p m v w → Stands s p m v x
 
--- All that waited for a member was sent: nothing waits for it now, and nothing else differs.
+-- All that waited for a member was sent: nothing waits for it now, there are places for the names that a cleaning under way may let go, and nothing else differs.
 pub record EmptiesBox (to : ℕ) (w x : Worker) : Type 0 where
   pub old : Notices
   pub new : Notices
@@ -77,6 +79,7 @@ pub record EmptiesBox (to : ℕ) (w x : Worker) : Type 0 where
   pub count : length x.notices.items ≡ length w.notices.items
   pub none : TellsNothing new
   pub spare : HasSpare new
+  pub places : (under_way w ≡ Nothing) ⊎ (new.gone.room ≡ vec_capacity w.own_gone)
   pub same : x ≡ record w { notices = x.notices }
 
 -- it was sent, or the mailbox was found full

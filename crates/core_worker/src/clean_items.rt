@@ -15,6 +15,7 @@ ghost use Rattle.core_worker.specs.Turns.{InOrderAt, PassesItems, PassesPost};
 
 use crate::clear_turn::end_cleaning;
 use crate::doom_turn::doom_chunk;
+use crate::gone_mail::file_gone;
 use crate::types::{Cleaning, Turn, Victim};
 use crate::worker::Worker;
 use group_board::Board;
@@ -70,8 +71,8 @@ impl Worker {
         }
     }
 
-    // Ends the cleaning whose names are doomed: its chunk is free again, and what stood there alone is gone. After a
-    // fault the core stops.
+    // Ends the cleaning whose names are doomed: its chunk is free again, and what stood there alone is gone, which waits to
+    // be told to the owners of other keys. After a fault the core stops.
     fn end_clean<R: Region, B: Board>(&mut self, region: &mut R, board: &mut B)
         requires holds { HoldsAt (B.seat board.old) (B.view board.old) self.old }
         requires stands { StandsAt (R.state region.old) (B.seat board.old)
@@ -111,7 +112,13 @@ impl Worker {
                 clearing,
                 self.own_gone.as_slice(),
             ) {
-                Ok(_cleared) => {
+                Ok(cleared) => {
+                    file_gone(
+                        &self.layout,
+                        self.core,
+                        cleared.gone.as_slice(),
+                        &mut self.notices,
+                    );
                     self.cleaning = Cleaning::Nothing;
                 }
                 Err(_fault) => {

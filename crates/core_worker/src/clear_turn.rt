@@ -1,5 +1,5 @@
 // The turn that ends a cleaning.
-ghost use Rattle.std.specs.Prelude.{◌≡◌, ◌≢◌, ℕ, ◌+◌, ◌≤◌, ◌<◌, true, false, ◌∷◌, length, is_some, Some, None, OnOk, OnErr, MatchResult};
+ghost use Rattle.std.specs.Prelude.{◌≡◌, ◌≢◌, ℕ, ◌+◌, ◌≤◌, ◌<◌, true, false, ◌∷◌, length, is_some, Some, None, IfOk, OnOk, OnErr, MatchResult};
 ghost use Rattle.pm_region.specs.declared.region_sizes.TheConstants.{LINE_WORDS};
 ghost use Rattle.pm_region.specs.State.{IsTelling, cell_now, During, Faulted};
 ghost use Rattle.pm_region.specs.Words.{KeepsOutside};
@@ -82,6 +82,7 @@ pub(crate) fn end_cleaning<R: Region, B: Board>(
     ensures ended { OnOk result (EndsCleaning core clearing own.now log.old log.new allocator.old
         allocator.new places.old.items places.new.items index.old index.new standing.old
         standing.new) }
+    ensures gone { IfOk result (λ cleared. cleared.gone.items ≡ clearing.doomed) }
     ensures retired { OnOk result (RetiredChunk (R.state region.new) log.old log.new
         clearing.chunk) }
     ensures counted { OnOk result (IsTelling (R.state region.new)

@@ -1,8 +1,6 @@
 // The turn that dooms the names that vanish with a cleaned chunk.
-ghost use Rattle.std.specs.Prelude.{◌≡◌, ℕ, ◌≤◌, ◌<◌, ◌==◌, true, [], ◌∷◌, length, is_some, vec_capacity};
-ghost use Rattle.std.specs.List.{filter};
+ghost use Rattle.std.specs.Prelude.{◌≡◌, ℕ, ◌≤◌, ◌<◌, true, [], ◌∷◌, length, is_some, vec_capacity};
 ghost use Rattle.pm_region.specs.State.{IsTelling};
-ghost use Rattle.chunk_map.specs.Layouts.{owner};
 ghost use Rattle.core_log.specs.Log.{StandsIn, tail_of};
 ghost use Rattle.core_log.specs.Walking.{entries_in};
 ghost use Rattle.group_laws.specs.Places.{IsPlace, members, core_of};
@@ -12,6 +10,7 @@ ghost use Rattle.group_board.specs.Trails.{step_with};
 ghost use Rattle.group_board.specs.Views.{after_doom};
 ghost use Rattle.log_standing.specs.NameCounts.{is_told};
 ghost use Rattle.log_cleaner.specs.Clearing.{IsFresh, AreLone, AreNoted, IsGathered};
+ghost use Rattle.core_worker.specs.GoneMail.{names_of};
 ghost use Rattle.core_worker.specs.LogNames.{AreOwnOf};
 
 use crate::cleaning_parts::doom_names;
@@ -27,7 +26,8 @@ use store_image::geometry::owner;
 // Notes which of the names are of the core's own keys.
 fn own_names(layout: &Layout, core: u32, names: &[EntryName], own: &mut Vec<EntryName>)
     requires room { length names.now ≤ vec_capacity own.old }
-    ensures { own.new.items ≡ filter (λ n. owner layout.now n.key == core) names.now }
+    ensures own { own.new.items ≡ names_of layout.now core names.now }
+    ensures places { vec_capacity own.old ≤ vec_capacity own.new }
 {
     let geometry = layout.geometry();
     own.clear();
@@ -68,9 +68,11 @@ pub(crate) fn doom_chunk<R: Region, B: Board>(
         (entries_in (R.state region.now) log.now clearing.old.chunk) clearing.new }
     ensures lone { AreLone standing.now clearing.new.doomed }
     ensures noted { AreNoted clearing.new }
+    ensures few { length clearing.new.doomed ≤ clearing.old.room }
     ensures chunk { clearing.new.chunk ≡ clearing.old.chunk }
     ensures owned { AreOwnOf (B.seat board.old).place (B.seat board.old).number clearing.new.doomed
         own.new.items }
+    ensures places { vec_capacity own.old ≤ vec_capacity own.new }
     ensures steps { (B.trail board.new
         ≡ step_with (runs.Kind.Doom clearing.new.doomed) (B.view board.new) ∷ B.trail board.old)
         × (B.at board.new ≡ (R.state region.now).stamp) }

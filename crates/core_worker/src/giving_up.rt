@@ -14,6 +14,7 @@ ghost use Rattle.licence.specs.Licence.{Licensed};
 ghost use Rattle.licence.specs.Writes.{Begins};
 ghost use Rattle.log_cleaner.specs.Clearing.{IsReady};
 ghost use Rattle.log_cleaner.specs.Copying.{IsUpToDate};
+ghost use Rattle.log_cleaner.specs.Dropping.{lone_in};
 ghost use Rattle.log_cleaner.specs.ImagesBeside.{AgreesIn};
 ghost use Rattle.log_cleaner.specs.Vanishing.{MayGo, NoneElse};
 ghost use Rattle.core_worker.specs.GivingUp.{GaveUp};
@@ -74,7 +75,8 @@ pub(crate) fn give_up<R: Region, B: Board>(
         (runs.Kind.Retire clearing.doomed) (B.whole board.new) (B.view board.new))
         (λ _. B.whole board.new ≡ B.whole board.old) }
     ensures read { OnOk result (standing.new.settled ≡ None) }
-    ensures count { OnOk result (length standing.new.entries ≤ length standing.old.entries) }
+    ensures count { OnOk result (length standing.new.entries
+        + lone_in standing.old clearing.names ≤ length standing.old.entries) }
     ensures room { OnOk result (standing.new.room ≡ standing.old.room) }
     ensures err { OnErr result ((B.view board.new ≡ B.view board.old)
         × (allocator.new ≡ allocator.old) × (log.new ≡ log.old)

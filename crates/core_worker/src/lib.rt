@@ -17,6 +17,7 @@ mod doom_turn;
 mod finish_item;
 mod gate;
 mod giving_up;
+mod gone_mail;
 mod gone_names;
 mod hearing;
 mod lead_items;

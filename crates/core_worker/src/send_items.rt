@@ -1,5 +1,5 @@
 // What a turn sends to other members.
-ghost use Rattle.std.specs.Prelude.{◌≡◌, ◌≢◌, ℕ, ◌<◌, true, false, length, Some, slice_get, IfOk, OnOk, OnErr};
+ghost use Rattle.std.specs.Prelude.{◌≡◌, ◌≢◌, ◌⊎◌, ℕ, ◌<◌, true, false, length, Some, slice_get, vec_capacity, IfOk, OnOk, OnErr};
 ghost use Rattle.pm_region.specs.State.{State};
 ghost use Rattle.crash_core.specs.declared.names.Notices.{Notices as ToSend};
 ghost use Rattle.crash_core.specs.Shows.{notices_of};
@@ -11,11 +11,14 @@ ghost use Rattle.core_worker.specs.Outbox.{HasSpare};
 ghost use Rattle.core_worker.specs.Left.{Lowers};
 ghost use Rattle.core_worker.specs.Mails.{MailSteps};
 ghost use Rattle.core_worker.specs.Sending.{HasNames, IsReady, KeepsTies, SendsBox, TakesAt};
+ghost use Rattle.core_worker.specs.declared.types.Cleaning.TheVariants.{Nothing};
+ghost use Rattle.core_worker.specs.Supplies.{under_way};
 ghost use Rattle.core_worker.specs.Ties.{Holds, HoldsAt, StandsAt, LeadsNothing};
 ghost use Rattle.core_worker.specs.Turning.{KeepsTurn};
 ghost use Rattle.core_worker.specs.Turns.{InOrderAt};
 
 use crate::sending::{send_waiting, take_notices};
+use crate::types::Cleaning;
 use crate::worker::Worker;
 use fs_errors::Memory;
 use group_board::Board;
@@ -64,6 +67,17 @@ impl Worker {
         }
     }
 
+    // How many names a cleaning under way may let go.
+    fn gone_places(&self) -> u64
+        ensures { (under_way self.now ≡ Nothing)
+            ⊎ (result ≡ vec_capacity self.now.own_gone) }
+    {
+        match self.under_way() {
+            Cleaning::Nothing => 0,
+            _ => self.own_gone.capacity() as u64,
+        }
+    }
+
     // Sends all that waits for a member, where its mailbox is empty, and says whether it was. Where there is no memory
     // for what will wait next, the mailbox is not looked at, and the core winds down.
     fn send_box<B: Board>(&mut self, alloc: Global, board: &mut B, to: u32) -> Result<bool, Memory>
@@ -81,7 +95,8 @@ impl Worker {
         ensures err { OnErr result ((board.new ≡ board.old)
             × (self.new.winds_down ≡ true)) }
     {
-        match send_waiting(alloc, board, &mut self.notices[to as usize], to) {
+        let places = self.gone_places();
+        match send_waiting(alloc, board, &mut self.notices[to as usize], to, places) {
             Ok(sent) => {
                 return Ok(sent);
             }

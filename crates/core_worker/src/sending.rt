@@ -88,23 +88,25 @@ pub(crate) fn take_notices(
     Ok(())
 }
 
-// Notices without a name, with room for one dead name.
-fn empty_notices(alloc: Global) -> Result<Notices, Memory>
+// Notices without a name, with room for one dead name, and for so many gone ones.
+fn empty_notices(alloc: Global, places: u64) -> Result<Notices, Memory>
     ensures none { IfOk result TellsNothing }
     ensures spare { IfOk result HasSpare }
+    ensures places { IfOk result (λ n. n.gone.room ≡ places) }
 {
     let dead = Names::with_room(alloc, 1)?;
-    let gone = Names::with_room(alloc, 0)?;
+    let gone = Names::with_room(alloc, places)?;
     Ok(Notices { dead, gone })
 }
 
 /// Sends what waits for another member, where its mailbox is empty, and says whether it was. Where there is no memory
-/// for what will wait next, the mailbox is not looked at.
+/// for what will wait next, with places for so many gone names, the mailbox is not looked at.
 pub(crate) fn send_waiting<B: Board>(
     alloc: Global,
     board: &mut B,
     waiting: &mut Notices,
     to: u32,
+    places: u64,
 ) -> Result<bool, Memory>
     requires may { MaySend (B.seat board.old).place (B.seat board.old).number (B.view board.old)
         to (notices_of waiting.old) }
@@ -113,11 +115,12 @@ pub(crate) fn send_waiting<B: Board>(
         waiting.new (B.whole board.old) (B.whole board.new) (B.view board.old)
         (B.view board.new)) }
     ensures spare { HasSpare waiting.old → HasSpare waiting.new }
+    ensures places { IfOk result (λ sent. sent ≡ true → waiting.new.gone.room ≡ places) }
     ensures steps { IfOk result (λ sent. MailSteps sent (B.view board.old) (B.view board.new)
         (B.trail board.old) (B.trail board.new)) }
     ensures err { OnErr result ((board.new ≡ board.old) × (waiting.new ≡ waiting.old)) }
 {
-    let empty = empty_notices(alloc)?;
+    let empty = empty_notices(alloc, places)?;
     let all = mem::replace(waiting, empty);
     match board.send(to, all) {
         Ok(()) => {

@@ -200,14 +200,11 @@ lone_on st old new n lone again first full = by_times (times_in old.names n.key 
 
 -- and each of these was noted
 pub noted_first : (c : ClearingState) → IsFresh c → AreNoted c
-noted_first c fresh k v some = absurd (let none = ap (λ (ns : List EntryName). times_in ns k v) fresh.1 in omega (arith, none, some))
+noted_first c fresh k v = let none = ap (λ (ns : List EntryName). times_in ns k v) fresh.1 in omega (arith, none)
 
-noted_more : (names ns : List EntryName) (n : EntryName) (b : Bool) → ((k v : ℕ) → 0 < times_in ns k v → 0 < times_in names k v) → (k v : ℕ) → 0 < times_in (cond b (ns ++ n ∷ []) ns) k v → 0 < times_in (names ++ n ∷ []) k v
-noted_more names ns n false noted k v some = let more = times_push names n k v in let had = noted k v some in omega (arith, more, had)
-noted_more names ns n true noted k v some = by (times_in ns k v) refl where
-  by : (i : ℕ) → times_in ns k v ≡ i → 0 < times_in (names ++ n ∷ []) k v
-  by zero none = (let more = times_push names n k v in let all = times_push ns n k v in omega (arith, more, all, none, some))
-  by (suc i) is = (let more = times_push names n k v in let had = noted k v (omega (arith, is)) in omega (arith, more, had))
+noted_more : (names ns : List EntryName) (n : EntryName) (b : Bool) → ((k v : ℕ) → times_in ns k v ≤ times_in names k v) → (k v : ℕ) → times_in (cond b (ns ++ n ∷ []) ns) k v ≤ times_in (names ++ n ∷ []) k v
+noted_more names ns n false noted k v = let more = times_push names n k v in let had = noted k v in omega (arith, more, had)
+noted_more names ns n true noted k v = let more = times_push names n k v in let all = times_push ns n k v in let had = noted k v in omega (arith, more, all, had)
 
 pub noted_on : (st : StandingState) (old new : ClearingState) (n : EntryName) → AreNoted old → (0 < times_in old.names n.key n.version → new ≡ old) → (times_in old.names n.key n.version ≡ 0 → 0 < old.room → NotesNew st old new n) → (old.room ≡ 0 → new ≡ old) → AreNoted new
 noted_on st old new n noted again first full = by_times (times_in old.names n.key n.version) refl where
@@ -218,7 +215,7 @@ noted_on st old new n noted again first full = by_times (times_in old.names n.ke
   by_room none zero e = stays (full e)
   by_room none (suc r) e =
       let N = first none (omega (arith, e)) in
-      λ k v some. subst (λ (ns : List EntryName). 0 < times_in ns k v) (sym N.names) (noted_more old.names old.doomed n (is_doomed st n.key n.version) noted k v (subst (λ (ns : List EntryName). 0 < times_in ns k v) N.doomed some))
+      λ k v. let names = ap (λ (ns : List EntryName). times_in ns k v) N.names in let doomed = ap (λ (ns : List EntryName). times_in ns k v) N.doomed in let more = noted_more old.names old.doomed n (is_doomed st n.key n.version) noted k v in omega (arith, names, doomed, more)
 
   by_times : (i : ℕ) → times_in old.names n.key n.version ≡ i → AreNoted new
   by_times zero e = by_room e old.room refl

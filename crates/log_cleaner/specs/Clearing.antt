@@ -30,9 +30,9 @@ is_doomed st k v = is_told st k v && count_of st k v == 1
 abbrev pub AreLone : StandingState → List EntryName → Type 0
 AreLone st ns = (k v : ℕ) → 0 < times_in ns k v → is_doomed st k v ≡ true
 
--- each name that is to vanish was noted
+-- each name that is to vanish was noted, and stands in that list no oftener than it was
 abbrev pub AreNoted : ClearingState → Type 0
-AreNoted c = (k v : ℕ) → 0 < times_in c.doomed k v → 0 < times_in c.names k v
+AreNoted c = (k v : ℕ) → times_in c.doomed k v ≤ times_in c.names k v
 
 -- the list has each name of the entries once, and no other
 abbrev pub HasNames : List EntryName → List (ℕ × Entry) → Type 0

@@ -4,7 +4,7 @@ ghost use Rattle.pm_region.specs.State.{IsTelling, Faulted};
 ghost use Rattle.core_log.specs.Log.{StandsIn, tail_of};
 ghost use Rattle.core_log.specs.Walking.{entries_in};
 ghost use Rattle.log_standing.specs.NameCounts.{is_told, count_of, times_in, copies_at, Changes};
-ghost use Rattle.log_cleaner.specs.Dropping.{lowered, Drops};
+ghost use Rattle.log_cleaner.specs.Dropping.{lowered, lone_in, Drops};
 ghost use Rattle.log_cleaner.specs.Copying.{IsUpToDate};
 ghost use Rattle.log_cleaner.specs.ImagesBeside.{AgreesIn, GivesUp};
 ghost use Rattle.log_cleaner.specs.Clearing.{ClearingState, IsFresh, is_doomed, AreLone, AreNoted, IsGathered, IsReady, HasCleared, NotesNew};
@@ -50,7 +50,9 @@ fn push_if(names: &mut Vec<EntryName>, name: EntryName, yes: bool)
 fn drop_one(standing: &mut Standing, name: EntryName)
     ensures lowered { Changes standing.old standing.new name.key name.version
         (lowered (copies_at standing.old name.key name.version)) }
-    ensures count { length standing.new.entries ≤ length standing.old.entries }
+    ensures count { length standing.new.entries
+        + (if count_of standing.old name.key name.version == 1 then 1 else 0)
+        ≤ length standing.old.entries }
     ensures room { standing.new.room ≡ standing.old.room }
 {
     if standing.copies(name) > 0 {
@@ -62,7 +64,8 @@ fn drop_one(standing: &mut Standing, name: EntryName)
 fn drop_all(standing: &mut Standing, names: &[EntryName])
     requires { (k v : ℕ) → times_in names.now k v ≤ 1 }
     ensures drops { Drops standing.old standing.new names.now }
-    ensures count { length standing.new.entries ≤ length standing.old.entries }
+    ensures count { length standing.new.entries + lone_in standing.old names.now
+        ≤ length standing.old.entries }
     ensures room { standing.new.room ≡ standing.old.room }
 {
     for name in names {
@@ -221,7 +224,8 @@ impl Clearing {
             standing.old standing.new self) }
         ensures kept { OnErr result ((log.new ≡ log.old) × (standing.new ≡ standing.old)) }
         ensures read { OnOk result (standing.new.settled ≡ None) }
-        ensures count { OnOk result (length standing.new.entries ≤ length standing.old.entries) }
+        ensures count { OnOk result (length standing.new.entries
+            + lone_in standing.old self.names ≤ length standing.old.entries) }
         ensures room { OnOk result (standing.new.room ≡ standing.old.room) }
         ensures chunk { IfOk result (λ cleared. cleared.chunk ≡ self.chunk) }
         ensures gone { IfOk result (λ cleared. cleared.gone.items ≡ self.doomed) }

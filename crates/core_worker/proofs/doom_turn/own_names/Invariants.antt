@@ -7,3 +7,4 @@ use Rattle.core_worker.proofs.doom_turn.own_names.Given as goal
 abbrev pub invariant-loop-name : goal.invariant-loop-name
 invariant-loop-name l = (l.own.items ≡ filter (λ (x : EntryName). owner l.layout x.key == l.core) (take l.name-index l.names))
     × (length l.names ≤ vec_capacity l.own)
+    × (vec_capacity l.fn.own ≤ vec_capacity l.own)

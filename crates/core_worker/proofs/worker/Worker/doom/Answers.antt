@@ -53,7 +53,7 @@ returns-clause-keeps g c =
     let u = g.B.Board.view c.doom_chunk.new.board in
     let w = c.args.self.now in
     let x = record w { cleaning = Doomed c.args.victim.now.chunk; clearing = Some c.doom_chunk.new.clearing; own_gone = c.doom_chunk.new.own } in
-    let D : DoomsIn s seat.place seat.number v u w x = doomed.dooms_in s seat.place seat.number v w c.requires.holds c.requires.stands c.requires.order c.args.victim.now c.requires.copies c.in-Some.clearing (sym c.in-Some.ensures.value) u x c.doom_chunk.new.clearing refl c.doom_chunk.ensures.chunk c.doom_chunk.ensures.lone c.doom_chunk.ensures.noted c.doom_chunk.ensures.gathered c.doom_chunk.ensures.owned c.doom_chunk.ensures.view refl in
+    let D : DoomsIn s seat.place seat.number v u w x = doomed.dooms_in s seat.place seat.number v w c.requires.holds c.requires.stands c.requires.order c.args.victim.now c.requires.copies c.in-Some.clearing (sym c.in-Some.ensures.value) u x c.doom_chunk.new.clearing refl c.doom_chunk.ensures.chunk c.doom_chunk.ensures.lone c.doom_chunk.ensures.noted c.doom_chunk.ensures.few c.doom_chunk.ensures.places c.doom_chunk.ensures.gathered c.doom_chunk.ensures.owned c.doom_chunk.ensures.view refl in
     let before = g.B.Board.whole c.args.board.now in
     let after = g.B.Board.whole c.doom_chunk.new.board in
     let kind = runs.Kind.Doom c.doom_chunk.new.clearing.doomed in
@@ -67,7 +67,7 @@ returns-clause-did g c refused before start passed passes mail =
     let u = g.B.Board.view c.doom_chunk.new.board in
     let w = c.args.self.now in
     let x = record w { cleaning = Doomed c.args.victim.now.chunk; clearing = Some c.doom_chunk.new.clearing; own_gone = c.doom_chunk.new.own } in
-    let D : DoomsIn s seat.place seat.number v u w x = doomed.dooms_in s seat.place seat.number v w c.requires.holds c.requires.stands c.requires.order c.args.victim.now c.requires.copies c.in-Some.clearing (sym c.in-Some.ensures.value) u x c.doom_chunk.new.clearing refl c.doom_chunk.ensures.chunk c.doom_chunk.ensures.lone c.doom_chunk.ensures.noted c.doom_chunk.ensures.gathered c.doom_chunk.ensures.owned c.doom_chunk.ensures.view refl in
+    let D : DoomsIn s seat.place seat.number v u w x = doomed.dooms_in s seat.place seat.number v w c.requires.holds c.requires.stands c.requires.order c.args.victim.now c.requires.copies c.in-Some.clearing (sym c.in-Some.ensures.value) u x c.doom_chunk.new.clearing refl c.doom_chunk.ensures.chunk c.doom_chunk.ensures.lone c.doom_chunk.ensures.noted c.doom_chunk.ensures.few c.doom_chunk.ensures.places c.doom_chunk.ensures.gathered c.doom_chunk.ensures.owned c.doom_chunk.ensures.view refl in
     dooms refl (record { mid = v; before = passes; post = passed; mail = mail; dooms = D })
 
 pub returns-clause-less : goal.returns-clause-less
@@ -78,7 +78,7 @@ returns-clause-less g c =
     let u = g.B.Board.view c.doom_chunk.new.board in
     let w = c.args.self.now in
     let x = record w { cleaning = Doomed c.args.victim.now.chunk; clearing = Some c.doom_chunk.new.clearing; own_gone = c.doom_chunk.new.own } in
-    let D : DoomsIn s seat.place seat.number v u w x = doomed.dooms_in s seat.place seat.number v w c.requires.holds c.requires.stands c.requires.order c.args.victim.now c.requires.copies c.in-Some.clearing (sym c.in-Some.ensures.value) u x c.doom_chunk.new.clearing refl c.doom_chunk.ensures.chunk c.doom_chunk.ensures.lone c.doom_chunk.ensures.noted c.doom_chunk.ensures.gathered c.doom_chunk.ensures.owned c.doom_chunk.ensures.view refl in
+    let D : DoomsIn s seat.place seat.number v u w x = doomed.dooms_in s seat.place seat.number v w c.requires.holds c.requires.stands c.requires.order c.args.victim.now c.requires.copies c.in-Some.clearing (sym c.in-Some.ensures.value) u x c.doom_chunk.new.clearing refl c.doom_chunk.ensures.chunk c.doom_chunk.ensures.lone c.doom_chunk.ensures.noted c.doom_chunk.ensures.few c.doom_chunk.ensures.places c.doom_chunk.ensures.gathered c.doom_chunk.ensures.owned c.doom_chunk.ensures.view refl in
     doomed.doomed_lower (g.B.Board.whole c.args.board.now) (g.B.Board.whole c.doom_chunk.new.board) seat.number c.doom_chunk.new.clearing.doomed u w x c.doom_chunk.ensures.made (g.met.B.Board.lawful c.args.board.now)
     (doomed.doomed_less s seat.place seat.number v u w x c.requires.holds c.requires.order D)
 
@@ -90,7 +90,7 @@ returns-clause-starts g c =
     let u = g.B.Board.view c.doom_chunk.new.board in
     let w = c.args.self.now in
     let x = record w { cleaning = Doomed c.args.victim.now.chunk; clearing = Some c.doom_chunk.new.clearing; own_gone = c.doom_chunk.new.own } in
-    let D : DoomsIn s seat.place seat.number v u w x = doomed.dooms_in s seat.place seat.number v w c.requires.holds c.requires.stands c.requires.order c.args.victim.now c.requires.copies c.in-Some.clearing (sym c.in-Some.ensures.value) u x c.doom_chunk.new.clearing refl c.doom_chunk.ensures.chunk c.doom_chunk.ensures.lone c.doom_chunk.ensures.noted c.doom_chunk.ensures.gathered c.doom_chunk.ensures.owned c.doom_chunk.ensures.view refl in
+    let D : DoomsIn s seat.place seat.number v u w x = doomed.dooms_in s seat.place seat.number v w c.requires.holds c.requires.stands c.requires.order c.args.victim.now c.requires.copies c.in-Some.clearing (sym c.in-Some.ensures.value) u x c.doom_chunk.new.clearing refl c.doom_chunk.ensures.chunk c.doom_chunk.ensures.lone c.doom_chunk.ensures.noted c.doom_chunk.ensures.few c.doom_chunk.ensures.places c.doom_chunk.ensures.gathered c.doom_chunk.ensures.owned c.doom_chunk.ensures.view refl in
     starts_nothing x D.idle
 
 pub returns-clause-steps : goal.returns-clause-steps

@@ -1,14 +1,17 @@
 -- The turn that ends a cleaning.
-use Rattle.std.proofs.Common.{true, List, [], ◌∷◌, refl, sym, ◌∙◌, subst}
+use Rattle.std.proofs.Common.{true, List, [], ◌∷◌, length, refl, sym, ◌∙◌, ap, subst, arith}
 use Rattle.pm_region.specs.State.{Frame, cell_now}
 use Rattle.log_entry.specs.declared.entry.EntryName.{EntryName}
 use Rattle.lazy_alloc.specs.Written.{PartLies}
+use Rattle.chunk_map.specs.declared.layouts.Geometry.{Geometry}
 use Rattle.licence.specs.Licence.{Licensed}
+use Rattle.group_laws.proofs.Clients.{core_low}
 use Rattle.group_laws.specs.MemberViews.{View}
 use Rattle.group_laws.specs.Runs as runs
 use Rattle.group_board.specs.Trails.{step_with}
 use Rattle.core_worker.specs.declared.types.Cleaning.TheVariants.{Nothing}
 use Rattle.core_worker.specs.EndsCleaning.{EndsCleaning, EndsInRegion}
+use Rattle.core_worker.specs.GoneMail.{HasPlacesFor, FilesGone}
 use Rattle.core_worker.specs.LogNames.{AreOwnOf}
 use Rattle.core_worker.specs.Turning.Did.{clears, loses_clearing}
 use Rattle.core_worker.proofs.EndedItem as ended
@@ -76,6 +79,24 @@ end_cleaning-requires-clause-owned g c =
     subst (λ (ns : List EntryName). AreOwnOf seat.place seat.number c.in-Some.clearing.doomed ns) (sym c.as_slice.ensures.value)
     (ended.owned (g.R.Region.state c.args.region.now) seat.place seat.number (g.B.Board.view c.args.board.now) c.args.self.now c.requires.holds c.requires.stands c.requires.order c.requires.dooms c.in-Some.clearing (sym c.in-Some.ensures.value))
 
+pub file_gone-requires-clause-core : goal.file_gone-requires-clause-core
+file_gone-requires-clause-core g c =
+    let seat = g.B.Board.seat c.args.board.now in
+    let H = c.requires.holds in
+    let low = core_low seat.place H.place seat.number H.member in
+    let core = H.core in
+    let cores = ap (λ (l : Geometry). l.cores) H.layout in
+    omega (arith, low, core, cores)
+
+pub file_gone-requires-clause-count : goal.file_gone-requires-clause-count
+file_gone-requires-clause-count g c = c.requires.holds.mail.count ∙ sym (ap (λ (l : Geometry). l.group) c.requires.holds.layout)
+
+pub file_gone-requires-clause-places : goal.file_gone-requires-clause-places
+file_gone-requires-clause-places g c =
+    let seat = g.B.Board.seat c.args.board.now in
+    subst (λ (ns : List EntryName). HasPlacesFor (length ns) c.args.self.now.notices.items) (sym (c.as_slice-in-Ok.ensures.value ∙ c.in-Ok.ensures.gone))
+    (ended.boxes_places (g.R.Region.state c.args.region.now) seat.place seat.number (g.B.Board.view c.args.board.now) c.args.self.now c.requires.holds c.requires.stands c.requires.order c.requires.dooms c.in-Some.clearing (sym c.in-Some.ensures.value))
+
 pub returns-in-Ok-clause-keeps : goal.returns-in-Ok-clause-keeps
 returns-in-Ok-clause-keeps g c =
     let seat = g.B.Board.seat c.args.board.now in
@@ -86,9 +107,9 @@ returns-in-Ok-clause-keeps g c =
     let v = g.B.Board.view c.args.board.now in
     let u = g.B.Board.view c.end_cleaning.new.board in
     let w = c.args.self.now in
-    let x = record w { log = c.end_cleaning.new.log; allocator = c.end_cleaning.new.allocator; places = c.end_cleaning.new.places; index = c.end_cleaning.new.index; standing = c.end_cleaning.new.standing; cleaning = Nothing; clearing = c.replace.new.dest } in
+    let x = record w { log = c.end_cleaning.new.log; allocator = c.end_cleaning.new.allocator; places = c.end_cleaning.new.places; index = c.end_cleaning.new.index; standing = c.end_cleaning.new.standing; notices = c.file_gone.new.boxes; cleaning = Nothing; clearing = c.replace.new.dest } in
     let y = c.in-Some.clearing in
-    let E = ended.ends_in s seat.place seat.number v w c.requires.holds c.requires.stands c.requires.order c.requires.dooms y (sym c.in-Some.ensures.value) u x c.in-Ok.ensures.tidied (subst (λ (ns : List EntryName). EndsCleaning w.core c.in-Some.clearing ns w.log c.end_cleaning.new.log w.allocator c.end_cleaning.new.allocator w.places.items c.end_cleaning.new.places.items w.index c.end_cleaning.new.index w.standing c.end_cleaning.new.standing) c.as_slice.ensures.value c.in-Ok.ensures.ended) (λ i. record w { log = c.end_cleaning.new.log; allocator = c.end_cleaning.new.allocator; places = c.end_cleaning.new.places; index = c.end_cleaning.new.index; standing = c.end_cleaning.new.standing; cleaning = Nothing; clearing = c.replace.ensures.after i }) in
+    let E = ended.ends_in s seat.place seat.number v w c.requires.holds c.requires.stands c.requires.order c.requires.dooms y (sym c.in-Some.ensures.value) u x c.in-Ok.ensures.tidied (subst (λ (ns : List EntryName). EndsCleaning w.core c.in-Some.clearing ns w.log c.end_cleaning.new.log w.allocator c.end_cleaning.new.allocator w.places.items c.end_cleaning.new.places.items w.index c.end_cleaning.new.index w.standing c.end_cleaning.new.standing) c.as_slice.ensures.value c.in-Ok.ensures.ended) (subst (λ (ns : List EntryName). FilesGone seat.place seat.number ns w.notices.items c.file_gone.new.boxes.items) (c.as_slice-in-Ok.ensures.value ∙ c.in-Ok.ensures.gone) (c.file_gone.ensures.files seat.place seat.number c.requires.holds.layout c.requires.holds.core c.requires.holds.member)) (λ i. record w { log = c.end_cleaning.new.log; allocator = c.end_cleaning.new.allocator; places = c.end_cleaning.new.places; index = c.end_cleaning.new.index; standing = c.end_cleaning.new.standing; notices = c.file_gone.new.boxes; cleaning = Nothing; clearing = c.replace.ensures.after i }) in
     let R : EndsInRegion s t seat.place seat.number u w x y = record { retired = c.in-Ok.ensures.retired; outside = c.end_cleaning.ensures.head; exit = c.end_cleaning.ensures.exit; names = ended.names s seat.place seat.number v w c.requires.holds c.requires.stands c.requires.order c.requires.dooms y (sym c.in-Some.ensures.value) u x E; counted = c.in-Ok.ensures.counted; read = c.in-Ok.ensures.read } in
     ended.keeps_ended seat s t before after v u w x y c.requires.holds c.requires.stands c.requires.order E R c.end_cleaning.ensures.moments c.end_cleaning.ensures.outside
     (runs.Kind.Retire y.doomed ∷ [], one_step before after seat.number (runs.Kind.Retire y.doomed) u c.in-Ok.ensures.made)
@@ -100,7 +121,7 @@ returns-in-Ok-clause-did g c refused before v passed passes mail =
     let mid = g.B.Board.view c.args.board.now in
     let u = g.B.Board.view c.end_cleaning.new.board in
     let w = c.args.self.now in
-    let x = record w { log = c.end_cleaning.new.log; allocator = c.end_cleaning.new.allocator; places = c.end_cleaning.new.places; index = c.end_cleaning.new.index; standing = c.end_cleaning.new.standing; cleaning = Nothing; clearing = c.replace.new.dest } in
+    let x = record w { log = c.end_cleaning.new.log; allocator = c.end_cleaning.new.allocator; places = c.end_cleaning.new.places; index = c.end_cleaning.new.index; standing = c.end_cleaning.new.standing; notices = c.file_gone.new.boxes; cleaning = Nothing; clearing = c.replace.new.dest } in
     clears (record {
       mid = mid;
       before = passes;
@@ -108,7 +129,7 @@ returns-in-Ok-clause-did g c refused before v passed passes mail =
       mail = mail;
       clearing = c.in-Some.clearing;
       is = sym c.in-Some.ensures.value;
-      ends = ended.ends_in s seat.place seat.number mid w c.requires.holds c.requires.stands c.requires.order c.requires.dooms c.in-Some.clearing (sym c.in-Some.ensures.value) u x c.in-Ok.ensures.tidied (subst (λ (ns : List EntryName). EndsCleaning w.core c.in-Some.clearing ns w.log c.end_cleaning.new.log w.allocator c.end_cleaning.new.allocator w.places.items c.end_cleaning.new.places.items w.index c.end_cleaning.new.index w.standing c.end_cleaning.new.standing) c.as_slice.ensures.value c.in-Ok.ensures.ended) (λ i. record w { log = c.end_cleaning.new.log; allocator = c.end_cleaning.new.allocator; places = c.end_cleaning.new.places; index = c.end_cleaning.new.index; standing = c.end_cleaning.new.standing; cleaning = Nothing; clearing = c.replace.ensures.after i });
+      ends = ended.ends_in s seat.place seat.number mid w c.requires.holds c.requires.stands c.requires.order c.requires.dooms c.in-Some.clearing (sym c.in-Some.ensures.value) u x c.in-Ok.ensures.tidied (subst (λ (ns : List EntryName). EndsCleaning w.core c.in-Some.clearing ns w.log c.end_cleaning.new.log w.allocator c.end_cleaning.new.allocator w.places.items c.end_cleaning.new.places.items w.index c.end_cleaning.new.index w.standing c.end_cleaning.new.standing) c.as_slice.ensures.value c.in-Ok.ensures.ended) (subst (λ (ns : List EntryName). FilesGone seat.place seat.number ns w.notices.items c.file_gone.new.boxes.items) (c.as_slice-in-Ok.ensures.value ∙ c.in-Ok.ensures.gone) (c.file_gone.ensures.files seat.place seat.number c.requires.holds.layout c.requires.holds.core c.requires.holds.member)) (λ i. record w { log = c.end_cleaning.new.log; allocator = c.end_cleaning.new.allocator; places = c.end_cleaning.new.places; index = c.end_cleaning.new.index; standing = c.end_cleaning.new.standing; notices = c.file_gone.new.boxes; cleaning = Nothing; clearing = c.replace.ensures.after i });
     })
 
 pub returns-in-Ok-clause-less : goal.returns-in-Ok-clause-less
@@ -118,9 +139,9 @@ returns-in-Ok-clause-less g c =
     let v = g.B.Board.view c.args.board.now in
     let u = g.B.Board.view c.end_cleaning.new.board in
     let w = c.args.self.now in
-    let x = record w { log = c.end_cleaning.new.log; allocator = c.end_cleaning.new.allocator; places = c.end_cleaning.new.places; index = c.end_cleaning.new.index; standing = c.end_cleaning.new.standing; cleaning = Nothing; clearing = c.replace.new.dest } in
+    let x = record w { log = c.end_cleaning.new.log; allocator = c.end_cleaning.new.allocator; places = c.end_cleaning.new.places; index = c.end_cleaning.new.index; standing = c.end_cleaning.new.standing; notices = c.file_gone.new.boxes; cleaning = Nothing; clearing = c.replace.new.dest } in
     let y = c.in-Some.clearing in
-    let E = ended.ends_in s seat.place seat.number v w c.requires.holds c.requires.stands c.requires.order c.requires.dooms y (sym c.in-Some.ensures.value) u x c.in-Ok.ensures.tidied (subst (λ (ns : List EntryName). EndsCleaning w.core c.in-Some.clearing ns w.log c.end_cleaning.new.log w.allocator c.end_cleaning.new.allocator w.places.items c.end_cleaning.new.places.items w.index c.end_cleaning.new.index w.standing c.end_cleaning.new.standing) c.as_slice.ensures.value c.in-Ok.ensures.ended) (λ i. record w { log = c.end_cleaning.new.log; allocator = c.end_cleaning.new.allocator; places = c.end_cleaning.new.places; index = c.end_cleaning.new.index; standing = c.end_cleaning.new.standing; cleaning = Nothing; clearing = c.replace.ensures.after i }) in
+    let E = ended.ends_in s seat.place seat.number v w c.requires.holds c.requires.stands c.requires.order c.requires.dooms y (sym c.in-Some.ensures.value) u x c.in-Ok.ensures.tidied (subst (λ (ns : List EntryName). EndsCleaning w.core c.in-Some.clearing ns w.log c.end_cleaning.new.log w.allocator c.end_cleaning.new.allocator w.places.items c.end_cleaning.new.places.items w.index c.end_cleaning.new.index w.standing c.end_cleaning.new.standing) c.as_slice.ensures.value c.in-Ok.ensures.ended) (subst (λ (ns : List EntryName). FilesGone seat.place seat.number ns w.notices.items c.file_gone.new.boxes.items) (c.as_slice-in-Ok.ensures.value ∙ c.in-Ok.ensures.gone) (c.file_gone.ensures.files seat.place seat.number c.requires.holds.layout c.requires.holds.core c.requires.holds.member)) (λ i. record w { log = c.end_cleaning.new.log; allocator = c.end_cleaning.new.allocator; places = c.end_cleaning.new.places; index = c.end_cleaning.new.index; standing = c.end_cleaning.new.standing; notices = c.file_gone.new.boxes; cleaning = Nothing; clearing = c.replace.ensures.after i }) in
     let way = ended.way_is s seat.place seat.number v w c.requires.holds c.requires.stands c.requires.order c.requires.dooms in
     ended.ended_lower (g.B.Board.whole c.args.board.now) (g.B.Board.whole c.end_cleaning.new.board) seat.number y.doomed u w x c.in-Ok.ensures.made (g.met.B.Board.lawful c.args.board.now)
     (ended.ended_less seat.place seat.number v u w x y c.requires.dooms.0 way E c.end_cleaning.ensures.untold)
@@ -130,7 +151,7 @@ returns-in-Ok-clause-starts g c =
     let seat = g.B.Board.seat c.args.board.now in
     let w = c.args.self.now in
     let C = ended.cleans (g.R.Region.state c.args.region.now) seat.place seat.number (g.B.Board.view c.args.board.now) w c.requires.holds c.requires.stands c.requires.order c.requires.dooms in
-    starts_nothing (record w { log = c.end_cleaning.new.log; allocator = c.end_cleaning.new.allocator; places = c.end_cleaning.new.places; index = c.end_cleaning.new.index; standing = c.end_cleaning.new.standing; cleaning = Nothing; clearing = c.replace.new.dest }) C.idle
+    starts_nothing (record w { log = c.end_cleaning.new.log; allocator = c.end_cleaning.new.allocator; places = c.end_cleaning.new.places; index = c.end_cleaning.new.index; standing = c.end_cleaning.new.standing; notices = c.file_gone.new.boxes; cleaning = Nothing; clearing = c.replace.new.dest }) C.idle
 
 pub returns-in-Ok-clause-steps : goal.returns-in-Ok-clause-steps
 returns-in-Ok-clause-steps g c passes = record { made = step_with (runs.Kind.Retire c.in-Some.clearing.doomed) (g.B.Board.view c.end_cleaning.new.board) ∷ []; more = c.in-Ok.ensures.steps.0; loads = tt; ends = refl; last = record { handed = λ _. c.in-Ok.ensures.steps.1; alone = λ _ no. absurd (cc no) }; asks = λ no. absurd (cc no) }

@@ -7,7 +7,7 @@ use Rattle.core_log.specs.Chunk.{words_now, FreeOrLog}
 use Rattle.core_log.specs.Opening.{EachInChunk}
 use Rattle.core_log.specs.Retiring.{HasSameOrNone, RetiredChunk}
 use Rattle.log_standing.specs.NameCounts.{StandingState, SameCopies, times_in}
-use Rattle.log_cleaner.specs.Dropping.{Drops}
+use Rattle.log_cleaner.specs.Dropping.{lone_in, Drops}
 use Rattle.log_cleaner.specs.Clearing.{ClearingState}
 use Rattle.log_cleaner.specs.Copying.{IsSettledIn}
 use Rattle.log_cleaner.proofs.ClearLaws.{clear_parts, clear_standing, clear_vanish}
@@ -93,7 +93,7 @@ returns-clause-ok g c =
     }
 
 pub returns-clause-count : goal.returns-clause-count
-returns-clause-count g c = (let less = c.drop_all.ensures.count in let same = ap length c.settle.ensures.count in omega (arith, less, same))
+returns-clause-count g c = (let less = c.drop_all.ensures.count in let same = ap length c.settle.ensures.count in let lone = ap (lone_in c.args.standing.now) (c.deref.ensures.value ∙ ap (λ (x : ClearingState). x.names) c.self.view_is) in omega (arith, less, same, lone))
 
 pub returns-clause-room : goal.returns-clause-room
 returns-clause-room g c = c.settle.ensures.room ∙ c.drop_all.ensures.room
