@@ -6,7 +6,6 @@ use Rattle.pm_region.specs.Words.{KeepsOutside, EachIn, Surely}
 use Rattle.pm_region.proofs.Clients.{at_exit, told_at_entry, surely_kept}
 use Rattle.log_entry.specs.declared.entry.Entry.{Entry}
 use Rattle.log_entry.specs.declared.entry.Body.TheVariants as bodies
-use Rattle.std.specs.Prelude.{is_some}
 use Rattle.chunk_map.specs.declared.layouts.Geometry.{Geometry}
 use Rattle.chunk_map.specs.Layouts.{chunk_words, chunk_first, part_first, has_class}
 use Rattle.store_image.proofs.Clients.{layout_numbers, chunk_of as block_chunk_of}
@@ -21,6 +20,7 @@ use Rattle.licence.specs.Licence.{Licensed, grounded}
 use Rattle.core_log.proofs.Clients.{outside_chunk, log_beside, words_kept, own_chunk, tail_fits}
 use Rattle.core_log.specs.Chunk.{words_now}
 use Rattle.chunk_map.proofs.Clients.{chunks_apart}
+use Rattle.core_worker.proofs.ChunksKept.{chunk_same}
 use Rattle.core_worker.proofs.CleaningKept.{fewer_same, keeps_few}
 use Rattle.core_worker.proofs.NamesStood.{names_kept}
 use Rattle.core_worker.specs.declared.worker.Worker.{Worker}
@@ -82,7 +82,7 @@ holds_written t p m v w b a q class value H nothing sets wrote = record {
   broken = H.broken;
   cleaning = keeps_few p m v w a (fewer_same w.allocator a (chunks_same w.allocator a (record { layout_is = wrote.layout_is; part_is = wrote.part_is }) wrote.free) wrote.free wrote.classes) H.cleaning;
   remembers = H.remembers;
-  chunks = λ r j lt. ⊎_elim (λ x. inl (⊎_elim (λ e. inl (wrote.free j ∙ e)) (λ e. inr (ap is_some (wrote.classes j) ∙ e)) x)) (λ e. inr e) (H.chunks r j lt);
+  chunks = λ r j lt. chunk_same w.allocator a w.log.chunks j (wrote.free j) (wrote.classes j) (H.chunks r j lt);
   lost = H.lost;
 }
   where

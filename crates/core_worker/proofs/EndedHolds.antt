@@ -8,7 +8,7 @@ use Rattle.log_entry.specs.declared.entry.Body.{Body}
 use Rattle.log_entry.specs.declared.entry.Body.TheVariants as bodies
 use Rattle.log_entry.specs.Spelling.{HasSpelling}
 use Rattle.store_image.specs.Facts.{In}
-use Rattle.core_log.specs.Log.{LogState, tail_of}
+use Rattle.core_log.specs.Log.{LogState, tail_of, without}
 use Rattle.core_log.proofs.Clients.{without_other}
 use Rattle.core_index.specs.Index.{known_at, room_at}
 use Rattle.core_index.specs.Records.{KeyRecord, standing_of, standing_at}
@@ -251,12 +251,18 @@ module _ (p : Place) (m : ℕ) (v u : View) (w x : Worker) (c : ClearingState) (
   -- each chunk is free, Data there, or the log's
   chunk_now : (j : ℕ) → HasChunk w.allocator w.log.chunks j → HasChunk x.allocator x.log.chunks j
   chunk_now j had = ⊎_elim
-      (λ (here : j ≡ c.chunk). inl (inl (E.ends.gives.free j ∙ ap (λ (b : Bool). b || chunk_is_free w.allocator j) (eq-eqb j c.chunk here))))
-      (λ (ne : j ≢ c.chunk). ⊎_elim
-      (λ own. inl (⊎_elim (λ free. inl (E.ends.gives.free j ∙ ap (λ (b : Bool). b || chunk_is_free w.allocator j) (ne_eqb j c.chunk ne) ∙ free)) (λ cut. inr (ap is_some (E.ends.gives.classes j) ∙ cut)) own))
-      (λ has. inr (ap (λ (l : LogState). is_some (tail_of l.chunks j)) E.ends.log_is ∙ ap is_some (without_other w.log.chunks c.chunk j ne) ∙ has))
+      (λ (here : j ≡ c.chunk). inl (inl (E.ends.gives.free j ∙ ap (λ (b : Bool). b || chunk_is_free w.allocator j) (eq-eqb j c.chunk here)), ap (tail_of x.log.chunks) here ∙ E.ends.gone))
+      (λ (ne : j ≢ c.chunk).
+      let free_is = E.ends.gives.free j ∙ ap (λ (b : Bool). b || chunk_is_free w.allocator j) (ne_eqb j c.chunk ne) in
+      let tail_same = tail_is ∙ without_other w.log.chunks c.chunk j ne in
+      ⊎_elim
+      (λ own. inl (⊎_elim (λ free. inl (free_is ∙ free)) (λ cut. inr (ap is_some (E.ends.gives.classes j) ∙ cut)) own.0, tail_same ∙ own.1))
+      (λ has. inr ((free_is ∙ has.0.0, E.ends.gives.classes j ∙ has.0.1), ap is_some tail_same ∙ has.1))
       had)
       (cases_eq j c.chunk)
+    where
+      tail_is : tail_of x.log.chunks j ≡ tail_of (without w.log.chunks c.chunk) j
+      tail_is = ap (λ (l : LogState). tail_of l.chunks j) E.ends.log_is
 
   pub ended_holds : Holds p m u x
   unfolding block_was

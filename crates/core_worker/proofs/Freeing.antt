@@ -1,6 +1,5 @@
 -- A place is freed, whatever became of its change: what is left of the ties.
 use Rattle.std.proofs.Common.{◌≡◌, ◌≢◌, ◌⊎◌, inl, inr, ⊎_elim, ℕ, ◌+◌, ◌*◌, ◌<◌, ◌≤◌, Bool, true, false, [], length, Option, Some, None, refl, sym, ◌∙◌, ap, subst, arith}
-use Rattle.std.specs.Prelude.{is_some}
 use Rattle.std.proofs.lemmas.Bool.{cases_eq}
 use Rattle.pm_region.specs.Words.{Surely}
 use Rattle.pm_region.specs.State.{State, IsTelling, cell_now}
@@ -25,6 +24,7 @@ use Rattle.licence.proofs.Clients.{allowed}
 use Rattle.core_worker.specs.declared.types.Place as places
 use Rattle.core_worker.specs.declared.types.Place.TheVariants.{Free, Staged, Posted}
 use Rattle.core_worker.specs.declared.worker.Worker.{Worker}
+use Rattle.core_worker.specs.OwnChunks.{HasChunk}
 use Rattle.core_worker.specs.OwnPlaces.{place_at, key_in, is_busy, Replaces}
 use Rattle.core_worker.specs.KeyTies.{IsPlaced, Offers, KnowsKey, IsStagedBlock, IsBlockFor}
 use Rattle.core_worker.specs.declared.types.Cleaning.TheVariants.{Nothing}
@@ -34,6 +34,7 @@ use Rattle.core_worker.specs.LogNames.{NamesStand}
 use Rattle.core_worker.specs.Outbox.{KeepsMail, as_told}
 use Rattle.core_worker.specs.Ties.{Stands, Leads, HasSpaceFor, is_lost}
 use Rattle.core_worker.specs.Beginning.{HoldsAside}
+use Rattle.core_worker.proofs.ChunksKept.{chunk_same}
 use Rattle.core_worker.proofs.Posts.{busy_by, busy_has}
 
 -- What a worker w with view v and a worker x with view u have in common, where the place of a change of this key was freed.
@@ -205,10 +206,8 @@ module _ (p : Place) (m key slot : ℕ) (v u : View) (w x : Worker) (H : HoldsAs
     lost = F.lost;
     cleaning = F.cleans H.cleaning;
     remembers = F.remembers;
-    chunks = λ r j low. ⊎_elim
-        (λ y. inl (⊎_elim (λ e. inl (F.chunks.free j ∙ e)) (λ e. inr (ap is_some (F.chunks.classes j) ∙ e)) y))
-        (λ e. inr (ap (λ (l : LogState). is_some (tail_of l.chunks j)) F.log ∙ e))
-        (H.chunks (F.runs r) j low);
+    chunks = λ r j low. subst (λ (l : LogState). HasChunk x.allocator l.chunks j) (sym F.log)
+        (chunk_same w.allocator x.allocator w.log.chunks j (F.chunks.free j) (F.chunks.classes j) (H.chunks (F.runs r) j low));
   } where
     idle_by : (k : ℕ) → is_busy w.places.items k ≡ false → is_busy x.places.items k ≡ false
     idle_by k idle = by (is_busy x.places.items k) refl where

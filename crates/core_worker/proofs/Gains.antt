@@ -1,5 +1,5 @@
 -- What a block that was taken changes of an allocator.
-use Rattle.std.proofs.Common.{◌≡◌, ◌⊎◌, inl, inr, ⊎_elim, ℕ, ◌+◌, ◌%◌, ◌^◌, ◌≤◌, ◌==◌, ◌||◌, not, Bool, true, false, cond, Some, None, refl, sym, ◌∙◌, ap, subst, arith}
+use Rattle.std.proofs.Common.{◌≡◌, ◌⊎◌, inl, inr, ⊎_elim, ℕ, ◌+◌, ◌%◌, ◌^◌, ◌≤◌, ◌==◌, ◌&&◌, ◌||◌, not, Bool, true, false, cond, Some, None, refl, sym, ◌∙◌, ap, subst, arith}
 use Rattle.std.specs.Prelude.{is_some}
 use Rattle.std.specs.Option.{option_and_then}
 use Rattle.std.proofs.lemmas.Nat.{pow_pos}
@@ -12,7 +12,7 @@ use Rattle.lazy_alloc.specs.Sets.{Sets, AreSets, free_chunk_count, Takes, TakesB
 use Rattle.lazy_alloc.specs.Form.{class_by}
 use Rattle.lazy_alloc.proofs.Clients.{SamePart, same_part, class_same, free_block, lies_at, class_point, class_fits, placed_class}
 use Rattle.core_worker.specs.KeyTies.{IsBlockFor}
-use Rattle.core_worker.specs.OwnChunks.{IsFreeOrData}
+use Rattle.core_worker.specs.OwnChunks.{IsFreeOrData, IsTaken}
 use Rattle.core_worker.specs.Posting.{PointsNowhere}
 
 -- The allocator has the block of a body more, of the class of a value of this length, where the body points to one.
@@ -28,7 +28,7 @@ pub record Allots (old new : Sets) (b : Body) (n : ℕ) : Type 0 where
   pub cut : (j c : ℕ) → chunk_class new j ≡ Some c → chunk_is_due new j ≡ false → (chunk_class old j ≡ Some c) × (chunk_is_due old j ≡ false)
   pub chunk : (j : ℕ) → IsFreeOrData old j → IsFreeOrData new j
   pub few : free_chunk_count new ≤ free_chunk_count old
-  pub uncut : (j : ℕ) → chunk_is_free old j ≡ false → chunk_class old j ≡ None → chunk_class new j ≡ None
+  pub taken : (j : ℕ) → IsTaken old j → IsTaken new j
 
 pub allots_none : (a : Sets) (b : Body) (n : ℕ) → AreSets a → PointsNowhere b → Allots a a b n
 allots_none a b n sets none = record {
@@ -43,7 +43,7 @@ allots_none a b n sets none = record {
   cut = λ j c e d. (e, d);
   chunk = λ j e. e;
   few = omega arith;
-  uncut = λ j off none. none;
+  taken = λ j was. was;
 }
 
 or_false : (x y : Bool) → (x || y) ≡ false → (x ≡ false) × (y ≡ false)
@@ -88,7 +88,7 @@ module _ (old new : Sets) (sets : AreSets old) (sets' : AreSets new) (class q n 
         cut = λ j c e d. (sym (t.chunks.classes j) ∙ e, sym (t.chunks.due j) ∙ d);
         chunk = λ j. ⊎_elim (λ e. inl (t.chunks.free j ∙ e)) (λ e. inr (ap is_some (t.chunks.classes j) ∙ e));
         few = (let same = t.chunk_count in omega (arith, same));
-        uncut = λ j off none. t.chunks.classes j ∙ none;
+        taken = λ j was. (t.chunks.free j ∙ was.0, t.chunks.classes j ∙ was.1);
       }
 
   first_start : is_start old.layout class 1 ≡ true
@@ -122,7 +122,7 @@ module _ (old new : Sets) (sets : AreSets old) (sets' : AreSets new) (class q n 
             (λ ne. ⊎_elim (λ e. inl (t.free i ∙ and_from (chunk_is_free old i) (not (i == j)) e (ap not (ne_eqb i j ne)))) (λ e. inr (ap is_some (t.classes i ne) ∙ e)) had)
             (cases_eq i j);
         few = (let less = t.chunk_count in omega (arith, less));
-        uncut = λ i off none. t.classes i (λ same. (let both : false ≡ true = sym off ∙ ap (chunk_is_free old) same ∙ t.was_free in cc both)) ∙ none;
+        taken = λ i was. (t.free i ∙ ap (λ (b : Bool). b && not (i == j)) was.0, t.classes i (λ same. (let both : false ≡ true = sym was.0 ∙ ap (chunk_is_free old) same ∙ t.was_free in cc both)) ∙ was.1);
       }
 
   pub allots : (may : Bool) → Takes old new class may (Some q) → Allots old new (bodies.Pointer q) n

@@ -45,8 +45,8 @@ module _ (s : State) (p : Place) (m : ℕ) (v : View) (w : Worker) (H : Holds p 
   -- no chunk of the part besides the log's has an entry
   pub others_none : NoneElse s w.log
   others_none telling j low none image may = ⊎_elim
-      (λ own. ⊎_elim (λ free. is_free ((S.free runs j free telling).1)) (λ cut. is_cut (chunk_class w.allocator j) refl cut) own)
-      (λ has. absurd (let both : true ≡ false = sym has ∙ ap is_some none in cc both))
+      (λ own. ⊎_elim (λ free. is_free ((S.free runs j free telling).1)) (λ cut. is_cut (chunk_class w.allocator j) refl cut) own.0)
+      (λ has. absurd (let both : true ≡ false = sym has.1 ∙ ap is_some none in cc both))
       (H.chunks runs j (subst (λ (l : Geometry). j < l.chunks) H.log_layout low))
     where
       here : MayBe (cell_now s (first_of w.log j)) (image (first_of w.log j))

@@ -27,6 +27,7 @@ use Rattle.core_worker.specs.Ties.{Stands, HasSpaceFor}
 use Rattle.core_worker.specs.Beginning.{HoldsAside}
 use Rattle.core_worker.proofs.CleaningKept.{keeps_few}
 use Rattle.core_worker.proofs.Posts.{busy_by, busy_has}
+use Rattle.core_worker.proofs.ChunksKept.{chunk_kept}
 use Rattle.core_worker.proofs.Gains.{Allots}
 
 clash : (b : Bool) → b ≡ true → b ≡ false → ⊥
@@ -139,9 +140,9 @@ module _ (p : Place) (m : ℕ) (v : View) (w : Worker) (H : HoldsAside p m v w) 
       space = λ r. subst (HasSpaceFor (record staged { queue = [] })) (sym nothing) tt;
       broken = H.broken;
       lost = H.lost;
-      cleaning = keeps_few p m v (record w { queue = [] }) a (record { few = A.few; taken = still_taken; uncut = A.uncut }) H.cleaning;
+      cleaning = keeps_few p m v (record w { queue = [] }) a (record { few = A.few; taken = still_taken; uncut = λ j off none. (A.taken j (off, none)).1 }) H.cleaning;
       remembers = H.remembers;
-      chunks = λ r j low. ⊎_elim (λ x. inl (A.chunk j x)) (λ e. inr e) (H.chunks r j low);
+      chunks = λ r j low. chunk_kept w.allocator a w.log.chunks j (A.chunk j) (A.taken j) (H.chunks r j low);
     }
 
     pub stands_staged : (s : State) → Stands s p m v w → Stands s p m v staged

@@ -92,9 +92,12 @@ module _ (p : Place) (m : ℕ) (image : ℕ → ℕ) (start : CoreStart) (at : I
   pub chunks_now : AreChunks l.chunks start.allocator start.log.chunks
   chunks_now j low = by (head_at l image (chunk_first l c j)) refl where
     by : (h : Result Head ℕ) → head_at l image (chunk_first l c j) ≡ h → HasChunk start.allocator start.log.chunks j
-    by (Ok Free) e = inl (inl (at.found.allocator.free j low ∙ ap is_free e))
-    by (Ok (Log tail)) e = inr (ap is_some (at.found.logs j ∙ ap (λ b. cond b (tail_behind (head_at l image (chunk_first l c j))) None) (lt-ltb j l.chunks low) ∙ ap tail_behind e))
-    by (Ok (Data class)) e = inl (inr (ap is_some (at.found.allocator.class j low ∙ ap class_in e)))
+    by (Ok Free) e = inl (inl (at.found.allocator.free j low ∙ ap is_free e), no_log j (ap tail_behind e))
+    by (Ok (Log tail)) e = inr (
+      (at.found.allocator.free j low ∙ ap is_free e, at.found.allocator.class j low ∙ ap class_in e),
+      ap is_some (at.found.logs j ∙ ap (λ b. cond b (tail_behind (head_at l image (chunk_first l c j))) None) (lt-ltb j l.chunks low) ∙ ap tail_behind e),
+    )
+    by (Ok (Data class)) e = inl (inr (ap is_some (at.found.allocator.class j low ∙ ap class_in e)), no_log j (ap tail_behind e))
     by (Err rule) e = absurd (let reads = at.rules.reads c j (core_low p at.place m at.member) low in let both : false ≡ true = sym (ap (λ h. head_reads h (scan_at l image (chunk_first l c j))) e) ∙ reads in cc both)
 
   module _ (s : State) (here : IsCertainAt s p m image start) where

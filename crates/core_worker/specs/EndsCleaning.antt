@@ -34,6 +34,7 @@ pub record EndsCleaning (core : ℕ) (c : ClearingState) (own : List EntryName)
     (log log' : LogState) (a b : Sets) (ps qs : List Place) (es ix : List (ℕ × slots.Place))
     (old new : StandingState) : Type 0 where
   pub log_is : log' ≡ record log { chunks = without log.chunks c.chunk }
+  pub gone : tail_of log'.chunks c.chunk ≡ None
   pub gives : GivesChunk a b c.chunk
   pub sets : AreSets b
   pub dropped : StandingState

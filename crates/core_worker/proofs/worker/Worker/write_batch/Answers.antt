@@ -14,7 +14,7 @@ use Rattle.core_log.specs.Chunk.{padded}
 use Rattle.core_log.specs.Log.{open_first}
 use Rattle.batch_leader.specs.Persisting.{opened_for}
 use Rattle.core_log.specs.Log.{HoldsEntries}
-use Rattle.core_log.proofs.Clients.{room_opens}
+use Rattle.core_log.proofs.Clients.{open_has, room_opens}
 use Rattle.group_laws.specs.MemberViews.{View}
 use Rattle.batch_leader.specs.TakenChanges.{entries_in, spelled, taken_in}
 use Rattle.batch_leader.specs.Rounds.{words_in}
@@ -66,11 +66,16 @@ returns-in-Ok-clause-holds g c =
     let gives = c.in-Ok.ensures.gives in
     let takes = subst (λ (f : Bool). TakesFor f w.allocator c.chunk_for-fresh.new.allocator c.chunk_for-fresh.result) c.needs_chunk.ensures c.chunk_for-fresh.ensures.takes in
     let own : c.member-own.result ≡ m = c.member-own.ensures ∙ ap (λ (x : SeatAt). x.number) c.persist.ensures.seat in
+    let s = g.R.Region.state c.args.region.now in
+    let o = c.chunk_for-fresh.result in
+    let room = room_ready s p m v w c.requires.stands H.sets (H.allocator_layout ∙ sym H.log_layout) c.requires.runs b.fresh b.own_lines (words_in ts) c.chunk_for-fresh.new.allocator o (subst (HasSpaceFor w) (sym c.in-Batch.ensures.value) (H.space c.requires.runs)) takes in
+    let entries : HoldsEntries (spelled ts) = record { entries = entries_in ts; words = refl; batch = batch_of p ts had.0.out.each b.some } in
+    let opened : o ≡ None → is_some w.log.opened ≡ true = λ none. room_opens w.log (spelled ts) entries (subst (λ (x : Option ℕ). HasRoom s w.log (words_in ts) x) none room) in
     let wrote = holds_wrote p m v u w c.chunk_for-fresh.new.allocator c.persist.new.log (leads.Persisted c.in-Ok.done) w.stopped (v.kept ++ v.flying) [] v.taken v.holds [] v.took view (λ x i. In-append_left x v.kept v.flying i) H
     (takes_same b.fresh w.allocator c.chunk_for-fresh.new.allocator c.chunk_for-fresh.result takes) c.chunk_for-fresh.ensures.sets c.in-Ok.ensures.log.layout c.in-Ok.ensures.log.part
     (leads_of seat u (leads.Persisted c.in-Ok.done) (gives.1, ap (λ (x : View). x.holds) view ∙ had.1, (λ whole. ap (λ (x : View). x.flying) view), (λ none. b.some (sym gives.0 ∙ none))))
     tt (λ broken. absurd (let both : true ≡ false = sym broken ∙ ap (λ (x : View). x.broken) view ∙ had.0.whole in cc both)) (λ lost. absurd (cc lost)) (λ runs. runs) (λ stopped. stopped)
-    (λ runs. chunks_wrote p.layout.chunks b.fresh w.allocator c.chunk_for-fresh.new.allocator c.chunk_for-fresh.result w.log c.persist.new.log (padded (spelled ts)) takes c.in-Ok.ensures.wrote.log_is (H.chunks c.requires.runs)) (leads_none p m v w H.cleaning (ap is_leading (sym c.in-Batch.ensures.value))) in
+    (λ runs. chunks_wrote p.layout.chunks b.fresh w.allocator c.chunk_for-fresh.new.allocator c.chunk_for-fresh.result w.log c.persist.new.log (padded (spelled ts)) H.sets takes (λ none. ap is_some (open_has w.log (c.requires.stands.log c.requires.runs).own (opened none))) c.in-Ok.ensures.wrote.log_is (H.chunks c.requires.runs)) (leads_none p m v w H.cleaning (ap is_leading (sym c.in-Batch.ensures.value))) in
     holds_renewed p m u (record w { log = c.persist.new.log; allocator = c.chunk_for-fresh.new.allocator; leading = leads.Persisted c.in-Ok.done; places = c.unpledge.new.places }) c.note_names.new.standing w.winds_down (λ on. on) (inl (leads_none p m v w H.cleaning (ap is_leading (sym c.in-Batch.ensures.value))))
     (holds_lowered p m u (record w { log = c.persist.new.log; allocator = c.chunk_for-fresh.new.allocator; leading = leads.Persisted c.in-Ok.done; stopped = w.stopped }) wrote c.unpledge.new.places c.unpledge.ensures.count (λ s. is_some (taken_in ts m s))
     (λ s lt. c.unpledge.ensures.each s lt ∙ (λ i. unpledged_if (is_some (taken_in (gives.0 i) (own i) s)) (place_at w.places.items s)))
