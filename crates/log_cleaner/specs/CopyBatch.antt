@@ -8,7 +8,7 @@ use Rattle.log_entry.specs.declared.entry.Entry.{Entry}
 use Rattle.log_entry.specs.Spelling.{words_of, HasSpelling}
 use Rattle.core_log.specs.Log.{LogState, StandsIn, tail_of, open_number, room_of}
 use Rattle.core_log.specs.Walking.{entries_in}
-use Rattle.log_standing.specs.NameCounts.{StandingState, copies_at, one_more}
+use Rattle.log_standing.specs.NameCounts.{StandingState, copies_at, count_of, one_more, is_told}
 use Rattle.log_standing.specs.ChunkCounts.{is_named, has_name}
 use Rattle.log_cleaner.specs.declared.types.Victim.{Victim}
 use Rattle.log_cleaner.specs.Copying.{left_to_copy, words_sum, IsUpToDate, IsEachOnce}
@@ -41,6 +41,14 @@ abbrev pub Adds : StandingState → StandingState → List (ℕ × Entry) → Ty
 Adds old new xs = (k v : ℕ)
     → copies_at new k v ≡ (if has_name xs k v then Some (one_more (copies_at old k v))
     else copies_at old k v)
+
+-- Just the names stand that stood, of which none was told dead besides, and as many places are reserved.
+pub record KeepsNames (old new : StandingState) : Type 0 where
+  pub stood : (k n : ℕ) → 0 < count_of new k n → 0 < count_of old k n
+  pub stands : (k n : ℕ) → 0 < count_of old k n → 0 < count_of new k n
+  pub told : (k n : ℕ) → is_told new k n ≡ is_told old k n
+  pub count : length new.entries ≡ length old.entries
+  pub room : new.room ≡ old.room
 
 -- the batch was collected: so many entries, their words, and the names that have a second copy now
 pub record Collected (old new : StandingState) (batch : List (ℕ × Entry)) (count : ℕ)

@@ -7,7 +7,7 @@ ghost use Rattle.core_log.specs.Log.{StandsIn, tail_of, HoldsEntries};
 ghost use Rattle.core_log.specs.Walking.{IsReadable, entries_in, behind};
 ghost use Rattle.log_standing.specs.NameCounts.{copies_at, one_more, Changes, SameCopies, wants};
 ghost use Rattle.log_cleaner.specs.Copying.{IsSettled, IsSettledIn, IsUpToDate, begins, left_to_copy};
-ghost use Rattle.log_cleaner.specs.CopyBatch.{Collected, batch_in};
+ghost use Rattle.log_cleaner.specs.CopyBatch.{Collected, KeepsNames, batch_in};
 
 use crate::reading_start::begin_at;
 use core_log::{CoreLog, Peek};
@@ -53,6 +53,7 @@ fn take_in<R: Region>(
     ensures one { result ≤ 1 }
     ensures room { buffer.new.room ≡ buffer.old.room }
     ensures settled { standing.new.settled ≡ standing.old.settled }
+    ensures names { KeepsNames standing.old standing.new }
 {
     if !standing.wants(found.name) {
         return 0;
@@ -90,6 +91,7 @@ fn collect_from<R: Region>(
     ensures kept { buffer.new.room ≡ buffer.old.room }
     ensures settled { IsTelling (R.state region.now) → IsSettled (R.state region.now) log.now
         standing.new (begins chunk result.1) }
+    ensures names { KeepsNames standing.old standing.new }
 {
     let mut taken = 0;
     let mut place = from;
@@ -129,6 +131,7 @@ pub fn collect<R: Region>(
     ensures settled { IsTelling (R.state region.now) → IsSettledIn (R.state region.now) log.now
         standing.new }
     ensures chunk { IfSome standing.new.settled (λ h. h.chunk ≡ chunk) }
+    ensures names { KeepsNames standing.old standing.new }
 {
     let from = begin_at(log, standing, chunk);
     let (taken, place) = collect_from(region, log, standing, chunk, from, buffer);

@@ -1,12 +1,12 @@
 // What still lives in a chunk is copied into the open one.
-ghost use Rattle.std.specs.Prelude.{◌≡◌, ◌≢◌, ◌⊎◌, ℕ, ◌+◌, ◌-◌, ◌*◌, ◌^◌, ◌≤◌, ◌<◌, true, false, is_some, Some, length, OnOk, OnErr, IfOk};
+ghost use Rattle.std.specs.Prelude.{◌≡◌, ◌≢◌, ◌⊎◌, ℕ, ◌+◌, ◌-◌, ◌*◌, ◌^◌, ◌≤◌, ◌<◌, true, false, is_some, Some, length, OnOk, OnErr, IfOk, IfSome};
 ghost use Rattle.pm_region.specs.Words.{lines_for};
 ghost use Rattle.pm_region.specs.State.{IsTelling, Faulted};
 ghost use Rattle.core_log.specs.Log.{StandsIn, tail_of, room_of, with_tail, open_number, open_tail};
 ghost use Rattle.core_log.specs.Chunk.{padded};
 ghost use Rattle.core_log.specs.Walking.{entries_in};
 ghost use Rattle.log_cleaner.specs.Copying.{IsUpToDate};
-ghost use Rattle.log_cleaner.specs.CopyBatch.{copies_in, CopiesFit, IsBatchOf, HasCopied, Bounds};
+ghost use Rattle.log_cleaner.specs.CopyBatch.{copies_in, CopiesFit, IsBatchOf, HasCopied, KeepsNames, Bounds};
 ghost use Rattle.log_cleaner.specs.ImagesBeside.{MakesCopies};
 
 use crate::collect_copies::collect;
@@ -65,10 +65,13 @@ pub fn copy_live<R: Region>(
     // Whatever the region tells: no more than the numbers of the victim say, in so many lines of the open chunk.
     ensures within { IfOk result (λ n. (n ≤ victim.now.entries) × (n ≤ MOST_ENTRIES)
         × (0 < n → length buffer.new.words ≤ victim.now.words)) }
+    ensures some { IfOk result (λ n. 0 < n → 0 < length buffer.new.words) }
+    ensures read { IfSome standing.new.settled (λ h. h.chunk ≡ victim.now.chunk) }
     ensures log { IfOk result (λ n. 0 < n → log.new ≡ record log.old {
       chunks = with_tail log.old.chunks (open_number log.old)
           (open_tail log.old + length (padded buffer.new.words));
     }) }
+    ensures names { KeepsNames standing.old standing.new }
     ensures buffer { buffer.new.room ≡ buffer.old.room }
     ensures err { OnErr result (log.new ≡ log.old) }
     ensures cause { OnErr result (Faulted (R.state region.old) (R.state region.new)) }

@@ -15,6 +15,7 @@ loop-found-init g c =
       room = c.requires.room;
       kept = refl;
       settled = refl;
+      names = record { stood = λ k n some. some; stands = λ k n some. some; told = λ k n. refl; count = refl; room = refl };
       told = λ telling. collect_starts c.args.standing.now (entries_in s c.args.log.now c.args.chunk) c.args.from c.args.buffer.now.words (c.requires.left telling) c.requires.empty;
     }
 
@@ -38,6 +39,13 @@ loop-found-preserved g c =
       room = omega (arith, room, took.room);
       kept = took.room ∙ was.kept;
       settled = took.settled ∙ was.settled;
+      names = record {
+        stood = λ k n some. was.names.stood k n (took.names.stood k n some);
+        stands = λ k n some. took.names.stands k n (was.names.stands k n some);
+        told = λ k n. took.names.told k n ∙ was.names.told k n;
+        count = took.names.count ∙ was.names.count;
+        room = took.names.room ∙ was.names.room;
+      };
       told = λ telling. collect_on s c.args.log.now c.args.standing.now c.loop-found.standing c.args.chunk c.loop-found.place c.loop-found.taken c.loop-found.buffer.words c.in-Some.found (c.in-Some.ensures.step telling) (was.told telling)
           c.take_in-taken.new.standing c.loop-found.buffer c.take_in-taken.new.buffer c.take_in-taken.result refl took.passed took.added (λ wanted. took.words wanted telling) less;
     }

@@ -4,6 +4,7 @@ use Rattle.log_entry.specs.Buffer.{Buffer}
 use Rattle.core_log.specs.Log.{LogState, tail_in}
 use Rattle.core_log.specs.Walking.{IsReadable, entries_in}
 use Rattle.log_standing.specs.NameCounts.{StandingState}
+use Rattle.log_cleaner.specs.CopyBatch.{KeepsNames}
 use Rattle.log_cleaner.proofs.Batches.{Collecting}
 use Rattle.log_cleaner.proofs.collect_copies.collect_from.Given as goal
 
@@ -15,6 +16,7 @@ pub record SoFar (s : State) (log : LogState) (old st : StandingState) (j place 
   pub room : 2176 ≤ b.room
   pub kept : b.room ≡ first.room
   pub settled : st.settled ≡ old.settled
+  pub names : KeepsNames old st
   pub told : IsTelling s → Collecting old st (entries_in s log j) place taken b.words
 
 abbrev pub invariant-loop-found : goal.invariant-loop-found
