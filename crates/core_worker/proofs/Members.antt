@@ -1,5 +1,5 @@
 -- The cores of the members of a group.
-use Rattle.std.proofs.Common.{◌≡◌, ℕ, ◌+◌, ◌-◌, ◌*◌, ◌/◌, ◌<◌, ◌≤◌, arith}
+use Rattle.std.proofs.Common.{◌≡◌, ℕ, ◌+◌, ◌-◌, ◌*◌, ◌/◌, ◌<◌, ◌≤◌, ◌∙◌, ap, arith}
 use Rattle.std.proofs.Math.Nat.{mul-le-mul_left, mul-div-le}
 use Rattle.chunk_map.proofs.Clients.{numbers_of}
 use Rattle.group_laws.specs.Places.{Place, IsPlace, members, core_of}
@@ -21,3 +21,6 @@ member_low p m = omega arith
 pub core_moved : (p : Place) (m h : ℕ) → core_of p m - m + h ≡ core_of p h
 unfolding core_of
 core_moved p m h = omega arith
+
+pub core_beside : (p : Place) (m h core member : ℕ) → core ≡ core_of p m → member ≡ m → core - member + h ≡ core_of p h
+core_beside p m h core member is same = ap (λ (n : ℕ). core - n + h) same ∙ ap (λ (n : ℕ). n - m + h) is ∙ core_moved p m h

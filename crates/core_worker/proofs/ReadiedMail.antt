@@ -25,7 +25,7 @@ use Rattle.core_worker.specs.Supplies.{under_way}
 use Rattle.core_worker.specs.KeyTies.{KnowsKey}
 use Rattle.core_worker.specs.Order.{InOrder}
 use Rattle.core_worker.specs.Outbox.{mailing, waiting_dead, as_told, AreToSend, HasSpare, KeepsMail, MayTell, TellsNothing}
-use Rattle.core_worker.specs.Sending.{EmptiesBox, KeepsTies, Sends, SendsBox, TakesAt, TakesNames}
+use Rattle.core_worker.specs.Sending.{EmptiesBox, KeepsTies, SendsNotices, SendsBox, TakesAt, TakesNames}
 use Rattle.core_worker.specs.Ties.{Holds, LeadsNothing, HasSpaceFor}
 use Rattle.core_worker.proofs.CleaningKept.{keeps_winds, keeps_boxes}
 use Rattle.core_worker.proofs.Heard.{Hears, hears_none}
@@ -251,7 +251,7 @@ empties_in to w old new boxes was is none spare places = record {
   same = refl;
 }
 
-pub box_sent : (sent : Bool) (m to : ℕ) (before after : Option Group) (v u : View) (w : Worker) (old new : Notices) (boxes : Vec Notices Global) → slice_get w.notices.items to ≡ Some old → boxes.items ≡ slice_set w.notices.items to new → HasSpare new → (sent ≡ true → (under_way w ≡ Nothing) ⊎ (new.gone.room ≡ vec_capacity w.own_gone)) → Sends sent m to old new before after v u → SendsBox sent m to before after v u w (record w { notices = boxes })
+pub box_sent : (sent : Bool) (m to : ℕ) (before after : Option Group) (v u : View) (w : Worker) (old new : Notices) (boxes : Vec Notices Global) → slice_get w.notices.items to ≡ Some old → boxes.items ≡ slice_set w.notices.items to new → HasSpare new → (sent ≡ true → (under_way w ≡ Nothing) ⊎ (new.gone.room ≡ vec_capacity w.own_gone)) → SendsNotices sent m to old new before after v u → SendsBox sent m to before after v u w (record w { notices = boxes })
 box_sent true m to before after v u w old new boxes was is spare places S = (empties_in to w old new boxes was is S.0 spare (places refl), S.1, S.2)
 box_sent false m to before after v u w old new boxes was is spare places S = (
   refl,

@@ -22,7 +22,7 @@ use Rattle.core_worker.specs.declared.worker.Worker.{Worker}
 use Rattle.core_worker.specs.OwnPlaces.{place_at, is_staged, is_posted, HasNone}
 use Rattle.core_worker.specs.Status.{has_room, is_leading}
 use Rattle.core_worker.specs.Ties.{Holds, LeadsAt, LeadsNothing}
-use Rattle.core_worker.specs.Turns.{Moment, FindsPosted, PassesItems, PassesPost, SameButLeading, Idles}
+use Rattle.core_worker.specs.Turns.{Moment, FindsPosted, PassesItems, PassesPost, Idles}
 use Rattle.core_worker.specs.Loads.{LooksMade}
 use Rattle.core_worker.specs.WorkerMoves.{hands_of}
 use Rattle.core_worker.specs.Resting.{IsWithOthers, IsResting, HoldsSame, HasNoMore, OpenFor, LoadsOnly, AtRest, IfIdle, TriedIf, TriedAfter}
@@ -34,6 +34,8 @@ use Rattle.core_worker.proofs.LeftLocks.{looked_not_more, not_more_still, busy_n
 use Rattle.core_worker.proofs.LeftOwn.{own_view}
 use Rattle.core_worker.proofs.QuietMoves.{for_same}
 use Rattle.core_worker.proofs.MailTurns.{passes_more, looks_join}
+use Rattle.core_worker.proofs.ReadyLaws.{takes_low}
+use Rattle.core_worker.proofs.SentTurns.{not_more_ready, passes_led, passes_takes}
 use Rattle.core_worker.proofs.RestingLoads.{looks_only, looks_and_try}
 use Rattle.core_worker.proofs.RestingSlots.{busy_slot, with_others}
 use Rattle.core_worker.proofs.RestingPlaces.{slot_of, posted_of, none_waits, room_for_one}
@@ -52,7 +54,7 @@ abbrev slot_or : Option Pending → Option ℕ
 slot_or None = None
 slot_or (Some d) = d.slot
 
-module _ (p : Place) (refused : Bool) (m : ℕ) (a b : Moment) (seen : View) (P : PassesItems m a 8 seen) (post : PassesPost refused a.worker) (free : LeadsNothing b.worker) (same_worker : SameButLeading a.worker b.worker) (H : Holds p m b.view b.worker) where
+module _ (p : Place) (refused : Bool) (m : ℕ) (a b : Moment) (seen : View) (P : PassesItems m a 8 seen) (post : PassesPost refused a.worker) (free : LeadsNothing b.worker) (y : Worker) (same_worker : b.worker ≡ record a.worker { index = y.index; notices = y.notices; leading = b.worker.leading }) (H : Holds p m b.view b.worker) where
   pub leads_nothing : (b.view.holds ≡ false) × ((s t : ℕ) → b.view.taken s t ≡ None)
   leads_nothing = (let led = subst (λ (l : Leading). LeadsAt H.leads.seat b.view l) free.1 H.leads.at in (led.0, led.1))
 
@@ -121,20 +123,28 @@ idle_view f refused p m a b I same =
     ⊎_elim (λ no. ap f no.1) (λ busy. ap f busy.1.2 ∙ same I.mid (I.mid.looked ++ Holder busy.1.0 ∷ [])) I.lock
     ∙ ap f I.before.looked.view ∙ same a.view (a.view.looked ++ I.before.looked.looks)
 
+-- nothing but what it leads, its index and what it has to tell differs
+idle_is : (p : Place) (refused : Bool) (m : ℕ) (a b : Moment) (I : Idles refused p m a b) → b.worker ≡ record a.worker { index = I.ready.index; notices = I.ready.notices; leading = b.worker.leading }
+idle_is p refused m a b I = passes_led p m a.worker I.ready b.worker I.before.looked.looks I.sending I.same
+
 pub idle_same : (p : Place) (refused : Bool) (m : ℕ) (a b : Moment) → Idles refused p m a b → HoldsSame p m (hands_of a.view a.worker) (hands_of b.view b.worker)
 idle_same p refused m a b I =
+    let is = idle_is p refused m a b I in
     holds_same p m a.view b.view a.worker b.worker
     (idle_view (λ (v : View). v.pending) refused p m a b I (λ v xs. refl)) (idle_view (λ (v : View). v.blocks) refused p m a b I (λ v xs. refl))
-    (ap (λ (w : Worker). w.places) I.same) (ap (λ (w : Worker). w.queue) I.same) (ap (λ (w : Worker). w.in_hand) I.same)
+    (ap (λ (w : Worker). w.places) is) (ap (λ (w : Worker). w.queue) is) (ap (λ (w : Worker). w.in_hand) is)
 
 -- There is no more to do than before.
 pub idles_not_more : (refused : Bool) (p : Place) (m : ℕ) (a b : Moment) (I : Idles refused p m a b) (before mid after : Option Group) → LooksMade before mid m I.mid → (after ≡ mid) ⊎ Makes mid m Kind.Lock after b.view → b.view.holds ≡ false → NotMore before after a.worker b.worker
 idles_not_more refused p m a b I before mid after looks tried free =
+    let T = passes_takes p m a.worker I.ready I.before.looked.looks I.sending in
+    let nothing : LeadsNothing I.ready = (I.before.free.0, ap (λ (w : Worker). w.leading) T.0.same ∙ I.before.free.1) in
     looked_not_more before mid after m looks.0 I.mid a.worker b.worker looks.1
-    (⊎_elim (λ no. subst (λ (o : Option Group). NotMore mid o a.worker b.worker) (sym no) (not_more_still mid a.worker b.worker
-    (let same = leading_way a.worker b.worker I.same in let was = nothing_left a.worker I.before.free in let now = nothing_left b.worker I.free in omega (arith, same, was, now))))
-    (λ try. busy_not_more mid after m b.view a.worker b.worker try free I.before.free I.free I.same)
-    tried)
+    (not_more_ready mid after a.worker I.ready b.worker (takes_low p a.worker I.ready T.0 T.1)
+    (⊎_elim (λ no. subst (λ (o : Option Group). NotMore mid o I.ready b.worker) (sym no) (not_more_still mid I.ready b.worker
+    (let same = leading_way I.ready b.worker I.same in let was = nothing_left I.ready nothing in let now = nothing_left b.worker I.free in omega (arith, same, was, now))))
+    (λ try. busy_not_more mid after m b.view I.ready b.worker try free nothing I.free I.same)
+    tried))
 
 -- By what a turn answers.
 at_rest : (refused : Bool) (seat : SeatAt) (a b : Moment) (seen : View) (P : PassesItems seat.number a 8 seen) (posted : Bool) → MatchBool posted (FindsPosted a.worker.places.items P.looked.found 8) (FindsPosted a.worker.places.items P.looked.found 8 → ⊥) → (before mid after : Option Group) → LooksMade before mid seat.number seen → TriedIf posted seat.number mid after b.view
@@ -145,10 +155,10 @@ at_rest refused seat a b seen P posted found before mid after looks tried I H ha
     let m = seat.number in
     let try = tried_as posted found tried in
     record {
-      loads = loads p refused m a b seen P I.post I.free I.same H before mid after looks try;
+      loads = loads p refused m a b seen P I.post I.free I.ready (idle_is p refused m a b I) H before mid after looks try;
       same = idle_same p refused m a b I;
-      rests = rests p refused m a b seen P I.post I.free I.same H before mid after looks try entered left lawful;
-      no_more = λ asks works. no_more p refused m a b seen P I.post I.free I.same H asks works (hand (ap (λ (w : Worker). w.winds_down) I.same ∙ works));
+      rests = rests p refused m a b seen P I.post I.free I.ready (idle_is p refused m a b I) H before mid after looks try entered left lawful;
+      no_more = λ asks works. no_more p refused m a b seen P I.post I.free I.ready (idle_is p refused m a b I) H asks works (hand (ap (λ (w : Worker). w.winds_down) (idle_is p refused m a b I) ∙ works));
     } where
       tried_as : (x : Bool) → MatchBool x (FindsPosted a.worker.places.items P.looked.found 8) (FindsPosted a.worker.places.items P.looked.found 8 → ⊥) → TriedIf x seat.number mid after b.view
           → ((FindsPosted a.worker.places.items P.looked.found 8 → ⊥) × (after ≡ mid)) ⊎ Makes mid seat.number Kind.Lock after b.view

@@ -218,7 +218,7 @@ none_left n none = let dead = ap (λ (xs : List EntryName). length xs) none.0 in
 same_left : (xs ys : List ToSend) → ((g : ℕ) → slice_get ys g ≡ slice_get xs g) → box_left ys ≡ box_left xs
 same_left xs ys at = ap box_left (all_same xs ys at)
 
-box_less : (xs ys : List ToSend) (h : ℕ) (old new : ToSend) → length ys ≡ length xs → slice_get xs h ≡ Some old → slice_get ys h ≡ Some new → ((g : ℕ) → g ≢ h → slice_get ys g ≡ slice_get xs g) → box_left ys + notices_left (notices_of old) ≡ box_left xs + notices_left (notices_of new)
+pub box_less : (xs ys : List ToSend) (h : ℕ) (old new : ToSend) → length ys ≡ length xs → slice_get xs h ≡ Some old → slice_get ys h ≡ Some new → ((g : ℕ) → g ≢ h → slice_get ys g ≡ slice_get xs g) → box_left ys + notices_left (notices_of old) ≡ box_left xs + notices_left (notices_of new)
 box_less [] ys h old new e was now at = absurd (cc was)
 box_less (x ∷ xs) [] h old new e was now at = absurd (omega (arith, e))
 box_less (x ∷ xs) (y ∷ ys) zero old new e was now at =

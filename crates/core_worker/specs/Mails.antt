@@ -67,7 +67,10 @@ abbrev pub MailSteps : Bool → View → View → List TrailStep → List TrailS
 MailSteps true v u old new = LoadsThenOne v u old new
 MailSteps false v u old new = OnlyLoads v u old new
 
+-- by these loads no member told it anything
+abbrev pub NoneTold : Place → ℕ → List Seen → Type 0
+NoneTold p m looks = (a : ℕ) → a < members p → a ≢ m → In (Mail a m false) looks
+
 -- Why mail is passed: the core has stopped or winds down, or by this turn's loads no member told it anything.
 abbrev pub PassesMail : Place → ℕ → Worker → List Seen → Type 0
-PassesMail p m w looks = (w.stopped ≡ true) ⊎ ((w.winds_down ≡ true)
-    ⊎ ((a : ℕ) → a < members p → a ≢ m → In (Mail a m false) looks))
+PassesMail p m w looks = (w.stopped ≡ true) ⊎ ((w.winds_down ≡ true) ⊎ NoneTold p m looks)

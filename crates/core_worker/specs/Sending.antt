@@ -39,10 +39,10 @@ abbrev pub NoneAwaits : ℕ → List (ℕ × slots.Place) → Type 0
 NoneAwaits home es = (n : EntryName) → Awaits (known_at es n.key) home n.version → ⊥
 
 -- What waited for another member was sent, and nothing waits for it; or its mailbox was found full, and all waits as before.
-abbrev pub Sends : Bool → ℕ → ℕ → Notices → Notices → Option Group → Option Group → View → View → Type 0
-Sends true m to old new before after v u = TellsNothing new × (u ≡ after_send to (notices_of old) v)
+abbrev pub SendsNotices : Bool → ℕ → ℕ → Notices → Notices → Option Group → Option Group → View → View → Type 0
+SendsNotices true m to old new before after v u = TellsNothing new × (u ≡ after_send to (notices_of old) v)
     × MakesBoth before m (Kind.LookMail m to) (Kind.Send to (notices_of old)) after u
-Sends false m to old new before after v u = (new ≡ old) × (u ≡ after_find (Mail m to true) v)
+SendsNotices false m to old new before after v u = (new ≡ old) × (u ≡ after_find (Mail m to true) v)
     × Makes before m (Kind.LookMail m to) after u
 
 -- What awaited to be told at a home was taken out of the index, into the notices for the member of that home; the core may wind down for want of memory. Nothing else differs.
@@ -91,6 +91,11 @@ SendsBox true m to before after v u w x = (b : EmptiesBox to w x)
 SendsBox false m to before after v u w x = (x ≡ record w { notices = x.notices })
     × (x.notices.items ≡ w.notices.items) × (u ≡ after_find (Mail m to true) v)
     × Makes before m (Kind.LookMail m to) after u
+
+-- the core winds down, and nothing else differs
+abbrev pub WindsOnly : Worker → Worker → Type 0
+WindsOnly w x = (x ≡ record w { notices = x.notices; winds_down = x.winds_down })
+    × (x.notices.items ≡ w.notices.items) × (x.winds_down ≡ true)
 
 -- some name waits for a member
 abbrev pub HasNames : ℕ → Worker → Type 0

@@ -1,23 +1,25 @@
-// What a turn does with what other members tell this core.
-ghost use Rattle.std.specs.Prelude.{◌≡◌, ◌<◌, length, Bool, true, false, Option};
+// What a turn does with what members tell each other.
+ghost use Rattle.std.specs.Prelude.{◌≡◌, ◌<◌, length, Bool, true, false, Option, OnErr, OnOk};
 ghost use Rattle.pm_region.specs.State.{State};
 ghost use Rattle.group_laws.specs.declared.group_sizes.TheConstants.{SLOTS};
 ghost use Rattle.group_laws.specs.Places.{members, core_of};
 ghost use Rattle.group_laws.specs.State.{Group};
 ghost use Rattle.group_laws.specs.MemberViews.{View};
 ghost use Rattle.batch_leader.specs.TurnSteps.{TurnSteps, trail_with};
-ghost use Rattle.core_worker.specs.Left.{HasOffer, MeasuresTurn, StartsFirst};
-ghost use Rattle.core_worker.specs.Mails.{MailSteps, ReceivesFirst, ReceivesMail};
-ghost use Rattle.core_worker.specs.Resting.{IfIdleTurn, TriedAfter};
+ghost use Rattle.core_worker.specs.Left.{HasOffer, Measures, StartsFirst};
+ghost use Rattle.core_worker.specs.Mails.{MailSteps, NoneTold, ReceivesFirst, ReceivesMail};
+ghost use Rattle.core_worker.specs.Resting.{IfIdle, TriedAfter};
 ghost use Rattle.core_worker.specs.Ties.{HoldsAt, StandsAt, LeadsNothing};
-ghost use Rattle.core_worker.specs.Turning.{KeepsTurn, Tells, Turned, at_entry};
+ghost use Rattle.core_worker.specs.Turning.{KeepsTurn, Tells, TurnedTo, at_entry};
 ghost use Rattle.core_worker.specs.Turns.{InOrderAt, PassesPost};
 
 use crate::log_names::hear_notices;
 use crate::types::Turn;
 use crate::worker::Worker;
+use fs_errors::Memory;
 use group_board::Board;
 use pm_region::Region;
+use std::alloc::Global;
 
 impl Worker {
     // Receives what a member told, where it told something. Else the mailbox was loaded alone.
@@ -89,14 +91,67 @@ impl Worker {
         false
     }
 
-    // Receives what a member told, as a core that goes on. Else it goes on with a cleaning, or tries the lock, where an own
+    // Sends, as a core that no member told anything. Else it goes on with a cleaning, or tries the lock, where an own
     // change was found that nobody had taken.
-    pub(crate) fn serve_mail<R: Region, B: Board>(
+    fn serve_sending<R: Region, B: Board>(
         &mut self,
+        alloc: Global,
         region: &mut R,
         board: &mut B,
         posted: bool,
-    ) -> Turn
+    ) -> Result<Turn, Memory>
+        requires holds { HoldsAt (B.seat board.old) (B.view board.old) self.old }
+        requires stands { StandsAt (R.state region.old) (B.seat board.old)
+            (B.view board.old) self.old }
+        requires order { InOrderAt (B.seat board.old) (B.view board.old) self.old }
+        requires nothing { LeadsNothing self.old }
+        requires runs { self.old.stopped ≡ false }
+        requires works { self.old.winds_down ≡ false }
+        ensures seat { B.seat board.new ≡ B.seat board.old }
+        ensures keeps { KeepsTurn (B.seat board.old) (R.state region.old) (R.state region.new)
+            (B.whole board.old) (B.whole board.new) (B.view board.old) (B.view board.new)
+            self.old self.new }
+        ensures turned { (refused : Bool) (before : Option Group) (v : View)
+            → PassesPost refused self.old
+            → (tells : Tells posted (B.seat board.old).number self.old v (B.view board.old))
+            → NoneTold (B.seat board.old).place (B.seat board.old).number tells.0.looked.looks
+            → TurnedTo result (R.state region.old) (R.state region.new) refused before
+            (B.seat board.old) (at_entry self.old v) (at_entry self.new (B.view board.new)) }
+        ensures memory { OnErr result (self.new.winds_down ≡ true) }
+        ensures less { (posted ≡ true → HasOffer (B.whole board.old) (B.seat board.old).number)
+            → Measures result (B.whole board.old) (B.whole board.new) self.old self.new }
+        ensures starts { StartsFirst self.new }
+        ensures tries { IfIdle result (TriedAfter posted (B.seat board.old).number
+            (B.whole board.old) (B.whole board.new) (B.view board.old) (B.view board.new)) }
+        ensures works { OnOk result (self.new.winds_down ≡ self.old.winds_down) }
+        ensures steps { (passes : Bool) → TurnSteps passes (R.state region.old) (R.state region.new)
+            (B.view board.old) (B.view board.new)
+            (trail_with (B.trail board.old) (B.at board.old))
+            (trail_with (B.trail board.new) (B.at board.new)) }
+    {
+        match self.send_first(alloc, board) {
+            Ok(sent) => {
+                if sent {
+                    return Ok(Turn::Moved);
+                }
+                let turn = self.serve_cleaning(region, board, posted);
+                return Ok(turn);
+            }
+            Err(memory) => {
+                return Err(memory);
+            }
+        }
+    }
+
+    // Receives what a member told, as a core that goes on, or sends. One that has stopped or winds down does neither, and
+    // goes on with what comes behind.
+    pub(crate) fn serve_mail<R: Region, B: Board>(
+        &mut self,
+        alloc: Global,
+        region: &mut R,
+        board: &mut B,
+        posted: bool,
+    ) -> Result<Turn, Memory>
         requires holds { HoldsAt (B.seat board.old) (B.view board.old) self.old }
         requires stands { StandsAt (R.state region.old) (B.seat board.old)
             (B.view board.old) self.old }
@@ -109,25 +164,28 @@ impl Worker {
         ensures turned { (refused : Bool) (before : Option Group) (v : View)
             → PassesPost refused self.old
             → Tells posted (B.seat board.old).number self.old v (B.view board.old)
-            → Turned result (R.state region.old) (R.state region.new) refused before
+            → TurnedTo result (R.state region.old) (R.state region.new) refused before
             (B.seat board.old) (at_entry self.old v) (at_entry self.new (B.view board.new)) }
+        ensures memory { OnErr result (self.new.winds_down ≡ true) }
+        ensures awake { OnErr result (self.old.winds_down ≡ false) }
         ensures less { (posted ≡ true → HasOffer (B.whole board.old) (B.seat board.old).number)
-            → MeasuresTurn result (B.whole board.old) (B.whole board.new) self.old self.new }
+            → Measures result (B.whole board.old) (B.whole board.new) self.old self.new }
         ensures starts { StartsFirst self.new }
-        ensures tries { IfIdleTurn result (TriedAfter posted (B.seat board.old).number
+        ensures tries { IfIdle result (TriedAfter posted (B.seat board.old).number
             (B.whole board.old) (B.whole board.new) (B.view board.old) (B.view board.new)) }
-        ensures works { self.new.winds_down ≡ self.old.winds_down }
+        ensures works { OnOk result (self.new.winds_down ≡ self.old.winds_down) }
         ensures steps { (passes : Bool) → TurnSteps passes (R.state region.old) (R.state region.new)
             (B.view board.old) (B.view board.new)
             (trail_with (B.trail board.old) (B.at board.old))
             (trail_with (B.trail board.new) (B.at board.new)) }
     {
         if self.stopped || self.winds_down {
-            return self.serve_cleaning(region, board, posted);
+            let turn = self.serve_cleaning(region, board, posted);
+            return Ok(turn);
         }
         if self.receive_first(board) {
-            return Turn::Moved;
+            return Ok(Turn::Moved);
         }
-        self.serve_cleaning(region, board, posted)
+        self.serve_sending(alloc, region, board, posted)
     }
 }

@@ -10,7 +10,7 @@ ghost use Rattle.core_worker.specs.Order.{InOrder};
 ghost use Rattle.core_worker.specs.Outbox.{HasSpare};
 ghost use Rattle.core_worker.specs.Left.{Lowers};
 ghost use Rattle.core_worker.specs.Mails.{MailSteps};
-ghost use Rattle.core_worker.specs.Sending.{HasNames, IsReady, KeepsTies, SendsBox, TakesAt};
+ghost use Rattle.core_worker.specs.Sending.{HasNames, IsReady, KeepsTies, SendsBox, TakesAt, WindsOnly};
 ghost use Rattle.core_worker.specs.declared.types.Cleaning.TheVariants.{Nothing};
 ghost use Rattle.core_worker.specs.Supplies.{under_way};
 ghost use Rattle.core_worker.specs.Ties.{Holds, HoldsAt, StandsAt, LeadsNothing};
@@ -92,8 +92,7 @@ impl Worker {
             self.old self.new) }
         ensures steps { IfOk result (λ sent. MailSteps sent (B.view board.old) (B.view board.new)
             (B.trail board.old) (B.trail board.new)) }
-        ensures err { OnErr result ((board.new ≡ board.old)
-            × (self.new.winds_down ≡ true)) }
+        ensures err { OnErr result ((board.new ≡ board.old) × WindsOnly self.old self.new) }
     {
         let places = self.gone_places();
         match send_waiting(alloc, board, &mut self.notices[to as usize], to, places) {
@@ -133,8 +132,7 @@ impl Worker {
             → Lowers (B.whole board.old) (B.whole board.new) self.old self.new) }
         ensures steps { IfOk result (λ sent. MailSteps sent (B.view board.old) (B.view board.new)
             (B.trail board.old) (B.trail board.new)) }
-        ensures err { OnErr result ((board.new ≡ board.old)
-            × (self.new.winds_down ≡ true)) }
+        ensures err { OnErr result ((board.new ≡ board.old) × WindsOnly self.old self.new) }
     {
         self.send_box(alloc, board, to)
     }

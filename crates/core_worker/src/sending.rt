@@ -10,7 +10,7 @@ ghost use Rattle.group_board.specs.Conditions.{MaySend};
 ghost use Rattle.core_worker.specs.KeyTies.{KnowsKey};
 ghost use Rattle.core_worker.specs.Outbox.{mailing, AreToSend, HasSpare, TellsNothing};
 ghost use Rattle.core_worker.specs.Mails.{MailSteps};
-ghost use Rattle.core_worker.specs.Sending.{NoneAwaits, Sends, TakesNames};
+ghost use Rattle.core_worker.specs.Sending.{NoneAwaits, SendsNotices, TakesNames};
 
 use core_index::CoreIndex;
 use fs_errors::Memory;
@@ -111,7 +111,7 @@ pub(crate) fn send_waiting<B: Board>(
     requires may { MaySend (B.seat board.old).place (B.seat board.old).number (B.view board.old)
         to (notices_of waiting.old) }
     ensures seat { B.seat board.new ≡ B.seat board.old }
-    ensures sends { IfOk result (λ sent. Sends sent (B.seat board.old).number to waiting.old
+    ensures sends { IfOk result (λ sent. SendsNotices sent (B.seat board.old).number to waiting.old
         waiting.new (B.whole board.old) (B.whole board.new) (B.view board.old)
         (B.view board.new)) }
     ensures spare { HasSpare waiting.old → HasSpare waiting.new }

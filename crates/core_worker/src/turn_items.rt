@@ -19,6 +19,8 @@ ghost use Rattle.core_worker.specs.Turning.{HasBatch, KeepsTurn, TurnMoves, Did,
 ghost use Rattle.core_worker.specs.IndexRoom.{HasJustRoom};
 ghost use Rattle.core_worker.specs.Left.{HasOffer, Lowers, Measures, MeasuresTurn, StartsFirst};
 ghost use Rattle.core_worker.specs.Mails.{PassesMail};
+ghost use Rattle.core_worker.specs.Readying.{PassesSending};
+ghost use Rattle.core_worker.specs.declared.worker.Worker.{Worker};
 ghost use Rattle.core_worker.specs.Resting.{AtRest, IfIdle, IfIdleTurn, TriedAfter, TriedIf};
 
 use crate::choose_item::{Choice, staged_block};
@@ -129,11 +131,12 @@ impl Worker {
             → KeepsTurn (B.seat board.old) s s (B.whole board.old) (B.whole board.new)
             (B.view board.old) (B.view board.new) self.old self.new }
         ensures turned { (s : State) (refused : Bool) (before : Option Group) (v : View)
-            → PassesPost refused self.old
-            → (tells : Tells posted (B.seat board.old).number self.old v (B.view board.old))
-            → PassesMail (B.seat board.old).place (B.seat board.old).number self.old
+            (w : Worker) → PassesPost refused w
+            → (tells : Tells posted (B.seat board.old).number w v (B.view board.old))
+            → PassesMail (B.seat board.old).place (B.seat board.old).number w tells.0.looked.looks
+            → PassesSending (B.seat board.old).place (B.seat board.old).number w self.old
             tells.0.looked.looks
-            → Turned result s s refused before (B.seat board.old) (at_entry self.old v)
+            → Turned result s s refused before (B.seat board.old) (at_entry w v)
             (at_entry self.new (B.view board.new)) }
         ensures less { (posted ≡ true → HasOffer (B.whole board.old) (B.seat board.old).number)
             → MeasuresTurn result (B.whole board.old) (B.whole board.new) self.old self.new }
@@ -193,8 +196,7 @@ impl Worker {
     {
         match self.choose(gate) {
             Choice::Pass => {
-                let turn = self.serve_mail(region, board, posted);
-                return Ok(turn);
+                return self.serve_mail(alloc, region, board, posted);
             }
             Choice::Drop(slot) => match self.drop_staged(alloc, &*region, slot) {
                 Ok(()) => {
@@ -399,7 +401,7 @@ impl Worker {
 
     /// Makes a turn: it does all of the first item of the order of work that applies, and answers Idle where none did.
     /// Where there is no memory for the answer to a request that waited, that request is in hand, and the worker winds
-    /// down.
+    /// down; so it does where there is none for what it has to tell other members.
     pub fn turn<R: Region, B: Board, G: Gate>(
         &mut self,
         alloc: Global,

@@ -118,6 +118,25 @@ fn once<B: Board, G: Gate>(
     Ok((turn, answer))
 }
 
+/// What a turn answers whose gate refuses, behind the turn that tells another core of a dead name: the first value of
+/// key 21 is dead, and stands in that core's log.
+fn held_back<B: Board>(
+    alloc: Global,
+    region: &mut SteadyRegion,
+    board: &mut B,
+    worker: &mut Worker,
+) -> Result<(Turn, Option<Answer>), Memory>
+    requires { IsSeated (steady_state region.old) (B.seat board.old).place
+        (B.seat board.old).number (B.view board.old) worker.old }
+    ensures { OnOk result (IsSeated (steady_state region.new) (B.seat board.new).place
+        (B.seat board.new).number (B.view board.new) worker.new) }
+{
+    match once(alloc, region, board, worker, &ShutGate)? {
+        (Turn::Moved, None) => once(alloc, region, board, worker, &ShutGate),
+        (_, answer) => Ok((Turn::Moved, answer)),
+    }
+}
+
 /// Makes turns until one answers or is idle. It gives that answer and the number of turns before.
 fn turns<B: Board>(
     alloc: Global,
@@ -171,7 +190,7 @@ fn a_gate_that_refuses(rt: HostRuntime) -> Result<(), Fail> {
         board: &mut board,
         member: 1,
     };
-    let held = once(alloc, &mut region, &mut seat, &mut worker, &ShutGate)?;
+    let held = held_back(alloc, &mut region, &mut seat, &mut worker)?;
     assert_eq!(rt; held.0, Turn::Idle);
     assert!(rt; held.1.is_none());
     assert!(rt; worker.pending());

@@ -1,5 +1,5 @@
 -- A change in doubt keeps its block, whatever a turn does.
-use Rattle.std.proofs.Common.{◌≡◌, ◌≢◌, inl, inr, ℕ, ◌<◌, Bool, true, false, cond, not, ◌&&◌, List, Option, Some, None, Result, Ok, Err, refl, sym, ◌∙◌, ap, subst}
+use Rattle.std.proofs.Common.{⊎_elim, ◌≡◌, ◌≢◌, inl, inr, ℕ, ◌<◌, Bool, true, false, cond, not, ◌&&◌, List, Option, Some, None, Result, Ok, Err, refl, sym, ◌∙◌, ap, subst}
 use Rattle.std.proofs.lemmas.Bool.{eqb-true, eq-eqb}
 use Rattle.std.specs.Prelude.{eqb, MatchOption}
 use Rattle.fs_errors.specs.declared.Memory.{Memory}
@@ -24,7 +24,7 @@ use Rattle.core_worker.specs.OwnPlaces.{place_at}
 use Rattle.core_worker.specs.KeyTies.{IsPlaced, Offers}
 use Rattle.core_worker.specs.Ties.{Holds}
 use Rattle.core_worker.specs.Turning.{Did, TurnedTo, at_entry}
-use Rattle.core_worker.specs.Turning.Did.{goes_round, withdraws, writes, marks, fails, finishes, posts, loses_block, drops, receives, locks, dooms, clears, loses_clearing}
+use Rattle.core_worker.specs.Turning.Did.{goes_round, withdraws, writes, marks, fails, finishes, posts, loses_block, drops, receives, sends, winds, locks, dooms, copies, loses_copies, clears, loses_clearing}
 use Rattle.core_worker.specs.Turns.{PersistsOrLoses}
 use Rattle.thread_engine.specs.WorkLaws.{in_doubt}
 
@@ -137,7 +137,11 @@ module _ (p : Place) (m : ℕ) (s t : State) (refused : Bool) (before : Option G
   did_keeps (loses_block L) = ap (λ (z : View). z.blocks q) L.view ∙ ap (λ (z : View). z.blocks q) L.before.looked.view
   did_keeps (drops quiet all D) = ap (λ (z : View). z.blocks q) D.view ∙ ap (λ (z : View). z.blocks q) D.before.looked.view
   did_keeps (receives quiet R) = ap (λ (z : View). z.blocks q) R.hears.view.4 ∙ ap (λ (z : View). z.blocks q) R.before.looked.view
+  did_keeps (sends quiet S) = ap (λ (z : View). z.blocks q) S.view ∙ ap (λ (z : View). z.blocks q) S.before.looked.view
+  did_keeps (winds quiet W) = ap (λ (z : View). z.blocks q) W.view ∙ ap (λ (z : View). z.blocks q) W.before.looked.view
   did_keeps (dooms quiet D) = ap (λ (z : View). z.blocks q) D.dooms.view ∙ ap (λ (z : View). z.blocks q) D.before.looked.view
+  did_keeps (copies C) = ⊎_elim (λ K. ap (λ (z : View). z.blocks q) K.1) (λ L. ap (λ (z : View). z.blocks q) L.1) C.copies ∙ ap (λ (z : View). z.blocks q) C.before.looked.view
+  did_keeps (loses_copies L) = ap (λ (z : View). z.blocks q) L.view ∙ ap (λ (z : View). z.blocks q) L.before.looked.view
   did_keeps (clears C) = ap (λ (z : View). z.blocks q) C.ends.tidied.4 ∙ ap (λ (z : View). z.blocks q) C.before.looked.view
   did_keeps (loses_clearing L) = ap (λ (z : View). z.blocks q) L.view ∙ ap (λ (z : View). z.blocks q) L.before.looked.view
   did_keeps (locks quiet L) = ap (λ (z : View). z.blocks q) L.view ∙ ap (λ (z : View). z.blocks q) L.before.looked.view

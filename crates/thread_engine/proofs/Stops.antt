@@ -1,5 +1,5 @@
 -- Why a core has stopped: a call of its piece failed, or an own change is in doubt and it has nothing in flight.
-use Rattle.std.proofs.Common.{◌≡◌, ◌≢◌, ◌⊎◌, inl, inr, ℕ, ◌≤◌, ◌<◌, Bool, true, false, cond, List, [], ◌∷◌, Option, Some, None, Result, Ok, Err, refl, sym, ◌∙◌, ap, subst, arith}
+use Rattle.std.proofs.Common.{⊎_elim, ◌≡◌, ◌≢◌, ◌⊎◌, inl, inr, ℕ, ◌≤◌, ◌<◌, Bool, true, false, cond, List, [], ◌∷◌, Option, Some, None, Result, Ok, Err, refl, sym, ◌∙◌, ap, subst, arith}
 use Rattle.std.specs.Prelude.{MatchOption}
 use Rattle.std.proofs.lemmas.Bool.{cases_lt}
 use Rattle.fs_errors.specs.declared.Memory.{Memory}
@@ -22,7 +22,8 @@ use Rattle.core_worker.specs.declared.worker.Worker.{Worker}
 use Rattle.core_worker.specs.Order.{InOrder, MayLeadStopped}
 use Rattle.core_worker.specs.Ties.{Holds, LeadsAt, LeadsNothing}
 use Rattle.core_worker.specs.Turning.{Did, TurnedTo, at_entry}
-use Rattle.core_worker.specs.Turning.Did.{goes_round, withdraws, writes, marks, fails, finishes, posts, loses_block, drops, receives, locks, dooms, clears, loses_clearing}
+use Rattle.core_worker.proofs.Clients.{passes_is}
+use Rattle.core_worker.specs.Turning.Did.{goes_round, withdraws, writes, marks, fails, finishes, posts, loses_block, drops, receives, sends, winds, locks, dooms, copies, loses_copies, clears, loses_clearing}
 use Rattle.core_worker.specs.Turns.{PersistsOrLoses}
 use Rattle.thread_engine.specs.WorkStates.{WorkState, IsAtWork, Accepts, MakesTurn, Move, Leads, Works, HasEnded}
 use Rattle.thread_engine.specs.WorkStates.Move.{accepts, turns, winds_down, joins, hands_over}
@@ -102,9 +103,13 @@ module _ (p : Place) (m : ℕ) (v u : View) (w x : Worker) (H : Holds p m v w) (
     stopped_stays stop (loses_block L) = absurd (clash w.stopped stop L.runs.0)
     stopped_stays stop (drops quiet all D) = stays_as _ (D.view ∙ D.before.looked.view) refl refl
     stopped_stays stop (receives quiet R) = absurd (clash w.stopped stop R.runs.0)
-    stopped_stays stop (dooms quiet D) = absurd (clash w.stopped stop D.dooms.runs)
-    stopped_stays stop (clears C) = absurd (clash w.stopped stop C.ends.runs)
-    stopped_stays stop (loses_clearing L) = absurd (clash w.stopped stop L.runs)
+    stopped_stays stop (sends quiet S) = absurd (clash w.stopped stop S.runs.0)
+    stopped_stays stop (winds quiet W) = absurd (clash w.stopped stop W.runs.0)
+    stopped_stays stop (dooms quiet D) = absurd (clash w.stopped stop (sym (ap (λ (z : Worker). z.stopped) (passes_is seat.place seat.number w D.ready D.before.looked.looks D.sending)) ∙ D.dooms.runs))
+    stopped_stays stop (copies C) = absurd (clash w.stopped stop (sym (ap (λ (z : Worker). z.stopped) (passes_is seat.place seat.number w C.ready C.before.looked.looks C.sending)) ∙ C.runs))
+    stopped_stays stop (loses_copies L) = absurd (clash w.stopped stop (sym (ap (λ (z : Worker). z.stopped) (passes_is seat.place seat.number w L.ready L.before.looked.looks L.sending)) ∙ L.runs))
+    stopped_stays stop (clears C) = absurd (clash w.stopped stop (sym (ap (λ (z : Worker). z.stopped) (passes_is seat.place seat.number w C.ready C.before.looked.looks C.sending)) ∙ C.ends.runs))
+    stopped_stays stop (loses_clearing L) = absurd (clash w.stopped stop (sym (ap (λ (z : Worker). z.stopped) (passes_is seat.place seat.number w L.ready L.before.looked.looks L.sending)) ∙ L.runs))
     stopped_stays stop (locks quiet L) = (
       λ k d is. ap (λ (z : View). z.pending k) L.view ∙ ap (λ (z : View). z.pending k) L.before.looked.view ∙ is,
       ap (λ (z : View). z.flying) L.view ∙ ap (λ (z : View). z.flying) L.before.looked.view,
@@ -138,10 +143,14 @@ module _ (p : Place) (m : ℕ) (v u : View) (w x : Worker) (H : Holds p m v w) (
     now_rests runs stop D (loses_block L) = absurd (no_doubt runs (doubted_in _ (L.view ∙ L.before.looked.view) refl D))
     now_rests runs stop D (drops quiet all E) = absurd (clash w.stopped E.stopped runs)
     now_rests runs stop D (receives quiet R) = absurd (still (ap (λ (z : Worker). z.stopped) R.hears.same) runs stop)
-    now_rests runs stop D (dooms quiet E) = absurd (still (ap (λ (z : Worker). z.stopped) E.dooms.same) runs stop)
-    now_rests runs stop D (clears C) = absurd (still (ap (λ (z : Worker). z.stopped) C.ends.same) runs stop)
+    now_rests runs stop D (sends quiet S) = absurd (still (ap (λ (z : Worker). z.stopped) S.box.same ∙ ap (λ (z : Worker). z.stopped) S.readies.takes.same) runs stop)
+    now_rests runs stop D (winds quiet W) = absurd (still (ap (λ (z : Worker). z.stopped) W.takes.same) runs stop)
+    now_rests runs stop D (dooms quiet E) = absurd (still (ap (λ (z : Worker). z.stopped) E.dooms.same ∙ ap (λ (z : Worker). z.stopped) (passes_is seat.place seat.number w E.ready E.before.looked.looks E.sending)) runs stop)
+    now_rests runs stop D (copies C) = absurd (still (⊎_elim (λ K. ap (λ (z : Worker). z.stopped) K.0.same) (λ L. ap (λ (z : Worker). z.stopped) L.0.same) C.copies ∙ ap (λ (z : Worker). z.stopped) (passes_is seat.place seat.number w C.ready C.before.looked.looks C.sending)) runs stop)
+    now_rests runs stop D (loses_copies L) = absurd (no_doubt runs (doubted_in _ (L.view ∙ L.before.looked.view) refl D))
+    now_rests runs stop D (clears C) = absurd (still (ap (λ (z : Worker). z.stopped) C.ends.same ∙ ap (λ (z : Worker). z.stopped) (passes_is seat.place seat.number w C.ready C.before.looked.looks C.sending)) runs stop)
     now_rests runs stop D (loses_clearing L) = absurd (no_doubt runs (doubted_in _ (L.view ∙ L.before.looked.view) refl D))
-    now_rests runs stop D (locks quiet L) = absurd (still (ap (λ (z : Worker). z.stopped) L.same) runs stop)
+    now_rests runs stop D (locks quiet L) = absurd (still (ap (λ (z : Worker). z.stopped) L.same ∙ ap (λ (z : Worker). z.stopped) (passes_is seat.place seat.number w L.ready L.before.looked.looks L.sending)) runs stop)
 
     turn_stays : (r : Result Turn Memory) → w.stopped ≡ true → TurnedTo r s t refused before seat (at_entry w v) (at_entry x u) → Stays
     turn_stays (Ok Moved) stop T = stopped_stays stop T
@@ -157,7 +166,7 @@ module _ (p : Place) (m : ℕ) (v u : View) (w x : Worker) (H : Holds p m v w) (
     turn_rests : (r : Result Turn Memory) → w.stopped ≡ false → x.stopped ≡ true → HasDoubt p m u → TurnedTo r s t refused before seat (at_entry w v) (at_entry x u) → u.flying ≡ []
     turn_rests (Ok Moved) runs stop D T = now_rests runs stop D T
     turn_rests (Err e) runs stop D T = now_rests runs stop D T
-    turn_rests (Ok Idle) runs stop D T = absurd (still (ap (λ (z : Worker). z.stopped) T.1.same) runs stop)
+    turn_rests (Ok Idle) runs stop D T = absurd (still (ap (λ (z : Worker). z.stopped) T.1.same ∙ ap (λ (z : Worker). z.stopped) (passes_is seat.place seat.number w T.1.ready T.1.before.looked.looks T.1.sending)) runs stop)
 
 module _ (seat : SeatAt) (refused : Bool) where
   -- a core that has stopped for no call of its own

@@ -1,5 +1,5 @@
 -- What a core took only grows, and who is no member posts nothing.
-use Rattle.std.proofs.Common.{◌≡◌, inl, inr, ℕ, ◌+◌, ◌≤◌, Bool, true, false, cond, List, [], ◌∷◌, ◌++◌, Option, Some, None, Result, Ok, Err, sym, ◌∙◌, ap, subst, arith}
+use Rattle.std.proofs.Common.{⊎_elim, ◌≡◌, inl, inr, ℕ, ◌+◌, ◌≤◌, Bool, true, false, cond, List, [], ◌∷◌, ◌++◌, Option, Some, None, Result, Ok, Err, sym, ◌∙◌, ap, subst, arith}
 use Rattle.std.specs.Prelude.{MatchOption}
 use Rattle.std.proofs.lemmas.Bool.{ne_eqb}
 use Rattle.std.proofs.lemmas.List.Sums.{sum_by-append}
@@ -19,7 +19,7 @@ use Rattle.core_worker.specs.declared.types.Turn.{Turn}
 use Rattle.core_worker.specs.declared.types.Turn.TheVariants.{Moved, Idle}
 use Rattle.core_worker.specs.declared.worker.Worker.{Worker}
 use Rattle.core_worker.specs.Turning.{Did, TurnedTo, at_entry}
-use Rattle.core_worker.specs.Turning.Did.{goes_round, withdraws, writes, marks, fails, finishes, posts, loses_block, drops, receives, locks, dooms, clears, loses_clearing}
+use Rattle.core_worker.specs.Turning.Did.{goes_round, withdraws, writes, marks, fails, finishes, posts, loses_block, drops, receives, sends, winds, locks, dooms, copies, loses_copies, clears, loses_clearing}
 use Rattle.core_worker.specs.Turns.{PersistsOrLoses}
 
 module _ (s t : State) (refused : Bool) (before : Option Group) (seat : SeatAt) (v u : View) (w x : Worker) where
@@ -51,7 +51,11 @@ module _ (s t : State) (refused : Bool) (before : Option Group) (seat : SeatAt) 
   did_grows (loses_block L) = same L.mid L.view (ap (λ (z : View). lines_in z.took) L.before.looked.view)
   did_grows (drops quiet all D) = same D.mid D.view (ap (λ (z : View). lines_in z.took) D.before.looked.view)
   did_grows (receives quiet R) = let at = ap (λ (z : View). lines_in z.took) R.hears.view.4 in let was = ap (λ (z : View). lines_in z.took) R.before.looked.view in omega (arith, at, was)
+  did_grows (sends quiet S) = let at = ap (λ (z : View). lines_in z.took) S.view in let was = ap (λ (z : View). lines_in z.took) S.before.looked.view in omega (arith, at, was)
+  did_grows (winds quiet W) = same W.mid W.view (ap (λ (z : View). lines_in z.took) W.before.looked.view)
   did_grows (dooms quiet D) = let at = ap (λ (z : View). lines_in z.took) D.dooms.view in let was = ap (λ (z : View). lines_in z.took) D.before.looked.view in omega (arith, at, was)
+  did_grows (copies C) = let at = ⊎_elim (λ K. ap (λ (z : View). lines_in z.took) K.1) (λ L. ap (λ (z : View). lines_in z.took) L.1) C.copies in let was = ap (λ (z : View). lines_in z.took) C.before.looked.view in omega (arith, at, was)
+  did_grows (loses_copies L) = same L.mid L.view (ap (λ (z : View). lines_in z.took) L.before.looked.view)
   did_grows (clears C) = let at = ap (λ (z : View). lines_in z.took) C.ends.tidied.4 in let was = ap (λ (z : View). lines_in z.took) C.before.looked.view in omega (arith, at, was)
   did_grows (loses_clearing L) = same L.mid L.view (ap (λ (z : View). lines_in z.took) L.before.looked.view)
   did_grows (locks quiet L) = let at = ap (λ (z : View). lines_in z.took) L.view in let was = ap (λ (z : View). lines_in z.took) L.before.looked.view in omega (arith, at, was)

@@ -82,7 +82,8 @@ impl<B: Board, P: Region> CoreJob<B, P> {
         ensures queue { self.new.queue ≡ self.old.queue }
         ensures turns { (takes self.old.worker ≡ true → self.old.queue.items ≡ [])
             → MakesTurn (B.seat self.old.seat) (G.may_refuse gate.now)
-            (stands_at (sight_by B.view B.trail B.at) P.state self.old) (stands_at (sight_by B.view B.trail B.at) P.state self.new) }
+            (stands_at (sight_by B.view B.trail B.at) P.state self.old)
+            (stands_at (sight_by B.view B.trail B.at) P.state self.new) }
     {
         self.worker
             .turn(alloc, &mut self.piece, &mut self.seat, gate)
@@ -96,7 +97,8 @@ impl<B: Board, P: Region> CoreJob<B, P> {
         ensures work { IsAtWork (B.seat self.old.seat)
             (stands_at (sight_by B.view B.trail B.at) P.state self.new) }
         ensures moves { OwnMove (B.seat self.old.seat) (G.may_refuse gate.now)
-            (stands_at (sight_by B.view B.trail B.at) P.state self.old) (stands_at (sight_by B.view B.trail B.at) P.state self.new) }
+            (stands_at (sight_by B.view B.trail B.at) P.state self.old)
+            (stands_at (sight_by B.view B.trail B.at) P.state self.new) }
     {
         if !is_open(&self.worker) {
             return self.turn(alloc, gate);
@@ -117,7 +119,8 @@ impl<B: Board, P: Region> CoreJob<B, P> {
         ensures work { IsAtWork (B.seat self.old.seat)
             (stands_at (sight_by B.view B.trail B.at) P.state self.new) }
         ensures works { (refused : Bool) → WorksOn (B.seat self.old.seat) refused []
-            (stands_at (sight_by B.view B.trail B.at) P.state self.old) (stands_at (sight_by B.view B.trail B.at) P.state self.new) }
+            (stands_at (sight_by B.view B.trail B.at) P.state self.old)
+            (stands_at (sight_by B.view B.trail B.at) P.state self.new) }
     {
         self.worker.wind_down();
     }
@@ -130,7 +133,8 @@ impl<B: Board, P: Region> CoreJob<B, P> {
         ensures work { IsAtWork (B.seat self.old.seat)
             (stands_at (sight_by B.view B.trail B.at) P.state self.new) }
         ensures works { (refused : Bool) → WorksOn (B.seat self.old.seat) refused []
-            (stands_at (sight_by B.view B.trail B.at) P.state self.old) (stands_at (sight_by B.view B.trail B.at) P.state self.new) }
+            (stands_at (sight_by B.view B.trail B.at) P.state self.old)
+            (stands_at (sight_by B.view B.trail B.at) P.state self.new) }
     {
         if !self.worker.winding_down() && short.load(Ordering::SeqCst) {
             self.wind_down();
@@ -145,7 +149,8 @@ impl<B: Board, P: Region> CoreJob<B, P> {
         ensures work { IsAtWork (B.seat self.old.seat)
             (stands_at (sight_by B.view B.trail B.at) P.state self.new) }
         ensures works { WorksOn (B.seat self.old.seat) (G.may_refuse gate.now) []
-            (stands_at (sight_by B.view B.trail B.at) P.state self.old) (stands_at (sight_by B.view B.trail B.at) P.state self.new) }
+            (stands_at (sight_by B.view B.trail B.at) P.state self.old)
+            (stands_at (sight_by B.view B.trail B.at) P.state self.new) }
     {
         match self.step(alloc, gate) {
             Ok(Turn::Moved) => {}

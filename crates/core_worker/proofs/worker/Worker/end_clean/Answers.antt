@@ -115,7 +115,7 @@ returns-in-Ok-clause-keeps g c =
     (runs.Kind.Retire y.doomed ∷ [], one_step before after seat.number (runs.Kind.Retire y.doomed) u c.in-Ok.ensures.made)
 
 pub returns-in-Ok-clause-did : goal.returns-in-Ok-clause-did
-returns-in-Ok-clause-did g c refused before v passed passes mail =
+returns-in-Ok-clause-did g c refused before v entry passed passes mail sending =
     let seat = g.B.Board.seat c.args.board.now in
     let s = g.R.Region.state c.args.region.now in
     let mid = g.B.Board.view c.args.board.now in
@@ -127,6 +127,8 @@ returns-in-Ok-clause-did g c refused before v passed passes mail =
       before = passes;
       post = passed;
       mail = mail;
+      ready = w;
+      sending = sending;
       clearing = c.in-Some.clearing;
       is = sym c.in-Some.ensures.value;
       ends = ended.ends_in s seat.place seat.number mid w c.requires.holds c.requires.stands c.requires.order c.requires.dooms c.in-Some.clearing (sym c.in-Some.ensures.value) u x c.in-Ok.ensures.tidied (subst (λ (ns : List EntryName). EndsCleaning w.core c.in-Some.clearing ns w.log c.end_cleaning.new.log w.allocator c.end_cleaning.new.allocator w.places.items c.end_cleaning.new.places.items w.index c.end_cleaning.new.index w.standing c.end_cleaning.new.standing) c.as_slice.ensures.value c.in-Ok.ensures.ended) (subst (λ (ns : List EntryName). FilesGone seat.place seat.number ns w.notices.items c.file_gone.new.boxes.items) (c.as_slice-in-Ok.ensures.value ∙ c.in-Ok.ensures.gone) (c.file_gone.ensures.files seat.place seat.number c.requires.holds.layout c.requires.holds.core c.requires.holds.member)) (λ i. record w { log = c.end_cleaning.new.log; allocator = c.end_cleaning.new.allocator; places = c.end_cleaning.new.places; index = c.end_cleaning.new.index; standing = c.end_cleaning.new.standing; notices = c.file_gone.new.boxes; cleaning = Nothing; clearing = c.replace.ensures.after i });
@@ -174,7 +176,7 @@ returns-in-Err-clause-keeps g c =
     c.end_cleaning.ensures.moments c.end_cleaning.ensures.outside c.in-Err.ensures.cause
 
 pub returns-in-Err-clause-did : goal.returns-in-Err-clause-did
-returns-in-Err-clause-did g c refused before v passed passes mail =
+returns-in-Err-clause-did g c refused before v entry passed passes mail sending =
     let seat = g.B.Board.seat c.args.board.now in
     let w = c.args.self.now in
     let k = c.in-Err.ensures.kept in
@@ -183,6 +185,8 @@ returns-in-Err-clause-did g c refused before v passed passes mail =
       before = passes;
       post = passed;
       mail = mail;
+      ready = w;
+      sending = sending;
       runs = ended.runs (g.R.Region.state c.args.region.now) seat.place seat.number (g.B.Board.view c.args.board.now) w c.requires.holds c.requires.stands c.requires.order c.requires.dooms;
       dooms = c.requires.dooms;
       view = k.0;

@@ -17,7 +17,7 @@ pub returns-then-not-posted-clause-keeps : goal.returns-then-not-posted-clause-k
 returns-then-not-posted-clause-keeps g c s S = keeps_same (g.B.Board.seat c.args.board.now) s (g.B.Board.whole c.args.board.now) (g.B.Board.view c.args.board.now) c.args.self.now c.requires.holds S c.requires.order (g.met.B.Board.agrees c.args.board.now)
 
 pub returns-then-not-posted-clause-turned : goal.returns-then-not-posted-clause-turned
-returns-then-not-posted-clause-turned g c s refused before v post tells mail = (
+returns-then-not-posted-clause-turned g c s refused before v w post tells mail sending = (
   refl,
   record {
     mid = g.B.Board.view c.args.board.now;
@@ -25,7 +25,9 @@ returns-then-not-posted-clause-turned g c s refused before v post tells mail = (
     post = post;
     clean = c.requires.clean;
     mail = mail;
-    lock = inl (subst (λ (b : Bool). MatchBool b (FindsPosted c.args.self.now.places.items tells.0.looked.found 8) (FindsPosted c.args.self.now.places.items tells.0.looked.found 8 → ⊥)) c.if-not-posted.true tells.1, refl);
+    ready = c.args.self.now;
+    sending = sending;
+    lock = inl (subst (λ (b : Bool). MatchBool b (FindsPosted w.places.items tells.0.looked.found 8) (FindsPosted w.places.items tells.0.looked.found 8 → ⊥)) c.if-not-posted.true tells.1, refl);
     free = c.requires.nothing;
     same = refl;
   },
@@ -43,7 +45,7 @@ returns-then-try_lead-clause-keeps g c s S =
     (lock_filled c.try_lead.result seat (g.B.Board.view c.args.board.now) (g.B.Board.view c.try_lead.new.board) c.args.self.now c.try_lead.new.self e.holds e.tried)
 
 pub returns-then-try_lead-clause-turned : goal.returns-then-try_lead-clause-turned
-returns-then-try_lead-clause-turned g c s refused before v post tells mail =
+returns-then-try_lead-clause-turned g c s refused before v w post tells mail sending =
     let seat = g.B.Board.seat c.args.board.now in
     let had = subst (λ (b : Bool). TriesLock b seat.number (g.B.Board.view c.args.board.now) (g.B.Board.view c.try_lead.new.board) c.args.self.now c.try_lead.new.self) c.if-try_lead.true c.try_lead.ensures.tried in
     locks refl (record {
@@ -52,7 +54,9 @@ returns-then-try_lead-clause-turned g c s refused before v post tells mail =
       post = post;
       clean = c.requires.clean;
       mail = mail;
-      posted = subst (λ (b : Bool). MatchBool b (FindsPosted c.args.self.now.places.items tells.0.looked.found 8) (FindsPosted c.args.self.now.places.items tells.0.looked.found 8 → ⊥)) c.if-not-posted.false tells.1;
+      ready = c.args.self.now;
+      sending = sending;
+      posted = subst (λ (b : Bool). MatchBool b (FindsPosted w.places.items tells.0.looked.found 8) (FindsPosted w.places.items tells.0.looked.found 8 → ⊥)) c.if-not-posted.false tells.1;
       view = had.0;
       leads_now = had.1;
       same = had.2;
@@ -70,7 +74,7 @@ returns-clause-keeps g c s S =
     (lock_filled c.try_lead.result seat (g.B.Board.view c.args.board.now) (g.B.Board.view c.try_lead.new.board) c.args.self.now c.try_lead.new.self e.holds e.tried)
 
 pub returns-clause-turned : goal.returns-clause-turned
-returns-clause-turned g c s refused before v post tells mail =
+returns-clause-turned g c s refused before v w post tells mail sending =
     let seat = g.B.Board.seat c.args.board.now in
     let had = subst (λ (b : Bool). TriesLock b seat.number (g.B.Board.view c.args.board.now) (g.B.Board.view c.try_lead.new.board) c.args.self.now c.try_lead.new.self) c.if-try_lead.false c.try_lead.ensures.tried in (
       refl,
@@ -80,7 +84,9 @@ returns-clause-turned g c s refused before v post tells mail =
         post = post;
         clean = c.requires.clean;
         mail = mail;
-        lock = inr (subst (λ (b : Bool). MatchBool b (FindsPosted c.args.self.now.places.items tells.0.looked.found 8) (FindsPosted c.args.self.now.places.items tells.0.looked.found 8 → ⊥)) c.if-not-posted.false tells.1, had.0);
+        ready = c.args.self.now;
+        sending = sending;
+        lock = inr (subst (λ (b : Bool). MatchBool b (FindsPosted w.places.items tells.0.looked.found 8) (FindsPosted w.places.items tells.0.looked.found 8 → ⊥)) c.if-not-posted.false tells.1, had.0);
         free = had.1;
         same = had.2;
       },

@@ -5,37 +5,44 @@ use Rattle.group_laws.proofs.Clients.{In-append_right}
 use Rattle.group_board.specs.Seats.{SeatAt}
 use Rattle.batch_leader.proofs.Clients.{turn_of_one, turn_after_loads}
 use Rattle.core_worker.specs.declared.worker.Worker.{Worker}
-use Rattle.core_worker.specs.Left.{HasOffer, MeasuresTurn}
-use Rattle.core_worker.specs.Mails.{PassesMail}
+use Rattle.core_worker.specs.Left.{HasOffer, Measures}
+use Rattle.core_worker.specs.Mails.{NoneTold}
 use Rattle.core_worker.specs.Resting.{TriedIf, TriedAfter}
 use Rattle.core_worker.specs.Ties.{HoldsAt, StandsAt}
-use Rattle.core_worker.specs.Turning.{KeepsTurn, Tells, Turned, at_entry}
+use Rattle.core_worker.specs.Turning.{KeepsTurn, Tells, TurnedTo, at_entry}
 use Rattle.core_worker.specs.Turning.Did.{receives}
 use Rattle.core_worker.specs.Turns.{InOrderAt, PassesPost}
 use Rattle.core_worker.proofs.HeardMoves.{keeps_heard, heard_low}
 use Rattle.core_worker.proofs.LeftLocks.{lowers_looked}
 use Rattle.core_worker.proofs.LeftMails.{receives_lower}
-use Rattle.core_worker.proofs.MailTurns.{passes_more, both_steps, measures_passed, if_idle, tried_at_once}
+use Rattle.core_worker.proofs.MailTurns.{passes_more, both_steps, if_idle, tried_at_once}
+use Rattle.core_worker.proofs.SentTurns.{if_idle_to, measures_by, tried_later}
 use Rattle.core_worker.proofs.TurnLaws.{keeps_looked, looked_holds, looked_stands, looked_order}
 use Rattle.core_worker.proofs.worker.Worker.serve_mail.Goals as goal
 use Rattle.core_worker.proofs.worker.Worker.serve_mail.Goals.{then-self-via-then-self, then-self-via-else-self+then-self-2}
 
 pub returns-then-self-clause-turned : goal.returns-then-self-clause-turned
-returns-then-self-clause-turned g c refused before v post tells = c.serve_cleaning.ensures.turned refused before v post tells (elim c.then-self.branch [
+returns-then-self-clause-turned g c refused before v post tells = c.serve_cleaning-turn.ensures.turned refused before v c.args.self.now post tells (elim c.then-self.branch [
   | then-self-via-then-self w ↦ inl w.if-self.true
   | then-self-via-else-self+then-self-2 w ↦ inr (inl w.if-self-2.true)
-])
+]) (inl (
+  refl,
+  elim c.then-self.branch [
+    | then-self-via-then-self w ↦ inl w.if-self.true
+    | then-self-via-else-self+then-self-2 w ↦ inr w.if-self-2.true
+  ],
+))
 
 pub returns-then-self-clause-tries : goal.returns-then-self-clause-tries
 returns-then-self-clause-tries g c =
     let seat = g.B.Board.seat c.args.board.now in
     let w0 = g.B.Board.whole c.args.board.now in
-    let w2 = g.B.Board.whole c.serve_cleaning.new.board in
+    let w2 = g.B.Board.whole c.serve_cleaning-turn.new.board in
     let v0 = g.B.Board.view c.args.board.now in
-    let v2 = g.B.Board.view c.serve_cleaning.new.board in
-    if_idle c.serve_cleaning.result (TriedIf c.args.posted seat.number w0 w2 v2) (TriedAfter c.args.posted seat.number w0 w2 v0 v2)
+    let v2 = g.B.Board.view c.serve_cleaning-turn.new.board in
+    if_idle c.serve_cleaning-turn.result (TriedIf c.args.posted seat.number w0 w2 v2) (TriedAfter c.args.posted seat.number w0 w2 v0 v2)
     (λ t. tried_at_once c.args.posted seat.number w0 w2 seat.place v0 v2 (g.met.B.Board.agrees c.args.board.now) t)
-    c.serve_cleaning.ensures.tries
+    c.serve_cleaning-turn.ensures.tries
 
 pub returns-then-receive_first-clause-keeps : goal.returns-then-receive_first-clause-keeps
 returns-then-receive_first-clause-keeps g c =
@@ -84,8 +91,8 @@ returns-then-receive_first-clause-less g c offer =
 pub returns-then-receive_first-clause-steps : goal.returns-then-receive_first-clause-steps
 returns-then-receive_first-clause-steps g c passes = turn_of_one passes (g.R.Region.state c.args.region.now) _ _ _ _ _ _ c.if-receive_first.ensures.steps
 
-pub serve_cleaning-requires-2-clause-holds : goal.serve_cleaning-requires-2-clause-holds
-serve_cleaning-requires-2-clause-holds g c =
+pub serve_sending-requires-clause-holds : goal.serve_sending-requires-clause-holds
+serve_sending-requires-clause-holds g c =
     let seat = g.B.Board.seat c.args.board.now in
     let v0 = g.B.Board.view c.args.board.now in
     let v1 = g.B.Board.view c.receive_first.new.board in
@@ -94,8 +101,8 @@ serve_cleaning-requires-2-clause-holds g c =
     (subst (λ (x : SeatAt). HoldsAt x v1 c.args.self.now) (sym c.receive_first.ensures.seat)
     (looked_holds seat v0 v1 c.args.self.now (v0.looked ++ R.1.looks) R.1.view c.requires.nothing c.requires.holds))
 
-pub serve_cleaning-requires-2-clause-stands : goal.serve_cleaning-requires-2-clause-stands
-serve_cleaning-requires-2-clause-stands g c =
+pub serve_sending-requires-clause-stands : goal.serve_sending-requires-clause-stands
+serve_sending-requires-clause-stands g c =
     let seat = g.B.Board.seat c.args.board.now in
     let s = g.R.Region.state c.args.region.now in
     let v0 = g.B.Board.view c.args.board.now in
@@ -105,8 +112,8 @@ serve_cleaning-requires-2-clause-stands g c =
     (subst (λ (x : SeatAt). StandsAt s x v1 c.args.self.now) (sym c.receive_first.ensures.seat)
     (looked_stands s seat v0 v1 c.args.self.now (v0.looked ++ R.1.looks) R.1.view c.requires.stands))
 
-pub serve_cleaning-requires-2-clause-order : goal.serve_cleaning-requires-2-clause-order
-serve_cleaning-requires-2-clause-order g c =
+pub serve_sending-requires-clause-order : goal.serve_sending-requires-clause-order
+serve_sending-requires-clause-order g c =
     let seat = g.B.Board.seat c.args.board.now in
     let v0 = g.B.Board.view c.args.board.now in
     let v1 = g.B.Board.view c.receive_first.new.board in
@@ -115,55 +122,69 @@ serve_cleaning-requires-2-clause-order g c =
     (subst (λ (x : SeatAt). InOrderAt x v1 c.args.self.now) (sym c.receive_first.ensures.seat)
     (looked_order seat v0 v1 c.args.self.now (v0.looked ++ R.1.looks) R.1.view c.requires.order))
 
-pub serve_cleaning-requires-2-clause-nothing : goal.serve_cleaning-requires-2-clause-nothing
-serve_cleaning-requires-2-clause-nothing g c = (c.requires.nothing.0, ap (λ (y : Worker). y.leading) c.if-receive_first.ensures.received.0 ∙ c.requires.nothing.1)
+pub serve_sending-requires-clause-nothing : goal.serve_sending-requires-clause-nothing
+serve_sending-requires-clause-nothing g c = (c.requires.nothing.0, ap (λ (y : Worker). y.leading) c.if-receive_first.ensures.received.0 ∙ c.requires.nothing.1)
 
 pub returns-clause-keeps : goal.returns-clause-keeps
 returns-clause-keeps g c =
     let seat = g.B.Board.seat c.args.board.now in
     let s = g.R.Region.state c.args.region.now in
-    let t = g.R.Region.state c.serve_cleaning-2.new.region in
+    let t = g.R.Region.state c.serve_sending.new.region in
     let w0 = g.B.Board.whole c.args.board.now in
     let w1 = g.B.Board.whole c.receive_first.new.board in
-    let w2 = g.B.Board.whole c.serve_cleaning-2.new.board in
+    let w2 = g.B.Board.whole c.serve_sending.new.board in
     let v0 = g.B.Board.view c.args.board.now in
     let v1 = g.B.Board.view c.receive_first.new.board in
-    let v2 = g.B.Board.view c.serve_cleaning-2.new.board in
+    let v2 = g.B.Board.view c.serve_sending.new.board in
     let old = c.args.self.now in
-    let new = c.serve_cleaning-2.new.self in
+    let new = c.serve_sending.new.self in
     let R = c.if-receive_first.ensures.received in
     let xs = v0.looked ++ R.1.looks in
     keeps_looked seat s t w0 w1 w2 v0 v1 v2 old new xs R.1.view (R.1.loads, R.1.made)
     (subst (λ (y : Worker). KeepsTurn seat s t w1 w2 v1 v2 y new) R.0
-    (subst (λ (x : SeatAt). KeepsTurn x s t w1 w2 v1 v2 c.receive_first.new.self new) c.receive_first.ensures.seat c.serve_cleaning-2.ensures.keeps))
+    (subst (λ (x : SeatAt). KeepsTurn x s t w1 w2 v1 v2 c.receive_first.new.self new) c.receive_first.ensures.seat c.serve_sending.ensures.keeps))
 
 pub returns-clause-turned : goal.returns-clause-turned
 returns-clause-turned g c refused before v post tells =
     let s = g.R.Region.state c.args.region.now in
-    let t = g.R.Region.state c.serve_cleaning-2.new.region in
+    let t = g.R.Region.state c.serve_sending.new.region in
     let seat = g.B.Board.seat c.args.board.now in
     let v0 = g.B.Board.view c.args.board.now in
     let v1 = g.B.Board.view c.receive_first.new.board in
-    let v2 = g.B.Board.view c.serve_cleaning-2.new.board in
+    let v2 = g.B.Board.view c.serve_sending.new.board in
     let old = c.args.self.now in
     let R = c.if-receive_first.ensures.received in
-    let turned = subst (λ (y : Worker). PassesPost refused y → (x : Tells c.args.posted seat.number y v v1) → PassesMail seat.place seat.number y x.0.looked.looks → Turned c.serve_cleaning-2.result s t refused before seat (at_entry y v) (at_entry c.serve_cleaning-2.new.self v2)) R.0
-    (subst (λ (x : SeatAt). PassesPost refused c.receive_first.new.self → (y : Tells c.args.posted x.number c.receive_first.new.self v v1) → PassesMail x.place x.number c.receive_first.new.self y.0.looked.looks → Turned c.serve_cleaning-2.result s t refused before x (at_entry c.receive_first.new.self v) (at_entry c.serve_cleaning-2.new.self v2)) c.receive_first.ensures.seat
-    (c.serve_cleaning-2.ensures.turned refused before v)) in
+    let turned = subst (λ (y : Worker). PassesPost refused y → (x : Tells c.args.posted seat.number y v v1) → NoneTold seat.place seat.number x.0.looked.looks → TurnedTo c.serve_sending.result s t refused before seat (at_entry y v) (at_entry c.serve_sending.new.self v2)) R.0
+    (subst (λ (x : SeatAt). PassesPost refused c.receive_first.new.self → (y : Tells c.args.posted x.number c.receive_first.new.self v v1) → NoneTold x.place x.number y.0.looked.looks → TurnedTo c.serve_sending.result s t refused before x (at_entry c.receive_first.new.self v) (at_entry c.serve_sending.new.self v2)) c.receive_first.ensures.seat
+    (c.serve_sending.ensures.turned refused before v)) in
     turned post (passes_more seat.number (at_entry old v) 8 v0 v1 R.1.looks R.1.view tells.0, tells.1)
-    (inr (inr (λ a lt ne. In-append_right _ tells.0.looked.looks R.1.looks (R.1.empty a lt ne))))
+    (λ a lt ne. In-append_right _ tells.0.looked.looks R.1.looks (R.1.empty a lt ne))
 
 pub returns-clause-less : goal.returns-clause-less
 returns-clause-less g c offer =
     let seat = g.B.Board.seat c.args.board.now in
     let w0 = g.B.Board.whole c.args.board.now in
     let w1 = g.B.Board.whole c.receive_first.new.board in
-    let w2 = g.B.Board.whole c.serve_cleaning-2.new.board in
+    let w2 = g.B.Board.whole c.serve_sending.new.board in
     let R = c.if-receive_first.ensures.received in
-    let less = subst (λ (y : Worker). (c.args.posted ≡ true → HasOffer w1 seat.number) → MeasuresTurn c.serve_cleaning-2.result w1 w2 y c.serve_cleaning-2.new.self) R.0
-    (subst (λ (x : SeatAt). (c.args.posted ≡ true → HasOffer w1 x.number) → MeasuresTurn c.serve_cleaning-2.result w1 w2 c.receive_first.new.self c.serve_cleaning-2.new.self) c.receive_first.ensures.seat c.serve_cleaning-2.ensures.less) in
-    measures_passed c.serve_cleaning-2.result c.args.posted w0 w1 w2 seat.number R.1.loads (g.B.Board.view c.receive_first.new.board) c.args.self.now c.serve_cleaning-2.new.self R.1.made offer less
+    let less = subst (λ (y : Worker). (c.args.posted ≡ true → HasOffer w1 seat.number) → Measures c.serve_sending.result w1 w2 y c.serve_sending.new.self) R.0
+    (subst (λ (x : SeatAt). (c.args.posted ≡ true → HasOffer w1 x.number) → Measures c.serve_sending.result w1 w2 c.receive_first.new.self c.serve_sending.new.self) c.receive_first.ensures.seat c.serve_sending.ensures.less) in
+    measures_by c.serve_sending.result c.args.posted w0 w1 w2 seat.number R.1.loads (g.B.Board.view c.receive_first.new.board) c.args.self.now c.serve_sending.new.self R.1.made offer less
+
+pub returns-clause-tries : goal.returns-clause-tries
+returns-clause-tries g c =
+    let seat = g.B.Board.seat c.args.board.now in
+    let w0 = g.B.Board.whole c.args.board.now in
+    let w1 = g.B.Board.whole c.receive_first.new.board in
+    let w2 = g.B.Board.whole c.serve_sending.new.board in
+    let v0 = g.B.Board.view c.args.board.now in
+    let v1 = g.B.Board.view c.receive_first.new.board in
+    let v2 = g.B.Board.view c.serve_sending.new.board in
+    let R = c.if-receive_first.ensures.received in
+    if_idle_to c.serve_sending.result (TriedAfter c.args.posted (g.B.Board.seat c.receive_first.new.board).number w1 w2 v1 v2) (TriedAfter c.args.posted seat.number w0 w2 v0 v2)
+    (λ t. tried_later c.args.posted seat.number _ w0 w1 w2 v0 v1 v2 R.1 (subst (λ (x : SeatAt). TriedAfter c.args.posted x.number w1 w2 v1 v2) c.receive_first.ensures.seat t))
+    c.serve_sending.ensures.tries
 
 pub returns-clause-steps : goal.returns-clause-steps
 returns-clause-steps g c passes =
-    turn_after_loads passes (g.R.Region.state c.args.region.now) (g.R.Region.state c.serve_cleaning-2.new.region) _ (g.B.Board.view c.receive_first.new.board) _ _ _ _ _ (g.B.Board.at c.receive_first.new.board) _ c.if-receive_first.ensures.steps (c.serve_cleaning-2.ensures.steps passes)
+    turn_after_loads passes (g.R.Region.state c.args.region.now) (g.R.Region.state c.serve_sending.new.region) _ (g.B.Board.view c.receive_first.new.board) _ _ _ _ _ (g.B.Board.at c.receive_first.new.board) _ c.if-receive_first.ensures.steps (c.serve_sending.ensures.steps passes)

@@ -12,10 +12,10 @@ use Rattle.batch_leader.specs.TurnSteps.{TurnSteps, trail_with}
 use Rattle.core_worker.proofs.worker.Worker.serve_staged.Goals as goal
 
 pub returns-in-Pass-clause-keeps : goal.returns-in-Pass-clause-keeps
-returns-in-Pass-clause-keeps g c = c.serve_mail-turn.ensures.keeps
+returns-in-Pass-clause-keeps g c = c.serve_mail.ensures.keeps
 
 pub returns-in-Pass-clause-turned : goal.returns-in-Pass-clause-turned
-returns-in-Pass-clause-turned g c before v tells = c.serve_mail-turn.ensures.turned (g.G.Gate.may_refuse c.args.gate.now) before v c.in-Pass.ensures tells
+returns-in-Pass-clause-turned g c before v tells = c.serve_mail.ensures.turned (g.G.Gate.may_refuse c.args.gate.now) before v c.in-Pass.ensures tells
 
 pub returns-in-Post-clause-turned : goal.returns-in-Post-clause-turned
 returns-in-Post-clause-turned g c before v tells =
@@ -84,7 +84,7 @@ pub returns-in-Post-clause-starts : goal.returns-in-Post-clause-starts
 returns-in-Post-clause-starts g c = posted_starts _ _ _ _ _ c.args.self.now c.post.new.self c.in-Post.slot c.requires.nothing c.post.ensures.posts
 
 pub returns-in-Pass-clause-steps : goal.returns-in-Pass-clause-steps
-returns-in-Pass-clause-steps g c = c.serve_mail-turn.ensures.steps (g.G.Gate.may_pass c.args.gate.now)
+returns-in-Pass-clause-steps g c = c.serve_mail.ensures.steps (g.G.Gate.may_pass c.args.gate.now)
 
 pub returns-in-Ok-clause-steps : goal.returns-in-Ok-clause-steps
 returns-in-Ok-clause-steps g c = let s = g.R.Region.state c.args.region.now in turn_of_loads (g.G.Gate.may_pass c.args.gate.now) s s _ _ _ _ _ _ (no_loads (g.B.Board.view c.args.board.now) (g.B.Board.trail c.args.board.now))
