@@ -34,7 +34,7 @@ use Rattle.core_worker.proofs.Pointers.{measured}
 use Rattle.core_worker.proofs.Writing.{none_counted}
 
 -- no entry takes more than five lines
-few_lines : (e : Entry) → HasSpelling e → lines_for (length (words_of e)) ≤ 5
+pub few_lines : (e : Entry) → HasSpelling e → lines_for (length (words_of e)) ≤ 5
 few_lines e is = by_body e.key e.version e.body is where
   by_body : (k n : ℕ) (b : _) → HasSpelling (record { key = k; version = n; body = b }) → lines_for (length (words_of (record { key = k; version = n; body = b }))) ≤ 5
   by_body k n (bodies.Pointer q) is = omega arith

@@ -26,6 +26,17 @@ pub dooms : (a first : _) (st : StandingState) (es : List (ℕ × slots.Place)) 
 unfolding clears_left
 dooms a first st es out v j = omega arith
 
+-- it goes by how many names stand, and not by which
+pub counted : (a : _) (c : Cleaning) (st now : StandingState) (es : List (ℕ × slots.Place)) (out : List ToSend) → length now.entries ≡ length st.entries
+    → clears_left a c now es out ≡ clears_left a c st es out
+unfolding clears_left
+counted a c st now es out same = omega (arith, same)
+
+pub leaves : (a first : _) (st : StandingState) (es : List (ℕ × slots.Place)) (out : List ToSend) (v : Victim)
+    → clears_left a Nothing st es out < clears_left a (Copying v first) st es out
+unfolding clears_left
+leaves a first st es out v = omega arith
+
 pub clears : (a : _) (st now : StandingState) (es ix : List (ℕ × slots.Place)) (out after : List ToSend) (j gone : ℕ) → length now.entries + gone ≤ length st.entries
     → all_untold ix ≤ all_untold es → box_left after ≤ box_left out + gone
     → clears_left a Nothing now ix after < clears_left a (Doomed j) st es out

@@ -22,7 +22,7 @@ use Rattle.core_worker.specs.declared.types.Leading.TheVariants as leads
 use Rattle.core_worker.specs.declared.worker.Worker.{Worker}
 use Rattle.core_worker.specs.DoomsNames.{DoomsIn}
 use Rattle.core_worker.specs.GoneMail.{HasPlacesFor}
-use Rattle.core_worker.specs.KeepsCleaning.{GoesOn, HasPhase, MayVanish, IsBegun, may_go, Cleans}
+use Rattle.core_worker.specs.KeepsCleaning.{HasPhase, MayVanish, IsBegun, may_go, Cleans}
 use Rattle.core_worker.specs.LogNames.{CopiesIn, ClearsIn, IsCleanedBy}
 use Rattle.core_worker.specs.Order.{InOrder}
 use Rattle.core_worker.specs.Supplies.{under_way}
@@ -41,9 +41,6 @@ module _ (p : Place) (m : ℕ) (v : View) (w : Worker) (H : Holds p m v w) (vict
 
   pub begun : IsBegun w.log cleans.now victim first
   begun = subst (HasPhase p m v.doomed v.dead w.log w.standing cleans.now w.own_gone.items) way_is cleans.phase
-
-  pub copied : victim.entries ≡ 0
-  copied = subst GoesOn way_is cleans.goes
 
 module _ (s : State) (p : Place) (m : ℕ) (v u : View) (w x : Worker) (H : Holds p m v w) (O : InOrder p m v w) (D : DoomsIn s p m v u w x) where
   abbrev C : Cleans p m v.doomed v.dead w.stopped w.winds_down w.leading w.log w.allocator w.standing w.clearing w.own_gone w.notices.items w.cleaning

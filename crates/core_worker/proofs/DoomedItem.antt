@@ -46,7 +46,7 @@ use Rattle.core_worker.proofs.StockFacts.{still_spend, stock_small}
 use Rattle.core_worker.proofs.TurnLaws.{nothing_fixed}
 
 -- what a turn finds that dooms
-module _ (s : State) (p : Place) (m : ℕ) (v : View) (w : Worker) (H : Holds p m v w) (S : Stands s p m v w) (O : InOrder p m v w) (victim : Victim) (d : (first : Bool) × (under_way w ≡ Copying victim first)) where
+module _ (s : State) (p : Place) (m : ℕ) (v : View) (w : Worker) (H : Holds p m v w) (S : Stands s p m v w) (O : InOrder p m v w) (victim : Victim) (d : (first : Bool) × (under_way w ≡ Copying victim first) × (victim.entries ≡ 0)) where
   pub cleans : Cleans p m v.doomed v.dead w.stopped w.winds_down w.leading w.log w.allocator w.standing w.clearing w.own_gone w.notices.items w.cleaning
   cleans = doomed.cleans p m v w H victim d.0 d.1
 
@@ -94,7 +94,7 @@ module _ (s : State) (p : Place) (m : ℕ) (v : View) (w : Worker) (H : Holds p 
       victim = victim;
       first = d.0;
       way = d.1;
-      copied = doomed.copied p m v w H victim d.0 d.1;
+      copied = d.2;
       old = c;
       was = is;
       now = now;

@@ -15,6 +15,7 @@ use Rattle.conflict_queue.specs.declared.types.Held.{Held}
 use Rattle.conflict_queue.specs.Waiting.{waiting, AddsLast}
 use Rattle.core_index.specs.Index.{known_at, room_at}
 use Rattle.core_index.specs.Records.{live_version}
+use Rattle.group_laws.specs.declared.types.Seen.{Seen}
 use Rattle.group_laws.specs.State.{Group}
 use Rattle.group_laws.specs.Places as groups
 use Rattle.group_laws.specs.MemberViews.{View}
@@ -35,7 +36,9 @@ use Rattle.core_worker.specs.Serving.{OnlyServes, KeepsLine}
 use Rattle.core_worker.specs.Finishing.{LetsGo, Settles, Serves, ShortOf, FinishesSlot, reply_back}
 use Rattle.core_worker.specs.Stopping.{WithdrawsOrUnlocks}
 use Rattle.core_worker.specs.Openings.{IsNew}
-use Rattle.core_worker.specs.Turns.{Moment, SameButLeading, UnpledgedAt, PersistsOrLoses, Posts, Receives}
+use Rattle.core_worker.specs.Turns.{Moment, SameButLeading, UnpledgedAt, PersistsOrLoses, Posts, Receives, Sends, Copies}
+use Rattle.core_worker.specs.Readying.{PassesSending, TakesDead}
+use Rattle.core_worker.proofs.SentTurns.{passes_takes}
 use Rattle.log_cleaner.specs.Clearing.{ClearingState}
 use Rattle.core_worker.specs.DoomsNames.{DoomsIn}
 use Rattle.core_worker.specs.EndsCleaning.{EndsIn}
@@ -389,9 +392,32 @@ just_ends p m v u w x c E J runs works k =
     let busy = ap (λ (b : Bool). cond {A = ℕ} b 1 0) (same_busy w.places.items x.places.items k (λ s. ap key_in (E.ends.loses.forgets.places s) ∙ key_restarted (is_forgotten w.own_gone.items w.places.items E.ends.loses.mid) (place_at w.places.items s))) in
     omega (arith, was, room, queue, busy)
 
+-- what is taken to be told makes no room, and takes none
+just_takes : (p : groups.Place) (w y : Worker) → TakesDead p w y → y.winds_down ≡ w.winds_down → HasJustRoom w → HasJustRoom y
+just_takes p w y T still J runs works k =
+    let had = J (sym (ap (λ (z : Worker). z.stopped) T.same) ∙ runs) (sym still ∙ works) k in
+    let room = T.tells.room k in
+    let come = ap (λ (z : Worker). coming z k) T.same in
+    omega (arith, had, room, come)
+
+just_passed : (p : groups.Place) (m : ℕ) (w y : Worker) (looks : List Seen) → PassesSending p m w y looks → HasJustRoom w → HasJustRoom y
+just_passed p m w y looks S J = (let T = passes_takes p m w y looks S in just_takes p w y T.0 T.1 J)
+
+just_sends : (refused : Bool) (p : groups.Place) (m : ℕ) (a b : Moment) → Sends refused p m a b → HasJustRoom a.worker → HasJustRoom b.worker
+just_sends refused p m a b S J = subst HasJustRoom (sym S.box.same) (just_takes p a.worker S.ready S.readies.takes S.readies.works J)
+
+just_winds : (w : Worker) → w.winds_down ≡ true → HasJustRoom w
+just_winds w winds runs works k = absurd (let both : true ≡ false = sym winds ∙ works in cc both)
+
 -- nor do names that are doomed
 just_dooms : (s : State) (p : groups.Place) (m : ℕ) (v u : View) (w x : Worker) → DoomsIn s p m v u w x → HasJustRoom w → HasJustRoom x
 just_dooms s p m v u w x D J = subst HasJustRoom (sym D.same) J
+
+-- nor do copies
+just_copies : (p : groups.Place) (m : ℕ) (a b : Moment) (refused : Bool) → Copies refused p m a b → HasJustRoom a.worker → HasJustRoom b.worker
+just_copies p m a b refused C J =
+    let R = just_passed p m a.worker C.ready C.before.looked.looks C.sending J in
+    ⊎_elim (λ K. subst HasJustRoom (sym K.0.same) R) (λ L. subst HasJustRoom (sym L.0.same) R) C.copies
 
 just_did : (s t : State) (refused : Bool) (before : Option Group) (seat : SeatAt) (a b : Moment) → AreApart a.worker.places.items → Did s t refused before seat a b → HasJustRoom a.worker → HasJustRoom b.worker
 just_did s t refused before seat a b apart (Did.goes_round calm (inl C)) J = same_leading a.worker b.worker C.same J
@@ -405,14 +431,18 @@ just_did s t refused before seat a b apart (Did.posts P plain calm) J = just_pos
 just_did s t refused before seat a b apart (Did.loses_block L) J = just_stopped b.worker (ap (λ (y : Worker). y.stopped) L.same)
 just_did s t refused before seat a b apart (Did.drops calm all D) J = just_stopped b.worker (ap (λ (y : Worker). y.stopped) D.drops.rest ∙ ap (λ (y : Worker). y.stopped) D.drops.puts.lets.rest ∙ D.stopped)
 just_did s t refused before seat a b apart (Did.receives calm R) J = just_receives refused seat.place seat.number a b R J
-just_did s t refused before seat a b apart (Did.dooms calm D) J = just_dooms s seat.place seat.number D.mid b.view a.worker b.worker D.dooms J
-just_did s t refused before seat a b apart (Did.clears C) J = just_ends seat.place seat.number C.mid b.view a.worker b.worker C.clearing C.ends J
+just_did s t refused before seat a b apart (Did.sends calm S) J = just_sends refused seat.place seat.number a b S J
+just_did s t refused before seat a b apart (Did.winds calm W) J = just_winds b.worker W.winds
+just_did s t refused before seat a b apart (Did.dooms calm D) J = just_dooms s seat.place seat.number D.mid b.view D.ready b.worker D.dooms (just_passed seat.place seat.number a.worker D.ready D.before.looked.looks D.sending J)
+just_did s t refused before seat a b apart (Did.copies C) J = just_copies seat.place seat.number a b refused C J
+just_did s t refused before seat a b apart (Did.loses_copies L) J = just_stopped b.worker (ap (λ (y : Worker). y.stopped) L.lost.same)
+just_did s t refused before seat a b apart (Did.clears C) J = just_ends seat.place seat.number C.mid b.view C.ready b.worker C.clearing C.ends (just_passed seat.place seat.number a.worker C.ready C.before.looked.looks C.sending J)
 just_did s t refused before seat a b apart (Did.loses_clearing L) J = just_stopped b.worker (ap (λ (y : Worker). y.stopped) L.same)
-just_did s t refused before seat a b apart (Did.locks calm L) J = same_leading a.worker b.worker L.same J
+just_did s t refused before seat a b apart (Did.locks calm L) J = same_leading L.ready b.worker L.same (just_passed seat.place seat.number a.worker L.ready L.before.looked.looks L.sending J)
 
 pub just_turned : (r : Result Turn Memory) (s t : State) (refused : Bool) (before : Option Group) (seat : SeatAt) (a b : Moment) → AreApart a.worker.places.items → TurnedTo r s t refused before seat a b → HasJustRoom a.worker → HasJustRoom b.worker
 just_turned (Ok Moved) s t refused before seat a b apart D J = just_did s t refused before seat a b apart D J
-just_turned (Ok Idle) s t refused before seat a b apart I J = same_leading a.worker b.worker I.1.same J
+just_turned (Ok Idle) s t refused before seat a b apart I J = (let L = I.1 in same_leading L.ready b.worker L.same (just_passed seat.place seat.number a.worker L.ready L.before.looked.looks L.sending J))
 just_turned (Err memory) s t refused before seat a b apart D J = just_did s t refused before seat a b apart D J
 
 -- A new worker has no room, where its start had none.

@@ -54,6 +54,9 @@ mod HeardStands
 mod HeardMoves
 mod ReadiedMail
 mod SentMail
+mod ReadyLaws
+mod SendTurns
+mod SentTurns
 mod LeftMails
 mod NamesAdded
 mod NamesKnown
@@ -119,6 +122,11 @@ mod FiledLeft
 mod FiledMail
 mod DoomedHolds
 mod DoomedItem
+mod CopiedLog
+mod CopiedHolds
+mod CopiedRoom
+mod CopiedStands
+mod CopiedItem
 mod EndedHolds
 pub mod EndedOrder
 pub mod EndedStands

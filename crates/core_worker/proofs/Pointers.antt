@@ -36,11 +36,11 @@ use Rattle.core_worker.specs.Plans.{last_version, PutsInBlock}
 use Rattle.core_worker.proofs.CleaningKept.{small_way}
 use Rattle.core_worker.specs.Beginning.{HoldsAside}
 
-each : (ps : List Place) → ((s : ℕ) → s < length ps → IsCounted (place_at ps s)) → AllByRecursion IsCounted ps
+pub each : (ps : List Place) → ((s : ℕ) → s < length ps → IsCounted (place_at ps s)) → AllByRecursion IsCounted ps
 each [] h = tt
 each (x ∷ xs) h = (h 0 (omega arith), each xs (λ s lt. h (suc s) (omega (arith, lt))))
 
-counted : (p : group.Place) (m : ℕ) (v : View) (s : ℕ) (x : Place) → IsPlaced p m v s x → IsCounted x
+pub counted : (p : group.Place) (m : ℕ) (v : View) (s : ℕ) (x : Place) → IsPlaced p m v s x → IsCounted x
 counted p m v s Free is = tt
 counted p m v s (Staged n e u) is = is.3
 counted p m v s (Posted n k lines) is = is.6

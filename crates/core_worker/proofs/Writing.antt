@@ -90,7 +90,7 @@ not_free true old new j t = t.free j ∙ (let same = eq-eqb j j refl in ap (λ b
   and_none false = refl
 not_free false old new j t = absurd (cc (t.0))
 
-blocks_stay : (v : View) (old new : Sets) (ps : List _) → Same old new → AreBlocks v old ps → AreBlocks v new ps
+pub blocks_stay : (v : View) (old new : Sets) (ps : List _) → Same old new → AreBlocks v old ps → AreBlocks v new ps
 blocks_stay v old new ps same B = record {
   held = λ q b e. block q (length b.bytes) (B.held q b e);
   staged = λ q x. (block q (length x.value) (B.staged q x).0, (B.staged q x).1);

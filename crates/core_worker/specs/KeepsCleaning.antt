@@ -22,10 +22,10 @@ use Rattle.crash_core.specs.declared.names.Notices.{Notices}
 use Rattle.core_worker.specs.GoneMail.{HasPlacesFor}
 use Rattle.core_worker.specs.LogNames.{AreOwnOf}
 
--- Which cleanings a turn goes on with: one of which nothing is left to be copied, and one whose names are doomed.
+-- which cleanings a turn goes on with
 abbrev pub GoesOn : Cleaning → Type 0
 GoesOn Nothing = ⊥
-GoesOn (Copying victim first) = victim.entries ≡ 0
+GoesOn (Copying victim first) = Unit {0}
 GoesOn (Doomed chunk) = Unit {0}
 
 -- A name that may vanish: it is doomed and dead, stands in one chunk alone, and is among the names noted of that chunk.

@@ -4,6 +4,8 @@ pub mod OwnPlaces
 pub mod Supplies
 pub mod KeyTies
 pub mod OwnChunks
+pub mod TakenChunks
+pub mod CopyTurns
 pub mod StandingTies
 pub mod KeepsCleaning
 pub mod Ties
@@ -19,6 +21,7 @@ pub mod Finishing
 pub mod Stopping
 pub mod Accepting
 pub mod Loads
+pub mod CopyItems
 pub mod Turns
 pub mod Searching
 pub mod WorkerMoves
@@ -62,6 +65,7 @@ pub mod GoneMail
 pub mod GoneNames
 pub mod LogNames
 pub mod Mails
+pub mod Readying
 pub mod GivingUp
 pub mod Counted
 pub mod CleaningParts

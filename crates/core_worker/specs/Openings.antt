@@ -44,7 +44,7 @@ pub record IsNew (start : CoreStart) (layout : Geometry) (w : Worker) : Type 0 w
   pub cleaning : w.cleaning ≡ Nothing
   pub clearing : w.clearing ≡ None
   pub last_victim : w.last_victim ≡ None
-  pub buffer : MOST_BATCH_WORDS ≤ w.copies.room
+  pub buffer : MOST_BATCH_WORDS ≤ w.copies.words.room
   pub members : length w.notices.items ≡ layout.group
   pub outbox : AllByRecursion TellsNothing w.notices.items
   pub spare : AllByRecursion HasSpare w.notices.items

@@ -20,7 +20,7 @@ use Rattle.core_worker.specs.declared.types.Turn.TheVariants.{Moved, Idle}
 use Rattle.core_worker.specs.declared.choose_item.Choice.{Choice}
 use Rattle.core_worker.specs.declared.choose_item.Choice.TheVariants.{Pass, Drop, Post}
 use Rattle.core_worker.specs.OwnPlaces.{is_staged, IsLowest}
-use Rattle.core_worker.specs.Turns.{Moment, InOrderAt, GoesRound, PersistsOrLoses, Marks, Fails, Finishes, Posts, LosesBlock, Receives, Locks, Idles, PassesItems, PassesPost, FindsPosted, Dooms, Clears, LosesClearing}
+use Rattle.core_worker.specs.Turns.{Moment, InOrderAt, GoesRound, PersistsOrLoses, Marks, Fails, Finishes, Posts, LosesBlock, Receives, Sends, WindsDown, Locks, Idles, PassesItems, PassesPost, FindsPosted, Dooms, Copies, LosesBatchOfCopies, Clears, LosesClearing}
 use Rattle.core_worker.specs.Posting.{PointsNowhere}
 use Rattle.core_worker.specs.Stopping.{Drops, WithdrawsOrUnlocks}
 use Rattle.core_worker.specs.WorkerMoves.{Fixed, hands_of, WorkerMoves}
@@ -64,7 +64,7 @@ pub record DropsLowest (s : State) (m : ℕ) (a b : Moment) (all : Bool) : Type 
   pub drops : Drops s slot a.worker b.worker all
   pub view : b.view ≡ mid
 
--- The item of the order of work that a turn did. Where there was no memory for what waited of a key, `all` is false. All but those that write, which lose a write, which post behind a block that was written, or which end a cleaning, leave the region as it was. A change is posted only where no fault of the region was counted in the turn.
+-- The item of the order of work that a turn did. Where there was no memory for what waited of a key, `all` is false. All but those that write, which lose a write, which post behind a block that was written, which copy, or which end a cleaning, leave the region as it was. A change is posted only where no fault of the region was counted in the turn.
 pub data Did (s t : State) (refused : Bool) (before : Option Group) (seat : SeatAt)
     (a b : Moment) : Type 0 where
   goes_round : t ≡ s → GoesRound before seat a b → Did s t refused before seat a b
@@ -82,7 +82,12 @@ pub data Did (s t : State) (refused : Bool) (before : Option Group) (seat : Seat
       → Did s t refused before seat a b
   receives : t ≡ s → Receives refused seat.place seat.number a b
       → Did s t refused before seat a b
+  sends : t ≡ s → Sends refused seat.place seat.number a b → Did s t refused before seat a b
+  winds : t ≡ s → WindsDown refused seat.place seat.number a b → Did s t refused before seat a b
   dooms : t ≡ s → Dooms s refused seat.place seat.number a b
+      → Did s t refused before seat a b
+  copies : Copies refused seat.place seat.number a b → Did s t refused before seat a b
+  loses_copies : LosesBatchOfCopies refused seat.place seat.number a b
       → Did s t refused before seat a b
   clears : Clears refused seat.place seat.number a b → Did s t refused before seat a b
   loses_clearing : LosesClearing refused seat.place seat.number a b → Did s t refused before seat a b

@@ -9,16 +9,16 @@ use Rattle.group_laws.specs.declared.types.Seen.{Seen}
 use Rattle.group_laws.specs.declared.types.Seen.TheVariants.{Slot, Holder, Mail}
 use Rattle.group_laws.specs.declared.types.SlotWord.{SlotWord}
 use Rattle.group_laws.specs.declared.types.SlotWord.TheVariants as words
+use Rattle.crash_core.specs.Shows.{notices_of}
 use Rattle.group_laws.specs.Places.{Place}
 use Rattle.group_laws.specs.State.{Group}
 use Rattle.group_laws.specs.Runs.{Kind}
 use Rattle.log_entry.specs.Spelling.{words_of}
 use Rattle.core_log.specs.Chunk.{padded}
-use Rattle.core_log.specs.Log.{LogState, with_tail, open_number, open_tail}
-use Rattle.lazy_alloc.specs.Sets.{TakesChunkOrNone, Sets}
 use Rattle.log_cleaner.specs.Clearing.{ClearingState}
+use Rattle.log_cleaner.specs.declared.types.Victim.{Victim}
 use Rattle.group_laws.specs.MemberViews.{View}
-use Rattle.group_board.specs.Views.{after_post, after_lock, after_find, after_unlock, after_commit, after_mark, after_fail}
+use Rattle.group_board.specs.Views.{after_post, after_lock, after_find, after_unlock, after_commit, after_mark, after_fail, after_send}
 use Rattle.group_board.specs.Seats.{SeatAt}
 use Rattle.batch_leader.specs.TakenChanges.{entries_in, spelled, taken_in}
 use Rattle.batch_leader.specs.Leading.{MakesAll, Went, IsReleased, IsOver, SawPassed}
@@ -31,21 +31,26 @@ use Rattle.batch_leader.specs.declared.states.Persisted.{Persisted}
 use Rattle.batch_leader.specs.declared.states.FailedBatch.{FailedBatch}
 use Rattle.batch_leader.specs.declared.batch_buffer.BatchBuffer.{BatchBuffer}
 use Rattle.batch_leader.specs.declared.taken.Taken.{Taken}
-use Rattle.core_worker.specs.declared.types.Cleaning.TheVariants.{Nothing, Doomed}
+use Rattle.core_worker.specs.declared.types.Cleaning.TheVariants.{Nothing, Copying, Doomed}
 use Rattle.core_worker.specs.declared.types.Leading.{Leading}
 use Rattle.core_worker.specs.declared.types.Leading.TheVariants as leads
 use Rattle.core_worker.specs.declared.types.Place.{Place as WorkerPlace}
 use Rattle.core_worker.specs.declared.types.Place.TheVariants.{Free, Staged, Posted}
 use Rattle.core_worker.specs.declared.worker.Worker.{Worker}
 use Rattle.core_worker.specs.OwnPlaces.{place_at, is_staged, is_posted, IsLowest, HasNone, Replaces}
+use Rattle.core_worker.specs.CopyItems.{CopiesOn, LeavesCopies, LosesCopies}
 use Rattle.core_worker.specs.DoomsNames.{DoomsIn}
 use Rattle.core_worker.specs.EndsCleaning.{EndsIn}
 use Rattle.core_worker.specs.Ties.{LeadsNothing}
 use Rattle.core_worker.specs.StandingTies.{AddsNames}
+pub use Rattle.core_worker.specs.TakenChunks.{TakesFor, appended_to}
 use Rattle.core_worker.specs.Order.{InOrder}
 use Rattle.core_worker.specs.Supplies.{room_for, under_way}
 use Rattle.core_worker.specs.Finishing.{FinishesSlot}
-use Rattle.core_worker.specs.Mails.{Hears, PassesMail}
+use Rattle.core_worker.specs.Mails.{Hears, NoneTold, PassesMail}
+use Rattle.core_worker.specs.CleaningLeft.{notices_left}
+use Rattle.core_worker.specs.Readying.{FindsFull, PassesSending, Readies, TakesDead}
+use Rattle.core_worker.specs.Sending.{EmptiesBox}
 
 -- some steps of member m lead from the one told state to the other
 abbrev pub Steps : Option Group → Option Group → ℕ → View → Type 0
@@ -133,18 +138,6 @@ UnpledgedAt (Some e) old new = (number : ℕ) × (old
 abbrev pub Unpledges : ℕ → List Taken → Worker → Worker → Type 0
 Unpledges m ts old new = (s : ℕ) → UnpledgedAt (taken_in ts m s) (place_at old.places.items s)
     (place_at new.places.items s)
-
--- the log whose open chunk has the batch more
-abbrev pub appended_to : LogState → List ℕ → LogState
-appended_to log batch = record log {
-  chunks = with_tail log.chunks (open_number log)
-      (open_tail log + length batch);
-}
-
--- the lowest free chunk is taken, where one is needed
-abbrev pub TakesFor : Bool → Sets → Sets → Option ℕ → Type 0
-TakesFor true old new fresh = TakesChunkOrNone old new fresh
-TakesFor false old new fresh = (fresh ≡ None) × (new ≡ old)
 
 -- Item 2: the batch is appended, where it was collected for one in a fresh chunk, the lowest free one; and committed.
 pub record Persists (m : ℕ) (a b : Moment) : Type 0 where
@@ -295,13 +288,42 @@ pub record Receives (refused : Bool) (p : Place) (m : ℕ) (a b : Moment) : Type
   pub empty : (h : ℕ) → h < from → h ≢ m → In (Mail h m false) before.looked.looks
   pub hears : Hears p m from mid b.view a.worker b.worker
 
+-- Item 6: no member told it anything, and all that waits for the lowest other member with an empty mailbox, for which something waits, is sent.
+pub record Sends (refused : Bool) (p : Place) (m : ℕ) (a b : Moment) : Type 0 where
+  pub mid : View
+  pub before : PassesItems m a SLOTS mid
+  pub post : PassesPost refused a.worker
+  pub runs : (a.worker.stopped ≡ false) × (a.worker.winds_down ≡ false)
+  pub empty : NoneTold p m before.looked.looks
+  pub to : ℕ
+  pub other : to ≢ m
+  pub ready : Worker
+  pub readies : Readies p m (to + 1) a.worker ready
+  pub full : FindsFull m to ready before.looked.looks
+  pub box : EmptiesBox to ready b.worker
+  pub some : 0 < notices_left (notices_of box.old)
+  pub view : b.view ≡ after_send to (notices_of box.old) mid
+
+-- Item 6 without memory for what is to be sent: the core winds down. What awaited may wait to be sent now.
+pub record WindsDown (refused : Bool) (p : Place) (m : ℕ) (a b : Moment) : Type 0 where
+  pub mid : View
+  pub before : PassesItems m a SLOTS mid
+  pub post : PassesPost refused a.worker
+  pub runs : (a.worker.stopped ≡ false) × (a.worker.winds_down ≡ false)
+  pub empty : NoneTold p m before.looked.looks
+  pub takes : TakesDead p a.worker b.worker
+  pub winds : b.worker.winds_down ≡ true
+  pub view : b.view ≡ mid
+
 -- Item 6, the doom: nothing of the chunk that is cleaned is left to be copied, and the names that vanish with it are doomed.
 pub record Dooms (s : State) (refused : Bool) (p : Place) (m : ℕ) (a b : Moment) : Type 0 where
   pub mid : View
   pub before : PassesItems m a SLOTS mid
   pub post : PassesPost refused a.worker
   pub mail : PassesMail p m a.worker before.looked.looks
-  pub dooms : DoomsIn s p m mid b.view a.worker b.worker
+  pub ready : Worker
+  pub sending : PassesSending p m a.worker ready before.looked.looks
+  pub dooms : DoomsIn s p m mid b.view ready b.worker
 
 -- Item 6, the end of a cleaning: its chunk is free again, and what stood there alone is gone.
 pub record Clears (refused : Bool) (p : Place) (m : ℕ) (a b : Moment) : Type 0 where
@@ -309,9 +331,11 @@ pub record Clears (refused : Bool) (p : Place) (m : ℕ) (a b : Moment) : Type 0
   pub before : PassesItems m a SLOTS mid
   pub post : PassesPost refused a.worker
   pub mail : PassesMail p m a.worker before.looked.looks
+  pub ready : Worker
+  pub sending : PassesSending p m a.worker ready before.looked.looks
   pub clearing : ClearingState
-  pub is : a.worker.clearing ≡ Some clearing
-  pub ends : EndsIn p m mid b.view a.worker b.worker clearing
+  pub is : ready.clearing ≡ Some clearing
+  pub ends : EndsIn p m mid b.view ready b.worker clearing
 
 -- Item 6 at a fault: the chunk could not be made free, and the core stops.
 pub record LosesClearing (refused : Bool) (p : Place) (m : ℕ) (a b : Moment) : Type 0 where
@@ -319,10 +343,43 @@ pub record LosesClearing (refused : Bool) (p : Place) (m : ℕ) (a b : Moment) :
   pub before : PassesItems m a SLOTS mid
   pub post : PassesPost refused a.worker
   pub mail : PassesMail p m a.worker before.looked.looks
-  pub runs : a.worker.stopped ≡ false
-  pub dooms : (j : ℕ) × (under_way a.worker ≡ Doomed j)
+  pub ready : Worker
+  pub sending : PassesSending p m a.worker ready before.looked.looks
+  pub runs : ready.stopped ≡ false
+  pub dooms : (j : ℕ) × (under_way ready ≡ Doomed j)
   pub view : b.view ≡ mid
-  pub same : b.worker ≡ record a.worker { clearing = None; stopped = true }
+  pub same : b.worker ≡ record ready { clearing = None; stopped = true }
+
+-- Item 6, copies: the next batch of the chunk that is cleaned is copied, as far as there is room. What it copies stays certain, and the view as it is.
+pub record Copies (refused : Bool) (p : Place) (m : ℕ) (a b : Moment) : Type 0 where
+  pub mid : View
+  pub before : PassesItems m a SLOTS mid
+  pub post : PassesPost refused a.worker
+  pub mail : PassesMail p m a.worker before.looked.looks
+  pub ready : Worker
+  pub sending : PassesSending p m a.worker ready before.looked.looks
+  pub runs : ready.stopped ≡ false
+  pub victim : Victim
+  pub first : Bool
+  pub way : under_way ready ≡ Copying victim first
+  pub some : 0 < victim.entries
+  pub copies : (CopiesOn victim first ready b.worker × (b.view ≡ after_commit mid))
+      ⊎ (LeavesCopies victim first ready b.worker × (b.view ≡ mid))
+
+-- Item 6 at a fault: the batch of copies could not be written, and the core stops.
+pub record LosesBatchOfCopies (refused : Bool) (p : Place) (m : ℕ) (a b : Moment) : Type 0 where
+  pub mid : View
+  pub before : PassesItems m a SLOTS mid
+  pub post : PassesPost refused a.worker
+  pub mail : PassesMail p m a.worker before.looked.looks
+  pub ready : Worker
+  pub sending : PassesSending p m a.worker ready before.looked.looks
+  pub runs : ready.stopped ≡ false
+  pub victim : Victim
+  pub first : Bool
+  pub way : under_way ready ≡ Copying victim first
+  pub view : b.view ≡ mid
+  pub lost : LosesCopies first ready b.worker
 
 -- Item 7: no cleaning is under way, an own slot was found Posted, and the lock is tried and had.
 pub record Locks (refused : Bool) (p : Place) (m : ℕ) (a b : Moment) : Type 0 where
@@ -330,11 +387,13 @@ pub record Locks (refused : Bool) (p : Place) (m : ℕ) (a b : Moment) : Type 0 
   pub before : PassesItems m a SLOTS mid
   pub post : PassesPost refused a.worker
   pub mail : PassesMail p m a.worker before.looked.looks
-  pub clean : under_way a.worker ≡ Nothing
+  pub ready : Worker
+  pub sending : PassesSending p m a.worker ready before.looked.looks
+  pub clean : under_way ready ≡ Nothing
   pub posted : FindsPosted a.worker.places.items before.looked.found SLOTS
   pub view : b.view ≡ after_lock mid
   pub leads_now : (c : Collecting) × (b.worker.leading ≡ leads.Collecting c) × (c.at ≡ 0)
-  pub same : SameButLeading a.worker b.worker
+  pub same : SameButLeading ready b.worker
 
 -- Item 8: nothing applied. No cleaning is under way, and no own slot was found Posted, or the try found a holder.
 pub record Idles (refused : Bool) (p : Place) (m : ℕ) (a b : Moment) : Type 0 where
@@ -342,12 +401,14 @@ pub record Idles (refused : Bool) (p : Place) (m : ℕ) (a b : Moment) : Type 0 
   pub before : PassesItems m a SLOTS mid
   pub post : PassesPost refused a.worker
   pub mail : PassesMail p m a.worker before.looked.looks
-  pub clean : under_way a.worker ≡ Nothing
+  pub ready : Worker
+  pub sending : PassesSending p m a.worker ready before.looked.looks
+  pub clean : under_way ready ≡ Nothing
   pub lock : ((FindsPosted a.worker.places.items before.looked.found SLOTS → ⊥) × (b.view ≡ mid))
       ⊎ (FindsPosted a.worker.places.items before.looked.found SLOTS
       × ((h : ℕ) × (h ≢ m) × (b.view ≡ after_find (Holder h) mid)))
   pub free : LeadsNothing b.worker
-  pub same : SameButLeading a.worker b.worker
+  pub same : SameButLeading ready b.worker
 
 -- item 2 was done, or failed and stopped the core
 abbrev pub PersistsOrLoses : Bool → ℕ → Moment → Moment → Type 0

@@ -7,6 +7,8 @@ ghost use Rattle.batch_leader.specs.TurnSteps.{TurnSteps, trail_with};
 ghost use Rattle.core_worker.specs.declared.types.Cleaning.TheVariants.{Copying, Doomed};
 ghost use Rattle.core_worker.specs.Left.{HasOffer, Lowers, MeasuresTurn, StartsFirst};
 ghost use Rattle.core_worker.specs.Mails.{PassesMail};
+ghost use Rattle.core_worker.specs.Readying.{PassesSending};
+ghost use Rattle.core_worker.specs.declared.worker.Worker.{Worker};
 ghost use Rattle.core_worker.specs.Resting.{IfIdleTurn, TriedIf};
 ghost use Rattle.core_worker.specs.Supplies.{under_way};
 ghost use Rattle.core_worker.specs.Ties.{HoldsAt, StandsAt, LeadsNothing};
@@ -29,19 +31,21 @@ impl Worker {
         requires stands { StandsAt (R.state region.now) (B.seat board.old)
             (B.view board.old) self.old }
         requires order { InOrderAt (B.seat board.old) (B.view board.old) self.old }
-        requires copies { (first : Bool) × (under_way self.old ≡ Copying victim.now first) }
+        requires copied { (first : Bool) × (under_way self.old ≡ Copying victim.now first)
+            × (victim.now.entries ≡ 0) }
         ensures seat { B.seat board.new ≡ B.seat board.old }
         ensures keeps { KeepsTurn (B.seat board.old) (R.state region.now) (R.state region.now)
             (B.whole board.old) (B.whole board.new) (B.view board.old) (B.view board.new)
             self.old self.new }
-        ensures did { (refused : Bool) (before : Option Group) (v : View)
-            → PassesPost refused self.old
-            → (passes : PassesItems (B.seat board.old).number (at_entry self.old v) SLOTS
+        ensures did { (refused : Bool) (before : Option Group) (v : View) (w : Worker)
+            → PassesPost refused w
+            → (passes : PassesItems (B.seat board.old).number (at_entry w v) SLOTS
             (B.view board.old))
-            → PassesMail (B.seat board.old).place (B.seat board.old).number self.old
+            → PassesMail (B.seat board.old).place (B.seat board.old).number w passes.looked.looks
+            → PassesSending (B.seat board.old).place (B.seat board.old).number w self.old
             passes.looked.looks
             → Did (R.state region.now) (R.state region.now) refused before (B.seat board.old)
-            (at_entry self.old v) (at_entry self.new (B.view board.new)) }
+            (at_entry w v) (at_entry self.new (B.view board.new)) }
         ensures less { Lowers (B.whole board.old) (B.whole board.new) self.old self.new }
         ensures starts { StartsFirst self.new }
         ensures works { self.new.winds_down ≡ self.old.winds_down }
@@ -83,14 +87,15 @@ impl Worker {
         ensures keeps { KeepsTurn (B.seat board.old) (R.state region.old) (R.state region.new)
             (B.whole board.old) (B.whole board.new) (B.view board.old) (B.view board.new)
             self.old self.new }
-        ensures did { (refused : Bool) (before : Option Group) (v : View)
-            → PassesPost refused self.old
-            → (passes : PassesItems (B.seat board.old).number (at_entry self.old v) SLOTS
+        ensures did { (refused : Bool) (before : Option Group) (v : View) (w : Worker)
+            → PassesPost refused w
+            → (passes : PassesItems (B.seat board.old).number (at_entry w v) SLOTS
             (B.view board.old))
-            → PassesMail (B.seat board.old).place (B.seat board.old).number self.old
+            → PassesMail (B.seat board.old).place (B.seat board.old).number w passes.looked.looks
+            → PassesSending (B.seat board.old).place (B.seat board.old).number w self.old
             passes.looked.looks
             → Did (R.state region.old) (R.state region.new) refused before (B.seat board.old)
-            (at_entry self.old v) (at_entry self.new (B.view board.new)) }
+            (at_entry w v) (at_entry self.new (B.view board.new)) }
         ensures less { Lowers (B.whole board.old) (B.whole board.new) self.old self.new }
         ensures starts { StartsFirst self.new }
         ensures works { self.new.winds_down ≡ self.old.winds_down }
@@ -145,13 +150,14 @@ impl Worker {
         ensures keeps { KeepsTurn (B.seat board.old) (R.state region.old) (R.state region.new)
             (B.whole board.old) (B.whole board.new) (B.view board.old) (B.view board.new)
             self.old self.new }
-        ensures turned { (refused : Bool) (before : Option Group) (v : View)
-            → PassesPost refused self.old
-            → (tells : Tells posted (B.seat board.old).number self.old v (B.view board.old))
-            → PassesMail (B.seat board.old).place (B.seat board.old).number self.old
+        ensures turned { (refused : Bool) (before : Option Group) (v : View) (w : Worker)
+            → PassesPost refused w
+            → (tells : Tells posted (B.seat board.old).number w v (B.view board.old))
+            → PassesMail (B.seat board.old).place (B.seat board.old).number w tells.0.looked.looks
+            → PassesSending (B.seat board.old).place (B.seat board.old).number w self.old
             tells.0.looked.looks
             → Turned result (R.state region.old) (R.state region.new) refused before
-            (B.seat board.old) (at_entry self.old v) (at_entry self.new (B.view board.new)) }
+            (B.seat board.old) (at_entry w v) (at_entry self.new (B.view board.new)) }
         ensures less { (posted ≡ true → HasOffer (B.whole board.old) (B.seat board.old).number)
             → MeasuresTurn result (B.whole board.old) (B.whole board.new) self.old self.new }
         ensures starts { StartsFirst self.new }
@@ -167,9 +173,12 @@ impl Worker {
             Cleaning::Nothing => {
                 return self.serve_lock(board, posted);
             }
-            // No turn makes copies yet: none are left to be made.
-            Cleaning::Copying { victim, .. } => {
-                self.doom(&*region, board, &victim);
+            Cleaning::Copying { victim, first } => {
+                if victim.entries == 0 {
+                    self.doom(&*region, board, &victim);
+                    return Turn::Moved;
+                }
+                self.copy(region, board, victim, first);
                 return Turn::Moved;
             }
             Cleaning::Doomed { .. } => {

@@ -17,9 +17,9 @@ ghost use Rattle.core_worker.specs.Ties.{Holds, Stands};
 ghost use Rattle.core_worker.specs.Turns.{Steps};
 ghost use Rattle.core_worker.specs.WorkerMoves.{hands_of, WorkerMoves};
 
-/// What a worker has of all its keys, by its ties and once all that waits is told; and what the end of a cleaning leaves: the worker's ties, what it
-/// keeps in order, its ties to the region and the room rule. To whoever runs several workers it is a move that answers
-/// nothing.
+/// What a worker has of all its keys, by its ties and once all that waits is told; and what the end of a cleaning
+/// leaves: the worker's ties, what it keeps in order, its ties to the region and the room rule. To whoever runs several
+/// workers it is a move that answers nothing.
 pub fn every_end()
     ensures knows { (p : PlaceOf) (m : ℕ) (v : View) (w : Worker) → Holds p m v w → InOrder p m v w
         → w.stopped ≡ false → KnowsAll p m (as_told w v) w.places.items w.index }

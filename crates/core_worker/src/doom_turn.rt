@@ -1,17 +1,27 @@
 // The turn that dooms the names that vanish with a cleaned chunk.
-ghost use Rattle.std.specs.Prelude.{◌≡◌, ℕ, ◌≤◌, ◌<◌, true, [], ◌∷◌, length, is_some, vec_capacity};
-ghost use Rattle.pm_region.specs.State.{IsTelling};
+ghost use Rattle.std.specs.Prelude.{◌≡◌, ℕ, ◌≤◌, ◌<◌, true, [], ◌∷◌, length, is_some, vec_capacity, Option};
+ghost use Rattle.pm_region.specs.State.{State, IsTelling};
 ghost use Rattle.core_log.specs.Log.{StandsIn, tail_of};
 ghost use Rattle.core_log.specs.Walking.{entries_in};
-ghost use Rattle.group_laws.specs.Places.{IsPlace, members, core_of};
+ghost use Rattle.group_laws.specs.Places.{Place as PlaceOf, IsPlace, members, core_of};
+ghost use Rattle.group_laws.specs.State.{Group};
+ghost use Rattle.group_laws.specs.MemberViews.{View};
+ghost use Rattle.group_board.specs.Seats.{SeatAt};
 ghost use Rattle.group_laws.specs.Runs as runs;
 ghost use Rattle.group_board.specs.Told.{Makes};
 ghost use Rattle.group_board.specs.Trails.{step_with};
 ghost use Rattle.group_board.specs.Views.{after_doom};
 ghost use Rattle.log_standing.specs.NameCounts.{is_told};
 ghost use Rattle.log_cleaner.specs.Clearing.{IsFresh, AreLone, AreNoted, IsGathered};
+ghost use Rattle.core_worker.specs.declared.worker.Worker.{Worker};
+ghost use Rattle.core_worker.specs.DoomsNames.{DoomsIn};
 ghost use Rattle.core_worker.specs.GoneMail.{names_of};
+ghost use Rattle.core_worker.specs.Left.{left};
 ghost use Rattle.core_worker.specs.LogNames.{AreOwnOf};
+ghost use Rattle.core_worker.specs.Order.{InOrder};
+ghost use Rattle.core_worker.specs.Ties.{Holds, HoldsAt, StandsAt};
+ghost use Rattle.core_worker.specs.Turning.{KeepsTurn};
+ghost use Rattle.core_worker.specs.Turns.{InOrderAt, Steps};
 
 use crate::cleaning_parts::doom_names;
 use chunk_map::Layout;
@@ -82,3 +92,14 @@ pub(crate) fn doom_chunk<R: Region, B: Board>(
     doom_names(region, board, log, standing, clearing);
     own_names(layout, core, clearing.doomed_of(), own);
 }
+
+/// What the doom of a cleaned chunk's names leaves: all that a turn keeps, as a move that answers nothing; and less is
+/// left to do.
+pub fn every_doom()
+    ensures keeps { (seat : SeatAt) (s : State) (before after : Option Group) (v u : View)
+        (w x : Worker) → HoldsAt seat v w → StandsAt s seat v w → InOrderAt seat v w
+        → DoomsIn s seat.place seat.number v u w x → Steps before after seat.number u
+        → KeepsTurn seat s s before after v u w x }
+    ensures less { (s : State) (p : PlaceOf) (m : ℕ) (v u : View) (w x : Worker) → Holds p m v w
+        → InOrder p m v w → DoomsIn s p m v u w x → left x < left w }
+{}

@@ -39,7 +39,7 @@ use pm_region::Region;
 use std::mem;
 
 // The lowest free chunk, where one is needed.
-fn chunk_for(allocator: &mut Allocator, needed: bool) -> Option<u32>
+pub(crate) fn chunk_for(allocator: &mut Allocator, needed: bool) -> Option<u32>
     requires { AreSets allocator.old }
     ensures takes { TakesFor needed allocator.old allocator.new result }
     ensures sets { AreSets allocator.new }

@@ -13,6 +13,7 @@ ghost use Rattle.core_worker.specs.Outbox.{HasSpare, TellsNothing};
 ghost use Rattle.core_worker.specs.Openings.{IsNew, IsCertainAt, ByEachImage, opened_view};
 
 use crate::batch_names::MOST_NAMES;
+use crate::copy_buffer::CopyBuffer;
 use crate::hearing::hear_own;
 use crate::types::{Cleaning, Leading, Place};
 use crate::worker::Worker;
@@ -22,7 +23,6 @@ use conflict_queue::ConflictQueue;
 use fs_errors::Memory;
 use group_board::{Names, Notices};
 use group_laws::group_sizes::SLOTS;
-use log_entry::{MOST_BATCH_WORDS, WordBuffer};
 use recover::CoreStart;
 use std::alloc::Global;
 use std::collections::VecDeque;
@@ -71,7 +71,7 @@ impl Worker {
         let queue = ConflictQueue::open(alloc)?;
         let places = free_places(alloc)?;
         let buffer = BatchBuffer::open(alloc)?;
-        let copies = WordBuffer::with_room(alloc, MOST_BATCH_WORDS)?;
+        let copies = CopyBuffer::open(alloc)?;
         let notices = no_notices(alloc, layout.group())?;
         Ok(Worker {
             layout,

@@ -1,6 +1,9 @@
-use Rattle.std.proofs.Common.{◌≡◌, ℕ, ◌+◌, ◌≤◌, List, ◌++◌, length, Option, Some, None, refl, sym, ◌∙◌, ap, arith, append-nil}
-use Rattle.pm_region.specs.Words.{lines_for}
-use Rattle.pm_region.proofs.Clients.{at_exit}
+use Rattle.std.proofs.Common.{◌≡◌, ℕ, zero, suc, ◌+◌, ◌<◌, List, ◌++◌, Option, Some, None, refl, sym, ◌∙◌, ap, arith, append-nil}
+use Rattle.std.specs.Prelude.{IfSome}
+use Rattle.pm_region.specs.State.{IsTelling, cell_now}
+use Rattle.pm_region.specs.Words.{KeepsOutside}
+use Rattle.pm_region.proofs.Clients.{at_exit, told_at_entry}
+use Rattle.chunk_map.specs.Layouts.{chunk_words}
 use Rattle.log_entry.specs.declared.entry.Entry.{Entry}
 use Rattle.group_laws.specs.MemberViews.{View}
 use Rattle.licence.specs.Licence.{Licensed}
@@ -10,11 +13,21 @@ use Rattle.log_cleaner.specs.CopyBatch.{batch_in, copies_in}
 use Rattle.log_cleaner.proofs.Licences.{copies_licensed, copies_outside}
 use Rattle.log_cleaner.proofs.Tallies.{words_long, batch_within}
 use Rattle.core_log.specs.Chunk.{padded}
-use Rattle.core_log.specs.Log.{LogState, room_of, lines_left}
+use Rattle.core_log.specs.Log.{LogState, open_first}
+use Rattle.log_standing.specs.declared.types.Settled.{Settled}
 use Rattle.core_log.specs.Walking.{entries_in}
-use Rattle.core_worker.specs.Turns.{appended_to}
-use Rattle.core_worker.proofs.BatchRoom.{room_appended}
+use Rattle.core_worker.specs.TakenChunks.{appended_to}
+use Rattle.core_worker.specs.CopyTurns.{copied_to}
 use Rattle.core_worker.proofs.copy_turn.copy_on.Goals as goal
+
+-- the log by what the call says of none, and of some
+copied_by : (n : ℕ) (log log' : LogState) (ws : List ℕ) → (n ≡ 0 → log' ≡ log) → (0 < n → log' ≡ appended_to log (padded ws)) → log' ≡ copied_to n log ws
+copied_by zero log log' ws none some = none refl
+copied_by (suc n) log log' ws none some = some (omega arith)
+
+read_at : (j : ℕ) (o : Option Settled) → IfSome o (λ h. h.chunk ≡ j) → (h : Settled) → o ≡ Some h → h.chunk ≡ j
+read_at j None is h at = absurd (cc at)
+read_at j (Some x) is h at = let same : x ≡ h = cc at in ap (λ (y : Settled). y.chunk) (sym same) ∙ is
 
 pub copy_live-requires-clause-room : goal.copy_live-requires-clause-room
 copy_live-requires-clause-room g c telling =
@@ -51,28 +64,40 @@ returns-in-Ok-clause-exit g c telling image may =
     } in
     allowed p m v u image allows (at_exit s t (Licensed p m v) (returns-in-Ok-clause-moments g c) telling image may)
 
-pub returns-in-Ok-clause-lines : goal.returns-in-Ok-clause-lines
-returns-in-Ok-clause-lines g c some =
+pub returns-in-Ok-clause-chunk : goal.returns-in-Ok-clause-chunk
+returns-in-Ok-clause-chunk g c = c.copy_live.ensures.moments.outside
+
+pub returns-in-Ok-clause-copies : goal.returns-in-Ok-clause-copies
+returns-in-Ok-clause-copies g c = record {
+  few = c.in-Ok.ensures.within.1;
+  within = c.in-Ok.ensures.within.0;
+  short = c.in-Ok.ensures.within.2;
+  some = c.in-Ok.ensures.some;
+  log_is = copied_by c.in-Ok.count c.args.log.now c.copy_live.new.log c.copy_live.new.buffer.words (λ none. (c.in-Ok.ensures.nothing none).1) c.in-Ok.ensures.log;
+  names = c.copy_live.ensures.names;
+  read = λ h at. read_at c.args.victim.now.chunk c.copy_live.new.standing.settled c.copy_live.ensures.read h at;
+}
+
+pub returns-in-Ok-clause-tells : goal.returns-in-Ok-clause-tells
+returns-in-Ok-clause-tells g c =
+    let s = g.R.Region.state c.args.region.now in
+    let t = g.R.Region.state c.copy_live.new.region in
     let log = c.args.log.now in
-    let ws = c.copy_live.new.buffer.words in
-    let within : length ws ≤ c.args.victim.now.words = c.in-Ok.ensures.within.2 some in
-    let fits : lines_for c.args.victim.now.words ≤ room_of log = c.requires.fits in
-    let few : lines_for (length ws) ≤ room_of log = omega (arith, within, fits) in
-    let is : c.copy_live.new.log ≡ appended_to log (padded ws) = c.in-Ok.ensures.log some in
-    let room = by_open log ws few log.opened refl in
-    ap (λ (n : ℕ). n + lines_for (length ws)) (ap room_of is) ∙ room where
-      by_open : (log : LogState) (ws : List ℕ) → lines_for (length ws) ≤ room_of log → (o : Option ℕ) → log.opened ≡ o → room_of (appended_to log (padded ws)) + lines_for (length ws) ≡ room_of log
-      by_open log ws few None none =
-          let old : room_of log ≡ 0 = ap (lines_left log) none in
-          let new : room_of (appended_to log (padded ws)) ≡ 0 = ap (lines_left (appended_to log (padded ws))) none in
-          omega (arith, old, new, few)
-      by_open log ws few (Some j) some =
-          let less = room_appended log ws j some in
-          omega (arith, less, few)
+    let told : IsTelling t → IsTelling s = told_at_entry s t (KeepsOutside (cell_now s) (open_first log) (open_first log + chunk_words log.layout)) c.copy_live.ensures.moments.outside in
+    record {
+      stands = c.in-Ok.ensures.ok.stands;
+      counted = c.in-Ok.ensures.ok.standing;
+      chunk = c.in-Ok.ensures.ok.chunk;
+      batch = λ telling. c.in-Ok.ensures.batch (told telling);
+      less = λ telling. c.in-Ok.ensures.ok.less (told telling);
+    }
 
 pub returns-in-Err-clause-moments : goal.returns-in-Err-clause-moments
 returns-in-Err-clause-moments g c = let s = g.R.Region.state c.args.region.now in copies_licensed s (g.R.Region.state c.copy_live.new.region) (g.B.Board.seat c.args.board.now).place (g.B.Board.seat c.args.board.now).number (g.B.Board.view c.args.board.now) c.args.log.now
     c.requires.begins (copies_in s c.args.log.now c.args.standing.now c.args.victim.now.chunk) c.copy_live.ensures.moments
+
+pub returns-in-Err-clause-chunk : goal.returns-in-Err-clause-chunk
+returns-in-Err-clause-chunk g c = c.copy_live.ensures.moments.outside
 
 pub returns-in-Err-clause-outside : goal.returns-in-Err-clause-outside
 returns-in-Err-clause-outside g c = let s = g.R.Region.state c.args.region.now in copies_outside s (g.R.Region.state c.copy_live.new.region) (g.B.Board.seat c.args.board.now).place (g.B.Board.seat c.args.board.now).number (g.B.Board.view c.args.board.now) c.args.log.now

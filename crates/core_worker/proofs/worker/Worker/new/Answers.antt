@@ -24,7 +24,7 @@ returns c =
       cleaning = refl;
       clearing = refl;
       last_victim = refl;
-      buffer = (let room = c.in_ok-copies.ensures.room in omega (arith, room));
+      buffer = c.in_ok-copies.copies.room;
       members = c.in_ok-notices.ensures.count ∙ c.group.ensures;
       outbox = c.in_ok-notices.ensures.none;
       spare = c.in_ok-notices.ensures.spare;

@@ -5,8 +5,8 @@ use Rattle.core_worker.proofs.worker.Worker.serve_cleaning.Goals as goal
 pub serve_lock-requires-clause-clean : goal.serve_lock-requires-clause-clean
 serve_lock-requires-clause-clean g c = sym c.under_way.ensures ∙ c.in-Nothing.is
 
-pub doom-requires-clause-copies : goal.doom-requires-clause-copies
-doom-requires-clause-copies g c = (_, sym c.under_way.ensures ∙ c.in-Copying.is)
+pub doom-requires-clause-copied : goal.doom-requires-clause-copied
+doom-requires-clause-copied g c = (_, sym c.under_way.ensures ∙ c.in-Copying.is, c.if-victim-eq0.true)
 
 pub end_clean-requires-clause-dooms : goal.end_clean-requires-clause-dooms
 end_clean-requires-clause-dooms g c = (_, sym c.under_way.ensures ∙ c.in-Doomed.is)
@@ -15,19 +15,28 @@ pub returns-in-Nothing-clause-keeps : goal.returns-in-Nothing-clause-keeps
 returns-in-Nothing-clause-keeps g c = c.serve_lock.ensures.keeps (g.R.Region.state c.args.region.now) c.requires.stands
 
 pub returns-in-Nothing-clause-turned : goal.returns-in-Nothing-clause-turned
-returns-in-Nothing-clause-turned g c refused before v passed tells mail = c.serve_lock.ensures.turned (g.R.Region.state c.args.region.now) refused before v passed tells mail
+returns-in-Nothing-clause-turned g c refused before v w passed tells mail sending = c.serve_lock.ensures.turned (g.R.Region.state c.args.region.now) refused before v w passed tells mail sending
 
 pub returns-in-Nothing-clause-steps : goal.returns-in-Nothing-clause-steps
 returns-in-Nothing-clause-steps g c passes = c.serve_lock.ensures.steps passes (g.R.Region.state c.args.region.now)
 
 pub returns-in-Doomed-clause-turned : goal.returns-in-Doomed-clause-turned
-returns-in-Doomed-clause-turned g c refused before v passed tells mail = c.end_clean.ensures.did refused before v passed tells.0 mail
+returns-in-Doomed-clause-turned g c refused before v w passed tells mail sending = c.end_clean.ensures.did refused before v w passed tells.0 mail sending
 
 pub returns-in-Doomed-clause-less : goal.returns-in-Doomed-clause-less
 returns-in-Doomed-clause-less g c offer = c.end_clean.ensures.less
 
+pub copy-requires-clause-way : goal.copy-requires-clause-way
+copy-requires-clause-way g c = sym c.under_way.ensures ∙ c.in-Copying.is
+
+pub returns-then-victim-eq0-clause-turned : goal.returns-then-victim-eq0-clause-turned
+returns-then-victim-eq0-clause-turned g c refused before v w passed tells mail sending = c.doom.ensures.did refused before v w passed tells.0 mail sending
+
+pub returns-then-victim-eq0-clause-less : goal.returns-then-victim-eq0-clause-less
+returns-then-victim-eq0-clause-less g c offer = c.doom.ensures.less
+
 pub returns-in-Copying-clause-turned : goal.returns-in-Copying-clause-turned
-returns-in-Copying-clause-turned g c refused before v passed tells mail = c.doom.ensures.did refused before v passed tells.0 mail
+returns-in-Copying-clause-turned g c refused before v w passed tells mail sending = c.copy.ensures.did refused before v w passed tells.0 mail sending
 
 pub returns-in-Copying-clause-less : goal.returns-in-Copying-clause-less
-returns-in-Copying-clause-less g c offer = c.doom.ensures.less
+returns-in-Copying-clause-less g c offer = c.copy.ensures.less
