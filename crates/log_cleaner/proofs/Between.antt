@@ -8,12 +8,14 @@ use Rattle.log_entry.specs.declared.entry.Entry.{Entry}
 use Rattle.log_entry.specs.Spelling.{words_of}
 use Rattle.core_log.specs.Log.{LogState}
 use Rattle.log_standing.specs.declared.types.Copies.{Copies}
-use Rattle.log_standing.specs.NameCounts.{StandingState, name_eq, copies_at, count_in, told_in, count_of, is_told, killed, Changes, bit}
+use Rattle.log_standing.specs.NameCounts.{StandingState, name_eq, copies_at, count_in, told_in, count_of, is_told, killed, tally_without, fewest_without, Changes, bit}
 use Rattle.log_standing.specs.ChunkCounts.{is_named, has_name, IsStandingOf}
 use Rattle.core_log.specs.Walking.{entries_in, behind}
 use Rattle.log_cleaner.specs.Copying.{awaits, left_to_copy, words_sum, IsSettledIn, IsUpToDate}
 use Rattle.log_cleaner.specs.Clearing.{ClearingState, is_doomed, IsGathered}
-use Rattle.log_standing.proofs.Clients.{same_name}
+use Rattle.log_cleaner.specs.Tallied.{KeepsTally}
+use Rattle.log_standing.proofs.Clients.{name_same, same_name}
+use Rattle.log_cleaner.proofs.TallyLaws.{wanted_no_more}
 use Rattle.log_cleaner.proofs.Batches.{name_sym, differs, filter_same, filter_both, and_false, and_true}
 use Rattle.log_cleaner.proofs.LessLaws.{sum_filter, sum_ones}
 use Rattle.log_cleaner.proofs.Parts.{name_in}
@@ -79,6 +81,11 @@ module _ (old new : StandingState) (k v : ℕ) (changes : Changes old new k v (o
 
   pub kill_up : (s : State) (log : LogState) → new.settled ≡ old.settled → IsUpToDate s log old → IsUpToDate s log new
   kill_up s log same up = record { counts = kill_standing s log up.counts; settled = kill_settled s log same up.settled }
+
+  -- what is counted of a chunk stays so
+  pub kill_tally : new.tally ≡ tally_without old k v → new.fewest ≡ fewest_without old k v → KeepsTally old new
+  kill_tally = wanted_no_more old new k v (option_map killed (copies_at old k v)) changes
+      (ap (λ (o : Option Copies). count_in o == 1 && not (told_in o)) (changes k v ∙ cond-true (name_eq (k, v) (k, v)) (option_map killed (copies_at old k v)) (copies_at old k v) (name_same k v)) ∙ killed_awaits (copies_at old k v))
 
   -- what was gathered stays so
   pub kill_gathered : (es : List (ℕ × Entry)) (c : ClearingState) → left_to_copy old es ≡ [] → IsGathered old es c → IsGathered new es c

@@ -1,13 +1,16 @@
 -- The first eligible chunk in cyclic order.
-use Rattle.std.proofs.Common.{◌≡◌, inl, inr, ⊎_elim, ℕ, ◌+◌, ◌≤◌, ◌<◌, true, Option, Some, None, is_some, refl, arith}
-use Rattle.std.proofs.lemmas.Bool.{cases_lt}
+use Rattle.std.proofs.Common.{◌≡◌, inl, inr, ⊎_elim, ℕ, ◌+◌, ◌*◌, ◌≤◌, ◌<◌, ◌||◌, Bool, true, false, Option, Some, None, is_some, refl, sym, ◌∙◌, ap, subst, arith}
+use Rattle.std.specs.Prelude.{nat_le}
+use Rattle.std.proofs.lemmas.Bool.{and_from, and_parts, cases_lt, le-leb, leb-true}
 use Rattle.pm_region.specs.State.{State}
 use Rattle.chunk_map.proofs.Clients.{numbers_of, chunk_words_whole, payload_of}
 use Rattle.core_log.specs.declared.types.Room.{Room}
 use Rattle.core_log.specs.Log.{LogState, StandsIn, tail_of, tail_in}
 use Rattle.log_cleaner.specs.declared.types.Victim.{Victim}
 use Rattle.log_standing.specs.NameCounts.{StandingState}
-use Rattle.log_cleaner.specs.Choosing.{IsEligible, Comes, IsVictim, IsFirstIn}
+use Rattle.log_cleaner.specs.Choosing.{copy_lines, has_room, IsEligible, Comes, IsVictim, IsFirstIn}
+use Rattle.log_cleaner.specs.Copying.{to_copy}
+use Rattle.log_cleaner.specs.Tallied.{HasFewest, IsAtMost}
 use Rattle.log_cleaner.proofs.Parts.{chunk_of}
 
 pub tail_small : (s : State) (log : LogState) (j : ℕ) → StandsIn s log → is_some (tail_of log.chunks j) ≡ true → tail_in log j ≤ 524288
@@ -59,3 +62,36 @@ chosen_next s log st after room begin (Some v) stands b none is = (
       (λ lt. comes_next after begin v.chunk b is.2.1 i lt (is.3 i (omega arith) lt eligible))
       (λ ge. absurd (none i ge (eligible_small s log st room i stands eligible) eligible)) (cases_lt i begin),
 )
+
+more_room : (room : Room) (fewest lines : ℕ) → fewest ≤ lines → has_room room lines ≡ true → has_room room fewest ≡ true
+more_room room fewest lines le has =
+    let parts = and_parts (nat_le (3 * lines) room.payload_lines) (nat_le (room.pledged_lines + lines) room.open_lines || nat_le 1 room.free_chunks) has in
+    let third = leb-true (3 * lines) room.payload_lines parts.0 in
+    and_from (nat_le (3 * fewest) room.payload_lines) (nat_le (room.pledged_lines + fewest) room.open_lines || nat_le 1 room.free_chunks)
+    (le-leb (3 * fewest) room.payload_lines (omega (arith, third, le)))
+    (elim (nat_le (room.pledged_lines + lines) room.open_lines) as (λ b. nat_le (room.pledged_lines + lines) room.open_lines ≡ b → (b || nat_le 1 room.free_chunks) ≡ true → (nat_le (room.pledged_lines + fewest) room.open_lines || nat_le 1 room.free_chunks) ≡ true) [
+      | true ↦ λ is or. let fit = leb-true (room.pledged_lines + lines) room.open_lines is in ap (λ (b : Bool). b || nat_le 1 room.free_chunks) (le-leb (room.pledged_lines + fewest) room.open_lines (omega (arith, fit, le)))
+      | false ↦ λ isnt free. or_second (nat_le (room.pledged_lines + fewest) room.open_lines) (nat_le 1 room.free_chunks) free
+    ] refl parts.1)
+  where
+    or_second : (a b : Bool) → b ≡ true → (a || b) ≡ true
+    or_second true b is = refl
+    or_second false b is = is
+
+-- no chunk is eligible where there is no room for the fewest lines of any
+pub none_chosen : (s : State) (log : LogState) (st : StandingState) (room : Room) → HasFewest s log st → has_room room st.fewest ≡ false → (i : ℕ) → IsEligible s log st room i → ⊥
+none_chosen s log st room few none i is =
+    let le = few i is.has (λ at. is.closed at) in
+    absurd (cc (sym none ∙ more_room room st.fewest (copy_lines (to_copy s log st i)) le is.fitting))
+
+-- the fewest lines of all closed chunks are noted
+pub fewest_noted : (s : State) (log : LogState) (old new : StandingState) (begin first last : ℕ) → StandsIn s log → new ≡ record old { fewest = last } → last ≤ first
+    → ((i : ℕ) → begin ≤ i → i < 64 → IsAtMost s log old first i) → ((i : ℕ) → 0 ≤ i → i < begin → IsAtMost s log old last i) → HasFewest s log new
+fewest_noted s log old new begin first last stands is le high low = subst (λ (st : StandingState). HasFewest s log st) (sym is) (λ j has closed. ⊎_elim
+    (λ (lt : j < begin). low j (omega arith) lt has closed)
+    (λ (ge : begin ≤ j).
+    let within = (chunk_of s log stands j has).within in
+    let most = (numbers_of log.layout stands.own.layout).chunks_high in
+    let lines = high j ge (omega (arith, within, most)) has closed in
+    omega (arith, lines, le))
+    (cases_lt j begin))

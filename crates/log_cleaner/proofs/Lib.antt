@@ -14,3 +14,4 @@ pub mod AppendLaws
 pub mod Added
 pub mod Opened
 pub mod Tallies
+mod TallyLaws

@@ -13,10 +13,13 @@ use Rattle.log_cleaner.specs.Copying.{to_copy}
 abbrev pub copy_lines : Victim → ℕ
 copy_lines v = lines_for v.words + (v.entries + (MOST_ENTRIES - 1)) / MOST_ENTRIES
 
--- The copies are a third of a payload at most, and there is room for them besides what is promised. No cleaning is under way, so what is promised is to own changes.
+-- Copies of so many lines are a third of a payload at most, and there is room for them besides what is promised. No cleaning is under way, so what is promised is to own changes.
+abbrev pub has_room : Room → ℕ → Bool
+has_room room lines = nat_le (3 * lines) room.payload_lines
+    && (nat_le (room.pledged_lines + lines) room.open_lines || nat_le 1 room.free_chunks)
+
 abbrev pub fits : Room → Victim → Bool
-fits room v = nat_le (3 * copy_lines v) room.payload_lines
-    && (nat_le (room.pledged_lines + copy_lines v) room.open_lines || nat_le 1 room.free_chunks)
+fits room v = has_room room (copy_lines v)
 
 -- a chunk of the log that isn't the open one and whose copies fit
 pub record IsEligible (s : State) (log : LogState) (st : StandingState) (room : Room) (j : ℕ) :

@@ -1,5 +1,5 @@
 -- The next batch of a chunk's copies.
-use Rattle.std.specs.Prelude.{◌≡◌, ◌≢◌, ℕ, ◌+◌, ◌-◌, ◌≤◌, ◌<◌, not, List, [], ◌∷◌, map, length, take, Some, if◌then◌else◌}
+use Rattle.std.specs.Prelude.{◌≡◌, ◌≢◌, ℕ, ◌+◌, ◌-◌, ◌≤◌, ◌<◌, not, List, [], ◌∷◌, map, length, take, Option, Some, None, if◌then◌else◌}
 use Rattle.std.specs.List.{filter, flat_map, AllByRecursion}
 use Rattle.pm_region.specs.Words.{lines_for}
 use Rattle.pm_region.specs.State.{State, IsTelling}
@@ -88,6 +88,11 @@ pub record IsBatchOf (s : State) (log : LogState) (st : StandingState) (j n : �
   pub count : n ≡ length (batch_in s log st j)
   pub words : ws ≡ flat_map words_of (copies_in s log st j)
   pub none : n ≡ 0 → left_to_copy st (entries_in s log j) ≡ []
+
+-- how many entries were copied: none where no number was given
+abbrev pub copied_in : Option ℕ → ℕ
+copied_in None = 0
+copied_in (Some n) = n
 
 -- After a batch of copies. No other tail moved than the open chunk's, each name of the batch has one copy more, the entries of the victim's chunk stay, and what is left of them is less.
 pub record HasCopied (s t : State) (log log' : LogState) (old new : StandingState) (j : ℕ) :

@@ -6,6 +6,7 @@ pub mod Vanishing
 pub mod Additions
 pub mod CopyBatch
 pub mod Choosing
+pub mod Tallied
 pub use Rattle.log_entry.specs.Batches
 pub use Rattle.pm_region.specs.Cell
 pub use Rattle.core_log.specs.Chunk
@@ -17,6 +18,7 @@ pub use Rattle.licence.specs.Licence
 pub use Rattle.core_log.specs.Log
 pub use Rattle.group_laws.specs.MemberViews
 pub use Rattle.log_standing.specs.NameCounts
+pub use Rattle.log_standing.specs.Tallies
 pub use Rattle.core_log.specs.Opening
 pub use Rattle.store_image.specs.Parts
 pub use Rattle.group_laws.specs.Places

@@ -18,8 +18,8 @@ use pm_region::{Region, RegionFault};
 use std::alloc::Global;
 use std::marker::Model;
 
-// How many entries a chunk has.
-fn entry_count<R: Region>(region: &R, log: &CoreLog, chunk: u32) -> u64
+/// How many entries a chunk has.
+pub(crate) fn entry_count<R: Region>(region: &R, log: &CoreLog, chunk: u32) -> u64
     requires stands { StandsIn (R.state region.now) log.now }
     requires has { is_some (tail_of log.now.chunks chunk) ≡ true }
     ensures { IsTelling (R.state region.now)
@@ -224,6 +224,7 @@ impl Clearing {
             standing.old standing.new self) }
         ensures kept { OnErr result ((log.new ≡ log.old) × (standing.new ≡ standing.old)) }
         ensures read { OnOk result (standing.new.settled ≡ None) }
+        ensures counted { OnOk result ((standing.new.tally ≡ None) × (standing.new.fewest ≡ 0)) }
         ensures count { OnOk result (length standing.new.entries
             + lone_in standing.old self.names ≤ length standing.old.entries) }
         ensures room { OnOk result (standing.new.room ≡ standing.old.room) }
@@ -239,7 +240,7 @@ impl Clearing {
         } = self;
         log.retire(region, chunk)?;
         drop_all(standing, &names);
-        standing.settle(None);
+        standing.forget();
         Ok(Cleared {
             chunk,
             gone: doomed,

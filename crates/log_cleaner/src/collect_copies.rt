@@ -8,6 +8,7 @@ ghost use Rattle.core_log.specs.Walking.{IsReadable, entries_in, behind};
 ghost use Rattle.log_standing.specs.NameCounts.{copies_at, one_more, Changes, SameCopies, wants};
 ghost use Rattle.log_cleaner.specs.Copying.{IsSettled, IsSettledIn, IsUpToDate, begins, left_to_copy};
 ghost use Rattle.log_cleaner.specs.CopyBatch.{Collected, KeepsNames, batch_in};
+ghost use Rattle.log_cleaner.specs.Tallied.{KeepsTally};
 
 use crate::reading_start::begin_at;
 use core_log::{CoreLog, Peek};
@@ -54,6 +55,7 @@ fn take_in<R: Region>(
     ensures room { buffer.new.room ≡ buffer.old.room }
     ensures settled { standing.new.settled ≡ standing.old.settled }
     ensures names { KeepsNames standing.old standing.new }
+    ensures tally { KeepsTally standing.old standing.new }
 {
     if !standing.wants(found.name) {
         return 0;
@@ -92,6 +94,7 @@ fn collect_from<R: Region>(
     ensures settled { IsTelling (R.state region.now) → IsSettled (R.state region.now) log.now
         standing.new (begins chunk result.1) }
     ensures names { KeepsNames standing.old standing.new }
+    ensures tally { KeepsTally standing.old standing.new }
 {
     let mut taken = 0;
     let mut place = from;
@@ -132,6 +135,7 @@ pub fn collect<R: Region>(
         standing.new }
     ensures chunk { IfSome standing.new.settled (λ h. h.chunk ≡ chunk) }
     ensures names { KeepsNames standing.old standing.new }
+    ensures tally { KeepsTally standing.old standing.new }
 {
     let from = begin_at(log, standing, chunk);
     let (taken, place) = collect_from(region, log, standing, chunk, from, buffer);

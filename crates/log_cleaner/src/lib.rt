@@ -8,11 +8,13 @@ mod collect_copies;
 mod copying;
 mod counting;
 mod reading_start;
+mod tallying;
 mod types;
 
-pub use choosing::victim;
+pub use choosing::{has_room, victim};
 pub use clearing::Clearing;
 pub use copying::copy_live;
 pub use counting::to_copy;
 pub use log_standing::Standing;
+pub use tallying::tally_of;
 pub use types::{Cleared, Victim};

@@ -40,3 +40,4 @@ IsSpelled s log = IsTelling s → (j : ℕ) → is_some (tail_of log.chunks j) �
 pub record IsUntold (st : StandingState) : Type 0 where
   pub told : (k v : ℕ) → is_told st k v ≡ false
   pub settled : st.settled ≡ None
+  pub fewest : st.fewest ≡ 0

@@ -1,3 +1,5 @@
+pub mod Names
+pub mod Tallies
 pub mod NameCounts
 pub mod NameItems
 pub mod Killing

@@ -1,19 +1,20 @@
 -- Which names stand in a log, as a finite map: of each in how many chunks, and whether it was told dead. A name is a key and a version.
-use Rattle.std.specs.Prelude.{◌≡◌, ℕ, zero, suc, ◌+◌, ◌^◌, ◌<◌, ◌≤◌, ◌&&◌, ◌==◌, nat_eq, not, Bool, true, false, List, Option, Some, None, if◌then◌else◌}
+use Rattle.std.specs.Prelude.{◌≡◌, ℕ, zero, suc, ◌+◌, ◌^◌, ◌<◌, ◌≤◌, ◌&&◌, ◌==◌, nat_eq, not, Bool, true, false, List, Option, Some, None, option_map, if◌then◌else◌}
 use Rattle.std.specs.List.{count_by}
 use Rattle.std.specs.Map.{lookup}
 use Rattle.log_entry.specs.declared.entry.EntryName.{EntryName}
 use Rattle.log_standing.specs.declared.types.Copies.{Copies}
 use Rattle.log_standing.specs.declared.types.Settled.{Settled}
+use Rattle.log_standing.specs.Tallies.{TallyState, less}
+pub use Rattle.log_standing.specs.Names.{name_eq}
 
-abbrev pub name_eq : ℕ × ℕ → ℕ × ℕ → Bool
-name_eq = λ x y. nat_eq x.0 y.0 && nat_eq x.1 y.1
-
--- The names with what they have, how many reserved places there are, and a place of a chunk up to which a cleaning has read, where one has.
+-- The names with what they have, and how many reserved places there are. For a cleaning: a place of a chunk up to which it has read, where it has; what is left of the chunk that it copies; and a number of lines that no closed chunk has fewer of to copy.
 pub record StandingState : Type 0 where
   pub entries : List ((ℕ × ℕ) × Copies)
   pub room : ℕ
   pub settled : Option Settled
+  pub tally : Option TallyState
+  pub fewest : ℕ
 
 -- what a name has; none where it doesn't stand
 abbrev pub copies_at : StandingState → ℕ → ℕ → Option Copies
@@ -45,6 +46,13 @@ living (suc n) = Some (copies_with (suc n) false)
 -- a name that wasn't told dead and stands in one chunk alone
 abbrev pub wants : StandingState → ℕ → ℕ → Bool
 wants st k v = count_of st k v == 1 && not (is_told st k v)
+
+-- what is left of the chunk that is copied, and of any closed one, once a name is wanted no more
+abbrev pub tally_without : StandingState → ℕ → ℕ → Option TallyState
+tally_without st k v = if wants st k v then option_map (less k v) st.tally else st.tally
+
+abbrev pub fewest_without : StandingState → ℕ → ℕ → ℕ
+fewest_without st k v = if wants st k v then 0 else st.fewest
 
 -- one copy more, and told dead
 abbrev pub one_more : Option Copies → Copies

@@ -101,6 +101,7 @@ pub fn standing_told<R: Region, F: Fn(EntryName) -> bool>(
     ensures told { IfOk result (λ s. (f : ℕ → ℕ → Bool) → Answers (F.post dead) f → (k v : ℕ)
         → is_told s k v ≡ (is_some (copies_at s k v) && f k v)) }
     ensures settled { IfOk result (λ s. s.settled ≡ None) }
+    ensures fewest { IfOk result (λ s. s.fewest ≡ 0) }
     ensures standing { IfOk result (λ s. IsTelling (R.state region.now)
         → IsStandingOf (R.state region.now) log.now s) }
 {

@@ -7,8 +7,10 @@ mod merging;
 mod name_item;
 mod name_table;
 mod standing_names;
+mod tally;
 mod types;
 
 pub use filling::{standing_of, standing_told};
 pub use standing_names::Standing;
-pub use types::{Copies, Settled};
+pub use tally::Tally;
+pub use types::{Amount, Copies, Settled};

@@ -1,12 +1,13 @@
 // Which entries stand in the own log.
 ghost use Rattle.std.specs.Prelude.{◌≡◌, ◌⊎◌, ℕ, ◌+◌, ◌-◌, ◌^◌, ◌<◌, ◌≤◌, ◌==◌, nat_eq, true, false, Some, None, option_map, is_some, IsSome, IsOk, OnOk, OnErr, IfOk, length, if◌then◌else◌};
-ghost use Rattle.log_standing.specs.NameCounts.{name_eq, copies_at, count_of, is_told, count_in, wants, living, one_more, killed, times_in, copies_with, Changes, SameCopies};
+ghost use Rattle.log_standing.specs.NameCounts.{name_eq, copies_at, count_of, is_told, count_in, wants, living, one_more, killed, times_in, copies_with, tally_without, fewest_without, Changes, SameCopies};
 ghost use Rattle.log_standing.specs.NameItems.{copies_among, AreSmall};
 
 use crate::logged_names::LoggedNames;
 use crate::name_item::MOST_IN_ITEM;
 use crate::name_table::NameTable;
-use crate::types::{Copies, Settled};
+use crate::tally::Tally;
+use crate::types::{Amount, Copies, Settled};
 use fs_errors::Memory;
 use log_entry::EntryName;
 use std::alloc::Global;
@@ -22,6 +23,10 @@ pub struct Standing {
     // How many places are reserved.
     room: u64,
     settled: Option<Settled>,
+    // What is left of the chunk that is copied.
+    tally: Option<Tally>,
+    // No closed chunk has fewer lines to copy.
+    fewest: u64,
 }
 
 impl Model for Standing {
@@ -29,7 +34,13 @@ impl Model for Standing {
 
     ghost Value = { StandingState };
 
-    ghost view = { λ a. record { entries = a.names.entries; room = a.room; settled = a.settled } };
+    ghost view = { λ a. record {
+      entries = a.names.entries;
+      room = a.room;
+      settled = a.settled;
+      tally = a.tally;
+      fewest = a.fewest;
+    } };
 
     ghost invariant = { λ a. IsStanding a.names.entries a.names.spare a.most a.room };
 }
@@ -57,12 +68,15 @@ impl Standing {
         requires { AreSmall table }
         ensures copies { (k v : ℕ) → copies_at result k v ≡ copies_among table k v }
         ensures settled { result.settled ≡ None }
+        ensures fewest { result.fewest ≡ 0 }
     {
         Standing {
             names: LoggedNames::of(alloc, table),
             most: MOST_IN_ITEM,
             room: 0,
             settled: None,
+            tally: None,
+            fewest: 0,
         }
     }
 
@@ -90,6 +104,8 @@ impl Standing {
         ensures room { self.old.room ≤ self.new.room }
         ensures err { OnErr result (self.new.room ≡ self.old.room) }
         ensures settled { self.new.settled ≡ self.old.settled }
+        ensures tally { self.new.tally ≡ self.old.tally }
+        ensures fewest { self.new.fewest ≡ self.old.fewest }
     {
         if more <= self.room {
             return Ok(());
@@ -110,11 +126,29 @@ impl Standing {
         ensures count { length self.new.entries ≤ length self.old.entries + 1 }
         ensures room { self.new.room + 1 ≡ self.old.room }
         ensures settled { self.new.settled ≡ self.old.settled }
+        ensures tally { self.new.tally ≡ self.old.tally }
+        ensures fewest { self.new.fewest ≡ self.old.fewest }
     {
         let copies = one_more(self.names.get(name));
         self.names.put(name, copies);
         self.most += 1;
         self.room -= 1;
+    }
+
+    // Counts a name no more among what is left to be copied, where it is wanted.
+    fn want_no_more(&mut self, name: EntryName)
+        ensures tally { self.new ≡ record self.old {
+          tally = tally_without self.old name.key name.version;
+          fewest = fewest_without self.old name.key name.version;
+        } }
+    {
+        if !self.wants(name) {
+            return;
+        }
+        self.fewest = 0;
+        if let Some(tally) = &mut self.tally {
+            tally.lower(name);
+        }
     }
 
     /// Notes that a name was told dead. One that does not stand is passed over.
@@ -124,7 +158,10 @@ impl Standing {
         ensures count { length self.new.entries ≡ length self.old.entries }
         ensures room { self.new.room ≡ self.old.room }
         ensures settled { self.new.settled ≡ self.old.settled }
+        ensures tally { self.new.tally ≡ tally_without self.old name.key name.version }
+        ensures fewest { self.new.fewest ≡ fewest_without self.old name.key name.version }
     {
+        self.want_no_more(name);
         if let Some(copies) = self.names.get(name) {
             self.names.set(
                 name,
@@ -187,8 +224,55 @@ impl Standing {
         ensures count { self.new.entries ≡ self.old.entries }
         ensures room { self.new.room ≡ self.old.room }
         ensures settled { self.new.settled ≡ settled }
+        ensures tally { self.new.tally ≡ self.old.tally }
+        ensures fewest { self.new.fewest ≡ self.old.fewest }
     {
         self.settled = settled;
+    }
+
+    /// Forgets what was noted for a cleaning: how far it has read, and what is left.
+    pub fn forget(&mut self)
+        ensures copies { SameCopies self.old self.new }
+        ensures count { self.new.entries ≡ self.old.entries }
+        ensures room { self.new.room ≡ self.old.room }
+        ensures settled { self.new.settled ≡ None }
+        ensures tally { self.new.tally ≡ None }
+        ensures fewest { self.new.fewest ≡ 0 }
+    {
+        self.settled = None;
+        self.tally = None;
+        self.fewest = 0;
+    }
+
+    /// Counts what is left of a chunk from now on; of none where there is no tally.
+    pub fn count(&mut self, tally: Option<Tally>)
+        ensures { self.new ≡ record self.old { tally = tally } }
+    {
+        self.tally = tally;
+    }
+
+    /// What is left of the chunk that is counted.
+    pub fn left(&self) -> Option<Amount>
+        ensures { result ≡ option_map (λ t. t.left) self.now.tally }
+    {
+        match &self.tally {
+            Some(tally) => Some(tally.left()),
+            None => None,
+        }
+    }
+
+    /// A number of lines of which no closed chunk has fewer to copy.
+    pub fn fewest(&self) -> u64
+        ensures { result ≡ self.now.fewest }
+    {
+        self.fewest
+    }
+
+    /// Notes such a number, as a search of all chunks found it. It is 0 as soon as a name is wanted no more.
+    pub fn note_fewest(&mut self, lines: u64)
+        ensures { self.new ≡ record self.old { fewest = lines } }
+    {
+        self.fewest = lines;
     }
 
     /// A second copy of a name that has one. It takes no place.
@@ -199,7 +283,10 @@ impl Standing {
         ensures count { length self.new.entries ≡ length self.old.entries }
         ensures room { self.new.room ≡ self.old.room }
         ensures settled { self.new.settled ≡ self.old.settled }
+        ensures tally { self.new.tally ≡ tally_without self.old name.key name.version }
+        ensures fewest { self.new.fewest ≡ fewest_without self.old name.key name.version }
     {
+        self.want_no_more(name);
         let dead = self.is_dead(name);
         self.names.set(name, Copies { count: 2, dead });
     }

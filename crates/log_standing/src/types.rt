@@ -17,3 +17,12 @@ pub struct Settled {
     /// Counted from the payload's first word.
     pub place: u64,
 }
+
+/// So many entries, with so many words in all.
+#[derive(Clone, Copy, Debug, PartialEq, Eq)]
+pub struct Amount {
+    /// How many.
+    pub entries: u64,
+    /// What they take in a log, without the end of a line behind a batch.
+    pub words: u64,
+}

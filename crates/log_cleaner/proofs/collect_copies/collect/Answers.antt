@@ -1,5 +1,7 @@
+use Rattle.std.proofs.Common.{arith}
 use Rattle.log_cleaner.specs.Copying.{begins}
 use Rattle.log_cleaner.proofs.SettledLaws.{starts, settled_one, settled_same}
+use Rattle.log_cleaner.proofs.TallyLaws.{keeps_both, keeps_same}
 use Rattle.log_cleaner.proofs.collect_copies.collect.Goals as goal
 
 pub collect_from-taken-requires-clause-readable : goal.collect_from-taken-requires-clause-readable
@@ -15,3 +17,9 @@ returns-clause-settled g c = λ telling.
     let s = g.R.Region.state c.args.region.now in
     let h = begins c.args.chunk c.collect_from-taken.result.1 in
     settled_one s c.args.log.now c.settle.new.self h c.settle.ensures.settled (settled_same s c.args.log.now c.collect_from-taken.new.standing c.settle.new.self h c.settle.ensures.copies (c.collect_from-taken.ensures.settled telling))
+
+pub returns-clause-tally : goal.returns-clause-tally
+returns-clause-tally g c =
+    let mid = c.collect_from-taken.new.standing in
+    let fewest = c.settle.ensures.fewest in
+    keeps_both c.args.standing.now mid c.settle.new.self c.collect_from-taken.ensures.tally (keeps_same mid c.settle.new.self c.settle.ensures.copies c.settle.ensures.tally (omega (arith, fewest)))

@@ -1,6 +1,7 @@
 use Rattle.std.proofs.Common.{◌<◌, ℕ, List, length, refl, ◌∙◌, ap, arith}
 use Rattle.core_log.specs.Walking.{entries_in}
 use Rattle.log_cleaner.proofs.Batches.{collect_starts, collect_on}
+use Rattle.log_cleaner.proofs.TallyLaws.{keeps_itself, keeps_both}
 use Rattle.log_cleaner.proofs.collect_copies.collect_from.Goals as goal
 
 pub loop-found-init : goal.loop-found-init
@@ -16,6 +17,7 @@ loop-found-init g c =
       kept = refl;
       settled = refl;
       names = record { stood = λ k n some. some; stands = λ k n some. some; told = λ k n. refl; count = refl; room = refl };
+      tally = keeps_itself c.args.standing.now;
       told = λ telling. collect_starts c.args.standing.now (entries_in s c.args.log.now c.args.chunk) c.args.from c.args.buffer.now.words (c.requires.left telling) c.requires.empty;
     }
 
@@ -46,6 +48,7 @@ loop-found-preserved g c =
         count = took.names.count ∙ was.names.count;
         room = took.names.room ∙ was.names.room;
       };
+      tally = keeps_both c.args.standing.now c.loop-found.standing c.take_in-taken.new.standing was.tally took.tally;
       told = λ telling. collect_on s c.args.log.now c.args.standing.now c.loop-found.standing c.args.chunk c.loop-found.place c.loop-found.taken c.loop-found.buffer.words c.in-Some.found (c.in-Some.ensures.step telling) (was.told telling)
           c.take_in-taken.new.standing c.loop-found.buffer c.take_in-taken.new.buffer c.take_in-taken.result refl took.passed took.added (λ wanted. took.words wanted telling) less;
     }

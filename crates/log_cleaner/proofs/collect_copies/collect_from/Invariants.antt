@@ -5,6 +5,7 @@ use Rattle.core_log.specs.Log.{LogState, tail_in}
 use Rattle.core_log.specs.Walking.{IsReadable, entries_in}
 use Rattle.log_standing.specs.NameCounts.{StandingState}
 use Rattle.log_cleaner.specs.CopyBatch.{KeepsNames}
+use Rattle.log_cleaner.specs.Tallied.{KeepsTally}
 use Rattle.log_cleaner.proofs.Batches.{Collecting}
 use Rattle.log_cleaner.proofs.collect_copies.collect_from.Given as goal
 
@@ -17,6 +18,7 @@ pub record SoFar (s : State) (log : LogState) (old st : StandingState) (j place 
   pub kept : b.room ≡ first.room
   pub settled : st.settled ≡ old.settled
   pub names : KeepsNames old st
+  pub tally : KeepsTally old st
   pub told : IsTelling s → Collecting old st (entries_in s log j) place taken b.words
 
 abbrev pub invariant-loop-found : goal.invariant-loop-found

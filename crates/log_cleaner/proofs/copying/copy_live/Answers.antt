@@ -146,7 +146,12 @@ returns-then-not-is_ready-clause-batch g c = λ telling.
     let told = c.collect-taken.ensures.told telling in
     let nothing : c.collect-taken.result ≡ 0 = nothing_left (g.R.Region.state c.args.region.now) c.args.log.now c.args.standing.now c.collect-taken.new.standing c.args.victim.now c.collect-taken.result c.collect-taken.new.buffer.words told (c.requires.room telling) (c.requires.bounds telling) (c.is_ready.ensures.unready c.if-not-is_ready.true) in
     record {
-      count = sym nothing ∙ told.count_is;
+      count = c.none_copied.ensures.none ∙ sym nothing ∙ told.count_is;
       words = told.words_are;
       none = λ zero_is. none_awaits c.args.standing.now (entries_in (g.R.Region.state c.args.region.now) c.args.log.now c.args.victim.now.chunk) 0 (sym nothing ∙ told.count_is) refl;
     }
+
+pub returns-then-not-is_ready-clause-told : goal.returns-then-not-is_ready-clause-told
+returns-then-not-is_ready-clause-told g c = λ telling.
+    let told = c.collect-taken.ensures.told telling in
+    c.none_copied.ensures.some (nothing_left (g.R.Region.state c.args.region.now) c.args.log.now c.args.standing.now c.collect-taken.new.standing c.args.victim.now c.collect-taken.result c.collect-taken.new.buffer.words told (c.requires.room telling) (c.requires.bounds telling) (c.is_ready.ensures.unready c.if-not-is_ready.true))

@@ -80,20 +80,20 @@ returns-clause-ok g c =
     let counts = λ (telling : IsTelling (g.R.Region.state c.args.region.now)). (c.requires.standing telling).counts in
     let retired = subst (RetiredChunk t log c.retire.new.self) e c.in_ok-retire.ensures.ok in
     let outside = outside_at s t log c.self.inside.chunk c.args.self.chunk e c.retire.ensures.outside in
-    let dropped : Drops c.args.standing.now c.settle.new.self c.args.self.names = dropped_at c.args.standing.now c.drop_all.new.standing c.settle.new.self c.args.self.names c.settle.ensures.copies
+    let dropped : Drops c.args.standing.now c.forget.new.self c.args.self.names = dropped_at c.args.standing.now c.drop_all.new.standing c.forget.new.self c.args.self.names c.forget.ensures.copies
     (subst (Drops c.args.standing.now c.drop_all.new.standing) (c.deref.ensures.value ∙ ap (λ (x : ClearingState). x.names) c.self.view_is) c.drop_all.ensures.drops) in
     record {
       retired = retired;
       dropped = dropped;
       standing = λ telling. record {
-        counts = clear_standing s log st c.args.self c.requires.stands c.requires.has gathered copied counts c.requires.agrees t c.retire.new.self c.settle.new.self retired outside dropped telling;
-        settled = none_settled t c.retire.new.self c.settle.new.self c.settle.ensures.settled;
+        counts = clear_standing s log st c.args.self c.requires.stands c.requires.has gathered copied counts c.requires.agrees t c.retire.new.self c.forget.new.self retired outside dropped telling;
+        settled = none_settled t c.retire.new.self c.forget.new.self c.forget.ensures.settled;
       };
-      vanish = λ telling. clear_vanish s log st c.args.self c.requires.stands c.requires.has gathered copied counts c.requires.agrees t c.retire.new.self c.settle.new.self retired outside dropped telling;
+      vanish = λ telling. clear_vanish s log st c.args.self c.requires.stands c.requires.has gathered copied counts c.requires.agrees t c.retire.new.self c.forget.new.self retired outside dropped telling;
     }
 
 pub returns-clause-count : goal.returns-clause-count
-returns-clause-count g c = (let less = c.drop_all.ensures.count in let same = ap length c.settle.ensures.count in let lone = ap (lone_in c.args.standing.now) (c.deref.ensures.value ∙ ap (λ (x : ClearingState). x.names) c.self.view_is) in omega (arith, less, same, lone))
+returns-clause-count g c = (let less = c.drop_all.ensures.count in let same = ap length c.forget.ensures.count in let lone = ap (lone_in c.args.standing.now) (c.deref.ensures.value ∙ ap (λ (x : ClearingState). x.names) c.self.view_is) in omega (arith, less, same, lone))
 
 pub returns-clause-room : goal.returns-clause-room
-returns-clause-room g c = c.settle.ensures.room ∙ c.drop_all.ensures.room
+returns-clause-room g c = c.forget.ensures.room ∙ c.drop_all.ensures.room

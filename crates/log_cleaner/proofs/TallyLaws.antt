@@ -1,0 +1,244 @@
+-- What is left of a chunk, as names are noted of it and wanted no more.
+use Rattle.std.proofs.Common.{◌≡◌, ⊎_elim, ℕ, ◌+◌, ◌-◌, ◌*◌, ◌≤◌, ◌<◌, ◌==◌, ◌&&◌, not, Bool, true, false, cond, List, [], ◌∷◌, ◌++◌, length, Option, Some, None, refl, sym, ◌∙◌, ap, subst, arith, append_assoc}
+use Rattle.std.specs.Prelude.{option_map}
+use Rattle.std.specs.List.{filter, sum_by, count_by}
+use Rattle.std.proofs.lemmas.Bool.{cases_lt, cond-true, cond-false}
+use Rattle.std.proofs.lemmas.List.Sums.{sum_by-append, sum_by-cons}
+use Rattle.pm_region.specs.State.{State}
+use Rattle.log_entry.specs.declared.entry.Entry.{Entry}
+use Rattle.log_entry.specs.Spelling.{words_of}
+use Rattle.core_log.specs.declared.types.Peek.{Peek}
+use Rattle.core_log.specs.Log.{LogState, Spelled}
+use Rattle.core_log.specs.Walking.{entries_in, words_in, behind, IsFound}
+use Rattle.core_log.proofs.Clients.{ordered, all_behind}
+use Rattle.log_standing.specs.declared.types.Amount.{Amount}
+use Rattle.log_standing.specs.declared.types.Copies.{Copies}
+use Rattle.log_standing.specs.NameCounts.{StandingState, name_eq, copies_at, count_in, told_in, wants, killed, Changes, SameCopies, tally_without, fewest_without}
+use Rattle.log_standing.specs.ChunkCounts.{is_named}
+use Rattle.log_standing.specs.Tallies.{TallyState, amount_at, entries_in as entries_of, less, more, words_in as words_at}
+use Rattle.log_standing.proofs.Clients.{same_name}
+use Rattle.log_standing.proofs.Filled.{append_none}
+use Rattle.log_cleaner.specs.Choosing.{copy_lines}
+use Rattle.log_cleaner.specs.Copying.{awaits, left_to_copy, tally_of, words_sum}
+use Rattle.log_cleaner.specs.Tallied.{words_named, HasAmounts, NotesIf, IsTallyOf, IsTallied, KeepsTally, lines_left}
+use Rattle.log_cleaner.proofs.Batches.{name_sym, filter_same}
+use Rattle.log_cleaner.proofs.LessLaws.{sum_ones}
+
+pub keeps_itself : (st : StandingState) → KeepsTally st st
+keeps_itself st = record { tally = λ es is. is; fewest = λ es le. le }
+
+pub keeps_both : (old mid new : StandingState) → KeepsTally old mid → KeepsTally mid new → KeepsTally old new
+keeps_both old mid new first then = record { tally = λ es is. then.tally es (first.tally es is); fewest = λ es le. then.fewest es (first.fewest es le) }
+
+-- where the names stand as before
+pub keeps_same : (old new : StandingState) → SameCopies old new → new.tally ≡ old.tally → new.fewest ≤ old.fewest → KeepsTally old new
+keeps_same old new same tally fewest = record {
+  tally = λ es is. record {
+    tally = is.tally;
+    is = tally ∙ is.is;
+    of = record {
+      entries = is.of.entries ∙ sym (ap (λ (l : List (ℕ × Entry)). length l) (left es));
+      words = is.of.words ∙ sym (ap words_sum (left es));
+      each = is.of.each;
+    };
+  };
+  fewest = λ es le. (let lines : lines_left new es ≡ lines_left old es = ap (λ (l : List (ℕ × Entry)). copy_lines (tally_of 0 l)) (left es) in omega (arith, le, fewest, lines));
+}
+  where
+    left : (es : List (ℕ × Entry)) → left_to_copy new es ≡ left_to_copy old es
+    left es = filter_same (awaits new) (awaits old) es (λ y. ap (λ (o : Option Copies). count_in o == 1 && not (told_in o)) (same y.1.key y.1.version))
+
+-- Of those that pass a test some pass it no more.
+module _ {X : Type 0} (w : X → ℕ) (f g m : X → Bool) (was : (x : X) → m x ≡ true → (f x ≡ true) × (g x ≡ false)) (others : (x : X) → m x ≡ false → g x ≡ f x) where
+  one_sum : (b : Bool) (x : X) (xs : List X) → sum_by w (cond b (x ∷ xs) xs) ≡ cond b (w x) 0 + sum_by w xs
+  one_sum true x xs = sum_by-cons w x xs
+  one_sum false x xs = omega arith
+
+  one_less : (x : X) → cond (g x) (w x) 0 + cond (m x) (w x) 0 ≡ cond (f x) (w x) 0
+  one_less x = elim (m x) as (λ b. m x ≡ b → cond (g x) (w x) 0 + cond b (w x) 0 ≡ cond (f x) (w x) 0) [
+    | true ↦ λ is. let a = ap {B = ℕ} (λ (b : Bool). cond b (w x) 0) (was x is).0 in let b = ap {B = ℕ} (λ (b : Bool). cond b (w x) 0) (was x is).1 in omega (arith, a, b)
+    | false ↦ λ isnt. let a = ap {B = ℕ} (λ (b : Bool). cond b (w x) 0) (others x isnt) in omega (arith, a)
+  ] refl
+
+  pub sum_without : (xs : List X) → sum_by w (filter g xs) + sum_by (λ x. cond (m x) (w x) 0) xs ≡ sum_by w (filter f xs)
+  sum_without [] = refl
+  sum_without (x ∷ xs) =
+      let rest = sum_without xs in
+      let a = one_sum (g x) x (filter g xs) in
+      let b = one_sum (f x) x (filter f xs) in
+      let c = sum_by-cons (λ (y : X). cond (m y) (w y) 0) x xs in
+      let d = one_less x in
+      omega (arith, rest, a, b, c, d)
+
+-- A name is wanted no more, whatever it has now.
+module _ (old new : StandingState) (k v : ℕ) (now : Option Copies) (changes : Changes old new k v now) (unwanted : wants new k v ≡ false) where
+  awaits_other : (y : ℕ × Entry) → is_named k v y ≡ false → awaits new y ≡ awaits old y
+  awaits_other y isnt = ap (λ (o : Option Copies). count_in o == 1 && not (told_in o))
+      (changes y.1.key y.1.version ∙ cond-false (name_eq (k, v) (y.1.key, y.1.version)) now (copies_at old y.1.key y.1.version) (name_sym k v y.1.key y.1.version ∙ isnt))
+
+  awaits_named : (st : StandingState) (y : ℕ × Entry) → is_named k v y ≡ true → awaits st y ≡ wants st k v
+  awaits_named st y is = let e = same_name y.1.key y.1.version k v is in λ i. wants st (e.0 i) (e.1 i)
+
+  -- where it was
+  module _ (wanted : wants old k v ≡ true) where
+    was : (y : ℕ × Entry) → is_named k v y ≡ true → (awaits old y ≡ true) × (awaits new y ≡ false)
+    was y is = (awaits_named old y is ∙ wanted, awaits_named new y is ∙ unwanted)
+
+    fewer_entries : (es : List (ℕ × Entry)) → length (left_to_copy new es) + count_by (is_named k v) es ≡ length (left_to_copy old es)
+    fewer_entries es =
+        let a = sum_without (λ (x : ℕ × Entry). 1) (awaits old) (awaits new) (is_named k v) was awaits_other es in
+        let b = sum_ones (left_to_copy new es) in
+        let c = sum_ones (left_to_copy old es) in
+        omega (arith, a, b, c)
+
+    fewer_words : (es : List (ℕ × Entry)) → words_sum (left_to_copy new es) + words_named k v es ≡ words_sum (left_to_copy old es)
+    fewer_words es = sum_without (λ (x : ℕ × Entry). length (words_of x.1)) (awaits old) (awaits new) (is_named k v) was awaits_other es
+
+    pub lowered_tally : (t : TallyState) (es : List (ℕ × Entry)) → IsTallyOf t old es → IsTallyOf (less k v t) new es
+    lowered_tally t es of =
+        let a = fewer_entries es in
+        let b = fewer_words es in
+        let c = of.entries in
+        let d = of.words in
+        let e = of.each.entries k v in
+        let f = of.each.words k v in
+        record {
+          entries = omega (arith, a, c, e);
+          words = omega (arith, b, d, f);
+          each = record { entries = of.each.entries; words = of.each.words };
+        }
+
+  same_left : wants old k v ≡ false → (es : List (ℕ × Entry)) → left_to_copy new es ≡ left_to_copy old es
+  same_left wasnt es = filter_same (awaits new) (awaits old) es (λ y. elim (is_named k v y) as (λ b. is_named k v y ≡ b → awaits new y ≡ awaits old y) [
+    | true ↦ λ is. awaits_named new y is ∙ unwanted ∙ sym (awaits_named old y is ∙ wasnt)
+    | false ↦ λ isnt. awaits_other y isnt
+  ] refl)
+
+  pub wanted_no_more : new.tally ≡ tally_without old k v → new.fewest ≡ fewest_without old k v → KeepsTally old new
+  wanted_no_more tally fewest = elim (wants old k v) as (λ b. wants old k v ≡ b → KeepsTally old new) [
+    | true ↦ λ wanted. record {
+      tally = λ es is. record {
+        tally = less k v is.tally;
+        is = tally ∙ cond-true (wants old k v) (option_map (less k v) old.tally) old.tally wanted ∙ ap (λ (o : Option TallyState). option_map (less k v) o) is.is;
+        of = lowered_tally wanted is.tally es is.of;
+      };
+      fewest = λ es le. (let none : new.fewest ≡ 0 = fewest ∙ cond-true (wants old k v) 0 old.fewest wanted in omega (arith, none));
+    }
+    | false ↦ λ wasnt. record {
+      tally = λ es is. record {
+        tally = is.tally;
+        is = tally ∙ cond-false (wants old k v) (option_map (less k v) old.tally) old.tally wasnt ∙ is.is;
+        of = record {
+          entries = is.of.entries ∙ sym (ap (λ (l : List (ℕ × Entry)). length l) (same_left wasnt es));
+          words = is.of.words ∙ sym (ap words_sum (same_left wasnt es));
+          each = is.of.each;
+        };
+      };
+      fewest = λ es le. (let same : new.fewest ≡ old.fewest = fewest ∙ cond-false (wants old k v) 0 old.fewest wasnt in
+          let lines : lines_left new es ≡ lines_left old es = ap (λ (l : List (ℕ × Entry)). copy_lines (tally_of 0 l)) (same_left wasnt es) in omega (arith, same, le, lines));
+    }
+  ] refl
+
+-- the entries before a place are noted
+pub record Tallying (t : TallyState) (es : List (ℕ × Entry)) (place : ℕ) : Type 0 where
+  pub done : List (ℕ × Entry)
+  pub split : done ++ behind place es ≡ es
+  pub each : HasAmounts t done
+  pub room : length (behind place es) ≤ t.room
+
+-- no name has more than was read
+pub record IsBelow (t : TallyState) (place : ℕ) : Type 0 where
+  pub entries : (k v : ℕ) → entries_of (amount_at t k v) ≤ place
+  pub words : (k v : ℕ) → words_at (amount_at t k v) ≤ place
+
+none_noted : (t : TallyState) (k v : ℕ) → t.names ≡ [] → amount_at t k v ≡ None
+none_noted t k v none = ap (λ (l : List ((ℕ × ℕ) × Amount)). amount_at (record t { names = l }) k v) none
+
+pub below_starts : (t : TallyState) → t.names ≡ [] → IsBelow t 0
+below_starts t none = record {
+  entries = λ k v. (let e = ap entries_of (none_noted t k v none) in omega (arith, e));
+  words = λ k v. (let e = ap words_at (none_noted t k v none) in omega (arith, e));
+}
+
+pub tally_starts : (s : State) (log : LogState) (j : ℕ) (t : TallyState) → Spelled (words_in s log j) → t.names ≡ [] → length (entries_in s log j) ≤ t.room → Tallying t (entries_in s log j) 0
+tally_starts s log j t spelled none room =
+    let all = all_behind (entries_in s log j) 0 (ordered (words_in s log j) spelled) in
+    let long = ap (λ (l : List (ℕ × Entry)). length l) all in
+    record {
+      done = [];
+      split = all;
+      each = record { entries = λ k v. ap entries_of (none_noted t k v none); words = λ k v. ap words_at (none_noted t k v none) };
+      room = omega (arith, long, room);
+    }
+
+pub below_on : (old new : TallyState) (place : ℕ) (p : Peek) → IsBelow old place → NotesIf old new p → (place ≤ p.place) × (p.place < p.next) → IsBelow new p.next
+below_on old new place p below notes within = ⊎_elim
+    (λ (some : 0 < old.room). record {
+      entries = λ k v. (let a = below.entries k v in let b = below.entries p.name.key p.name.version in
+          let e = ap entries_of (notes.noted some k v) ∙ entries_cond (name_eq (p.name.key, p.name.version) (k, v)) (more (amount_at old p.name.key p.name.version) (p.next - p.place)) (amount_at old k v) in
+          le_cond (name_eq (p.name.key, p.name.version) (k, v)) _ _ _ _ e (omega (arith, b, within.0, within.1)) (omega (arith, a, within.0, within.1)));
+      words = λ k v. (let a = below.words k v in let b = below.words p.name.key p.name.version in
+          let e = ap words_at (notes.noted some k v) ∙ words_cond (name_eq (p.name.key, p.name.version) (k, v)) (more (amount_at old p.name.key p.name.version) (p.next - p.place)) (amount_at old k v) in
+          le_cond (name_eq (p.name.key, p.name.version) (k, v)) _ _ _ _ e (omega (arith, b, within.0, within.1)) (omega (arith, a, within.0, within.1)));
+    })
+    (λ (none : old.room ≤ 0). subst (λ (t : TallyState). IsBelow t p.next) (sym (notes.full (omega (arith, none)))) (record {
+      entries = λ k v. (let a = below.entries k v in omega (arith, a, within.0, within.1));
+      words = λ k v. (let a = below.words k v in omega (arith, a, within.0, within.1));
+    }))
+    (cases_lt 0 old.room)
+  where
+    entries_cond : (b : Bool) (a : Amount) (o : Option Amount) → entries_of (cond b (Some a) o) ≡ cond b a.entries (entries_of o)
+    entries_cond true a o = refl
+    entries_cond false a o = refl
+
+    words_cond : (b : Bool) (a : Amount) (o : Option Amount) → words_at (cond b (Some a) o) ≡ cond b a.words (words_at o)
+    words_cond true a o = refl
+    words_cond false a o = refl
+
+    le_cond : (b : Bool) (n x y most : ℕ) → n ≡ cond b x y → x ≤ most → y ≤ most → n ≤ most
+    le_cond true n x y most is le other = omega (arith, is, le)
+    le_cond false n x y most is le other = omega (arith, is, other)
+
+module _ (s : State) (log : LogState) (j place : ℕ) (p : Peek) (old new : TallyState) (f : IsFound s log j place p) (so_far : Tallying old (entries_in s log j) place) (notes : NotesIf old new p) where
+  es : List (ℕ × Entry)
+  es = entries_in s log j
+
+  some : 0 < old.room
+  some = let long = ap (λ (l : List (ℕ × Entry)). length l) f.left in let room = so_far.room in omega (arith, long, room)
+
+  name_is : (k v : ℕ) → name_eq (p.name.key, p.name.version) (k, v) ≡ is_named k v f.found
+  name_is k v = λ i. name_eq (f.key i, f.version i) (k, v)
+
+  size : p.next - p.place ≡ length (words_of f.found.1)
+  size = let next = f.next in omega (arith, next)
+
+  at_name : (k v : ℕ) → is_named k v f.found ≡ true → amount_at old p.name.key p.name.version ≡ amount_at old k v
+  at_name k v is = let e = same_name p.name.key p.name.version k v (name_is k v ∙ is) in λ i. amount_at old (e.0 i) (e.1 i)
+
+  noted_entries : (k v : ℕ) → entries_of (amount_at new k v) ≡ entries_of (amount_at old k v) + cond (is_named k v f.found) 1 0
+  noted_entries k v = elim (is_named k v f.found) as (λ b. is_named k v f.found ≡ b → entries_of (amount_at new k v) ≡ entries_of (amount_at old k v) + cond b 1 0) [
+    | true ↦ λ is. ap entries_of (notes.noted some k v ∙ cond-true (name_eq (p.name.key, p.name.version) (k, v)) (Some (more (amount_at old p.name.key p.name.version) (p.next - p.place))) (amount_at old k v) (name_is k v ∙ is)) ∙ ap (λ (o : Option Amount). entries_of o + 1) (at_name k v is)
+    | false ↦ λ isnt. (let e = ap entries_of (notes.noted some k v ∙ cond-false (name_eq (p.name.key, p.name.version) (k, v)) (Some (more (amount_at old p.name.key p.name.version) (p.next - p.place))) (amount_at old k v) (name_is k v ∙ isnt)) in omega (arith, e))
+  ] refl
+
+  noted_words : (k v : ℕ) → words_at (amount_at new k v) ≡ words_at (amount_at old k v) + cond (is_named k v f.found) (length (words_of f.found.1)) 0
+  noted_words k v = elim (is_named k v f.found) as (λ b. is_named k v f.found ≡ b → words_at (amount_at new k v) ≡ words_at (amount_at old k v) + cond b (length (words_of f.found.1)) 0) [
+    | true ↦ λ is. (let e = ap words_at (notes.noted some k v ∙ cond-true (name_eq (p.name.key, p.name.version) (k, v)) (Some (more (amount_at old p.name.key p.name.version) (p.next - p.place))) (amount_at old k v) (name_is k v ∙ is)) ∙ ap (λ (o : Option Amount). words_at o + (p.next - p.place)) (at_name k v is) in let n = size in omega (arith, e, n))
+    | false ↦ λ isnt. (let e = ap words_at (notes.noted some k v ∙ cond-false (name_eq (p.name.key, p.name.version) (k, v)) (Some (more (amount_at old p.name.key p.name.version) (p.next - p.place))) (amount_at old k v) (name_is k v ∙ isnt)) in omega (arith, e))
+  ] refl
+
+  pub tally_on : Tallying new (entries_in s log j) p.next
+  tally_on = record {
+    done = so_far.done ++ f.found ∷ [];
+    split = append_assoc so_far.done (f.found ∷ []) (behind p.next (entries_in s log j)) ∙ ap (λ (l : List (ℕ × Entry)). so_far.done ++ l) (sym f.left) ∙ so_far.split;
+    each = record {
+      entries = λ k v. (let a = noted_entries k v in let b = so_far.each.entries k v in let c = sum_by-append (λ (x : ℕ × Entry). cond (is_named k v x) 1 0) so_far.done (f.found ∷ []) in
+          let d = sum_by-cons (λ (x : ℕ × Entry). cond (is_named k v x) 1 0) f.found [] in omega (arith, a, b, c, d));
+      words = λ k v. (let a = noted_words k v in let b = so_far.each.words k v in let c = sum_by-append (λ (x : ℕ × Entry). cond (is_named k v x) (length (words_of x.1)) 0) so_far.done (f.found ∷ []) in
+          let d = sum_by-cons (λ (x : ℕ × Entry). cond (is_named k v x) (length (words_of x.1)) 0) f.found [] in omega (arith, a, b, c, d));
+    };
+    room = (let long = ap (λ (l : List (ℕ × Entry)). length l) f.left in let room = so_far.room in let less = notes.room in omega (arith, long, room, less));
+  }
+
+pub tally_ends : (t : TallyState) (es : List (ℕ × Entry)) (place : ℕ) → Tallying t es place → behind place es ≡ [] → HasAmounts t es
+tally_ends t es place so_far none = subst (HasAmounts t) (append_none so_far.done (behind place es) none ∙ so_far.split) so_far.each

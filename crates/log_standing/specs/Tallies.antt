@@ -1,0 +1,38 @@
+-- What of one chunk is still to be copied, and what each of its names has there.
+use Rattle.std.specs.Prelude.{ℕ, ◌+◌, ◌-◌, List, Option, Some, None, option_map, if◌then◌else◌}
+use Rattle.std.specs.Map.{lookup}
+use Rattle.log_standing.specs.declared.types.Amount.{Amount}
+use Rattle.log_standing.specs.Names.{name_eq}
+
+-- how much is left, what each name has, and for how many more names there is room
+pub record TallyState : Type 0 where
+  pub left : Amount
+  pub names : List ((ℕ × ℕ) × Amount)
+  pub room : ℕ
+
+abbrev pub amount_at : TallyState → ℕ → ℕ → Option Amount
+amount_at t k v = lookup (name_eq (k, v)) t.names
+
+abbrev pub entries_in : Option Amount → ℕ
+entries_in None = 0
+entries_in (Some a) = a.entries
+
+abbrev pub words_in : Option Amount → ℕ
+words_in None = 0
+words_in (Some a) = a.words
+
+-- with one more entry of so many words
+abbrev pub more : Option Amount → ℕ → Amount
+more a words = record { entries = entries_in a + 1; words = words_in a + words }
+
+abbrev pub less_by : Amount → Amount → Amount
+less_by a by = record { entries = a.entries - by.entries; words = a.words - by.words }
+
+-- what is left without a name
+abbrev pub less : ℕ → ℕ → TallyState → TallyState
+less k v t = record t {
+  left = record {
+    entries = t.left.entries - entries_in (amount_at t k v);
+    words = t.left.words - words_in (amount_at t k v);
+  };
+}
