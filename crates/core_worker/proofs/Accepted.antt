@@ -21,6 +21,7 @@ use Rattle.core_worker.specs.Beginning.{HasFree, IsHeldAside, KeepsTies, ByEachV
 use Rattle.core_worker.specs.Accepting.{IsAsBefore, Prepared, IsTied, StaysTied, wants_room, HoldsOrBeginsByEachView}
 use Rattle.core_worker.specs.Refusals.{HasAnswerRoom}
 use Rattle.core_worker.specs.Serving.{KeepsLine}
+use Rattle.core_worker.proofs.UnderWay.{room_counted}
 use Rattle.core_worker.proofs.AcceptedOrder.{order_before, order_held, order_begun_now}
 use Rattle.core_worker.proofs.Beginnings.{aside_of, before_holds, held_holds, prepared_stands, begun_holds, begun_accepts}
 
@@ -93,4 +94,4 @@ accepts_begun (Err y) s w u b n k q same B P idle rest uses begins = begins
 
 -- what memory was taken for pledges nothing
 pub prepared_room : (w u : Worker) → IsAsBefore w u → HasKeptRoom w → HasKeptRoom u
-prepared_room w u B h = subst (λ (x : Worker). HasKeptRoom x) (sym B.rest) h
+prepared_room w u B h = subst (λ (x : Worker). HasKeptRoom x) (sym B.rest) (room_counted w u.standing B.names.tally h)

@@ -19,6 +19,10 @@ use Rattle.core_index.specs.Records.{is_forgettable}
 use Rattle.core_worker.specs.OwnPlaces.{place_at, is_busy, key_in}
 use Rattle.core_worker.specs.KeyTies.{KnowsKey}
 use Rattle.log_standing.specs.NameCounts.{count_in, count_of}
+use Rattle.core_log.specs.declared.types.Room.{Room}
+use Rattle.batch_leader.specs.Rounds.{words_in}
+use Rattle.batch_leader.specs.Leading.{Suits, HasSpace}
+use Rattle.core_worker.proofs.UnderWay.{told_same}
 use Rattle.core_worker.proofs.CleaningKept.{keeps_counts}
 use Rattle.core_worker.proofs.Posts.{busy_by, busy_has}
 use Rattle.core_worker.proofs.Pointers.{free_is}
@@ -180,8 +184,8 @@ of_aside p m v w H admitted waits = record {
 }
 
 -- more room for records and answers
-pub prepared_holds : (p : Place) (m : ℕ) (v : View) (w u : Worker) → u ≡ record w { answers = u.answers; index = u.index; standing = u.standing } → ((k : ℕ) → known_at u.index k ≡ known_at w.index k) → ((k : ℕ) → is_busy w.places.items k ≡ true → room_at w.index k ≤ room_at u.index k) → ((k n : ℕ) → count_of u.standing k n ≡ count_of w.standing k n) → HoldsAside p m v w → HoldsAside p m v u
-prepared_holds p m v w u e same more counts H = subst (λ (x : Worker). HoldsAside p m v x) (sym e) (record {
+pub prepared_holds : (p : Place) (m : ℕ) (v : View) (w u : Worker) → u ≡ record w { answers = u.answers; index = u.index; standing = u.standing } → ((k : ℕ) → known_at u.index k ≡ known_at w.index k) → ((k : ℕ) → is_busy w.places.items k ≡ true → room_at w.index k ≤ room_at u.index k) → ((k n : ℕ) → count_of u.standing k n ≡ count_of w.standing k n) → u.standing.tally ≡ w.standing.tally → HoldsAside p m v w → HoldsAside p m v u
+prepared_holds p m v w u e same more counts tally H = subst (λ (x : Worker). HoldsAside p m v x) (sym e) (record {
   place = H.place;
   member = H.member;
   core = H.core;
@@ -211,8 +215,8 @@ prepared_holds p m v w u e same more counts H = subst (λ (x : Worker). HoldsAsi
 }) where
   by : (l : Leading) → HasSpaceFor (record w { queue = [] }) l → HasSpaceFor (record w { queue = []; answers = u.answers; index = u.index; standing = u.standing }) l
   by (leads.Nothing b) h = tt
-  by (leads.Collecting c) h = h
-  by (leads.Batch b) h = h
+  by (leads.Collecting c) h = subst (λ (r : Room). Suits r c) (sym (told_same w u.standing tally)) h
+  by (leads.Batch b) h = subst (λ (r : Room). HasSpace r b.fresh b.own_lines (words_in b.changes.taken.items)) (sym (told_same w u.standing tally)) h
   by (leads.Persisted x) h = tt
   by (leads.Failed x) h = tt
   by leads.Between h = tt
@@ -235,7 +239,7 @@ with_standing w u e = e ∙ (λ i. record w { answers = u.answers; index = u.ind
 
 pub answered_aside : (p : Place) (m : ℕ) (v : View) (w u : Worker) (k : ℕ) → OnlyAnswers w u → LessRoom w.index u.index k → is_busy w.places.items k ≡ false → HoldsAside p m v w → HoldsAside p m v u
 answered_aside p m v w u k e less idle H = prepared_holds p m v w u (with_standing w u e) less.records
-    (λ j busy. ⊎_elim (λ same. absurd (let both : true ≡ false = sym busy ∙ ap (is_busy w.places.items) same ∙ idle in cc both)) (λ ne. (let r = less.others j ne in omega (arith, r))) (cases_eq j k)) (λ i n. ap (λ (x : Worker). count_of x.standing i n) e) H
+    (λ j busy. ⊎_elim (λ same. absurd (let both : true ≡ false = sym busy ∙ ap (is_busy w.places.items) same ∙ idle in cc both)) (λ ne. (let r = less.others j ne in omega (arith, r))) (cases_eq j k)) (λ i n. ap (λ (x : Worker). count_of x.standing i n) e) (ap (λ (x : Worker). x.standing.tally) e) H
 
 pub answered_standing : (s : State) (p : Place) (m : ℕ) (v : View) (w u : Worker) → OnlyAnswers w u → Stands s p m v w → Stands s p m v u
 answered_standing s p m v w u e S = subst (λ (x : Worker). Stands s p m v x) (sym e) (record { lies = S.lies; licensed = S.licensed; landed = S.landed; log = S.log; free = S.free; due = S.due; cut = S.cut; names = S.names })
@@ -263,7 +267,7 @@ staged_uses w u n k r only S is = record {
 pub before_holds : (p : Place) (m : ℕ) (v : View) (w u : Worker) → IsAsBefore w u → Holds p m v w → Holds p m v u
 before_holds p m v w u B H =
     let x = record w { answers = u.answers; index = u.index; standing = u.standing } in
-    subst (λ (y : Worker). Holds p m v y) (sym B.rest) (of_aside p m v (record w { answers = u.answers; index = u.index; standing = u.standing }) (prepared_holds p m v w (record w { answers = u.answers; index = u.index; standing = u.standing }) refl B.records (λ k busy. B.room k) (λ k n. ap count_in (B.names.copies k n)) (aside_of p m v w H))
+    subst (λ (y : Worker). Holds p m v y) (sym B.rest) (of_aside p m v (record w { answers = u.answers; index = u.index; standing = u.standing }) (prepared_holds p m v w (record w { answers = u.answers; index = u.index; standing = u.standing }) refl B.records (λ k busy. B.room k) (λ k n. ap count_in (B.names.copies k n)) B.names.tally (aside_of p m v w H))
     (λ k busy. (let a = H.admitted k busy in let b = B.room k in omega (arith, a, b))) H.waits)
 
 -- after a request is held
@@ -271,7 +275,7 @@ pub held_holds : (p : Place) (m : ℕ) (v : View) (w u : Worker) (q : List Held)
 held_holds p m v w u q h B more busy adds H =
     let x = record w { answers = u.answers; index = u.index; standing = u.standing } in
     let A : AddsLast w.queue q h = subst (λ (y : Worker). AddsLast y.queue q h) B.rest adds in
-    subst (λ (y : Worker). Holds p m v (record y { queue = q })) (sym B.rest) (of_aside p m v (record w { answers = u.answers; index = u.index; standing = u.standing; queue = q }) (prepared_holds p m v w (record w { answers = u.answers; index = u.index; standing = u.standing }) refl B.records (λ k busy. B.room k) (λ k n. ap count_in (B.names.copies k n)) (aside_of p m v w H))
+    subst (λ (y : Worker). Holds p m v (record y { queue = q })) (sym B.rest) (of_aside p m v (record w { answers = u.answers; index = u.index; standing = u.standing; queue = q }) (prepared_holds p m v w (record w { answers = u.answers; index = u.index; standing = u.standing }) refl B.records (λ k busy. B.room k) (λ k n. ap count_in (B.names.copies k n)) B.names.tally (aside_of p m v w H))
     (λ k is. ⊎_elim
     (λ same. (let a = H.admitted k is in let r = more in let key = A.key in
     let grown : length (waiting q k) ≡ length (waiting w.queue k) + 1 = ap (λ n. length (waiting q n)) same ∙ ap length key ∙ length-append (waiting w.queue (key_of h.request)) (h ∷ []) ∙ ap (λ n. length (waiting w.queue n) + 1) (sym same) in

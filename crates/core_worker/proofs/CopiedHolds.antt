@@ -22,8 +22,9 @@ use Rattle.core_worker.specs.Supplies.{under_way}
 use Rattle.core_worker.specs.TakenChunks.{TakesFor}
 use Rattle.core_worker.specs.Ties.{HasSpaceFor, Holds}
 use Rattle.core_worker.proofs.ChunksKept.{HasOpen, opened_more, taken_still}
-use Rattle.core_worker.proofs.CopiedLog.{copied_layout, copied_part, copied_opened, copied_more, opened_part, chunks_copied, room_open, taken_few, left_few, left_short, fewer_lines}
+use Rattle.core_worker.proofs.CopiedLog.{copied_layout, copied_part, copied_opened, copied_more, opened_part, chunks_copied, room_open, taken_few, left_few, left_short}
 use Rattle.core_worker.proofs.DoomedHolds as cleaning
+use Rattle.core_worker.proofs.UnderWay.{fewer_lines}
 use Rattle.core_worker.proofs.Writing.{Same, takes_same, taken_free, blocks_stay, opened_layout}
 
 module _ (p : Place) (m : ℕ) (v : View) (w x : Worker) (victim : Victim) (first : Bool) (H : Holds p m v w) (own : IsOwn w.log) (way : under_way w ≡ Copying victim first) (some : 0 < victim.entries) (K : CopiesOn victim first w x) where
@@ -100,8 +101,8 @@ module _ (p : Place) (m : ℕ) (v : View) (w x : Worker) (victim : Victim) (firs
     uncut = taken_now.1;
     scarce = (let few = taken_few (needs_chunk first w) w.allocator x.allocator K.fresh K.takes in let was = C.scarce in omega (arith, few, was));
     phase = begun_now;
-    own_places = subst (λ (c : Cleaning). may_go C.now c ≤ vec_capacity w.own_gone) (cleaning.way_is p m v w H victim first way) C.own_places;
-    places = subst (λ (c : Cleaning). HasPlacesFor (may_go C.now c) w.notices.items) (cleaning.way_is p m v w H victim first way) C.places;
+    own_places = cleaning.room_here p m v w H victim first way;
+    places = cleaning.room_boxes p m v w H victim first way;
   }
 
   pub copied_holds : Holds p m v x

@@ -37,12 +37,12 @@ use Rattle.core_worker.specs.declared.types.Cleaning.TheVariants.{Nothing, Copyi
 use Rattle.core_worker.specs.declared.types.Leading.TheVariants as leads
 use Rattle.core_worker.specs.declared.worker.Worker.{Worker}
 use Rattle.core_worker.specs.CleaningLeft.{clears_left}
-use Rattle.core_worker.specs.CopyItems.{CopiesOn, LosesCopies, needs_chunk}
+use Rattle.core_worker.specs.CopyItems.{CopiesOn, LosesCopies, MisreadsCopies, needs_chunk}
 use Rattle.core_worker.specs.CopyTurns.{CopiesInRegion, left_of}
 use Rattle.core_worker.specs.Left.{serves_left, left, Lowers}
 use Rattle.core_worker.specs.Left as counts
 use Rattle.core_worker.specs.Order.{InOrder, MayLeadStopped}
-use Rattle.core_worker.specs.Supplies.{under_way, rest, supply_of, KeepsRule, HasKeptRoom}
+use Rattle.core_worker.specs.Supplies.{under_way, rest, supply_of, left_in, no_more_than, KeepsRule, HasKeptRoom}
 use Rattle.core_worker.specs.Ties.{LeadsAt, LeadsNothing, HasSpaceFor, Holds, HoldsAt, Stands, StandsAt}
 use Rattle.core_worker.specs.Turning.{KeepsTurn}
 use Rattle.core_worker.specs.Turns.{InOrderAt, Steps}
@@ -50,7 +50,7 @@ use Rattle.core_worker.specs.WorkerMoves.{stock_of, hands_of, asked_by, WorkerMo
 use Rattle.core_worker.proofs.BlockStands.{holds_stopped}
 use Rattle.core_worker.proofs.ClearsLeft as clears
 use Rattle.core_worker.proofs.CopiedHolds as copied
-use Rattle.core_worker.proofs.CopiedRoom.{copied_room}
+use Rattle.core_worker.proofs.CopiedRoom.{copied_room, way_now}
 use Rattle.core_worker.proofs.CopiedStands.{copied_stands}
 use Rattle.core_worker.proofs.DoomedHolds as cleaning
 use Rattle.core_worker.proofs.HandKeys.{holds_key}
@@ -151,9 +151,11 @@ module _ (p : Place) (m : ℕ) (v u : View) (w x : Worker) (victim : Victim) (fi
     by b e =
         let same = ap serves_left K.same in
         let kept = ap (λ (y : Worker). clears_left y.accepted y.cleaning y.standing y.index y.notices.items) K.same in
-        let was = ap (λ (c : Cleaning). clears_left w.accepted c w.standing w.index w.notices.items) (cleaning.way_is p m v w H victim first way) in
+        let raw = cleaning.raw p m v w H victim first way in
+        let most = raw.fewer.0 in
+        let was = ap (λ (c : Cleaning). clears_left w.accepted c w.standing w.index w.notices.items) raw.is in
         let low = fewer b e in
-        let less = clears.copies w.accepted false first w.standing x.standing w.index w.notices.items victim to (victim.entries - to.entries) (omega (arith, low)) (omega (arith, low)) K.batch.names.count in
+        let less = clears.copies w.accepted false first w.standing x.standing w.index w.notices.items raw.victim to (raw.victim.entries - to.entries) (omega (arith, low, most)) (omega (arith, low, most)) K.batch.names.count in
         omega (arith, same, kept, was, less)
 
 pub copied_lower : (before after : Option Group) (m : ℕ) (u : View) (w x : Worker) → Makes before m Kind.Commit after u → IsLawful before → left x < left w → Lowers before after w x
@@ -223,7 +225,7 @@ module _ (s : State) (p : Place) (m : ℕ) (v : View) (w : Worker) (victim : Vic
     free = S.free;
     due = S.due;
     cut = S.cut;
-    names = λ r on telling. let N = S.names r on telling in record { counted = N.counted; read = N.read; knows = N.knows; cleaned = tt };
+    names = λ r on telling. let N = S.names r on telling in record { counted = N.counted; read = N.read; fewest = N.fewest; knows = N.knows; cleaned = tt };
   }
 
   left_order : InOrder p m v leaves
@@ -263,8 +265,9 @@ module _ (s : State) (p : Place) (m : ℕ) (v : View) (w : Worker) (victim : Vic
 
   pub leaves_less : left leaves < left w
   leaves_less =
-      let was = ap (λ (c : Cleaning). clears_left w.accepted c w.standing w.index w.notices.items) (cleaning.way_is p m v w H victim first way) in
-      let less = clears.leaves w.accepted first w.standing w.index w.notices.items victim in
+      let raw = cleaning.raw p m v w H victim first way in
+      let was = ap (λ (c : Cleaning). clears_left w.accepted c w.standing w.index w.notices.items) raw.is in
+      let less = clears.leaves w.accepted first w.standing w.index w.notices.items raw.victim in
       omega (arith, was, less)
 
 pub leaves_lower : (s : State) (p : Place) (m : ℕ) (v : View) (w x : Worker) (victim : Victim) (first : Bool) → Holds p m v w → Stands s p m v w → InOrder p m v w → under_way w ≡ Copying victim first → x ≡ record w { cleaning = Nothing; clearing = None } → left x < left w
@@ -287,6 +290,29 @@ keeps_left seat s before v w x victim first H S O way same made =
           (λ on. still_spend seat.place.layout v.took v.flying v.took v.flying (stock_of w) (stock_of y) (record { chunks = omega arith; lines = omega arith; blocks = λ c. omega arith }) (stock_small seat.place seat.number v y N) (omega arith))
           (λ k. refl) refl refl (λ e. inl e) (λ e. e));
     })
+
+-- What the region read otherwise was not copied: the worker is as after a batch of none, and leaves the chunk.
+module _ (seat : SeatAt) (s t : State) (before after : Option Group) (v u : View) (w x : Worker) (victim : Victim) (first : Bool) (H : HoldsAt seat v w) (S : StandsAt s seat v w) (O : InOrderAt seat v w) (own : IsOwn w.log) (way : under_way w ≡ Copying victim first) (some : 0 < victim.entries)
+    (M : MisreadsCopies t victim first w x) (T : KeepsTurn seat s t before after v u w M.mid) where
+  abbrev rest_of : Victim
+  rest_of = no_more_than (left_in M.mid.standing) (left_of victim M.copies.count (length M.copies.words))
+
+  way_mid : under_way M.mid ≡ Copying rest_of false
+  way_mid = way_now seat.place seat.number v w M.mid victim first H own way some M.copies
+
+  pub keeps_misread : KeepsTurn seat s t before after v u w x
+  keeps_misread = subst (λ (z : Worker). KeepsTurn seat s t before after v u w z) (sym M.same) (record {
+    moments = T.moments;
+    outside = T.outside;
+    holds = left_holds t seat.place seat.number u M.mid rest_of false T.holds T.stands T.order way_mid;
+    stands = left_stands t seat.place seat.number u M.mid rest_of false T.holds T.stands T.order way_mid;
+    order = left_order t seat.place seat.number u M.mid rest_of false T.holds T.stands T.order way_mid;
+    rule = λ r had. left_rule t seat.place seat.number u M.mid rest_of false T.holds T.stands T.order way_mid (T.rule r had);
+    moves = record { fixed = T.moves.fixed; answers = T.moves.answers; moves = T.moves.moves };
+  })
+
+  pub misread_less : left M.mid < left w → left x < left w
+  misread_less less = (let is = ap left M.same in let fewer = leaves_less t seat.place seat.number u M.mid rest_of false T.holds T.stands T.order way_mid in omega (arith, is, less, fewer))
 
 -- A batch that is lost: the core has stopped, and nothing else became of it.
 module _ (s t : State) (p : Place) (m : ℕ) (v : View) (w x : Worker) (victim : Victim) (first : Bool) (H : Holds p m v w) (S : Stands s p m v w) (O : InOrder p m v w) (way : under_way w ≡ Copying victim first) (L : LosesCopies first w x) where

@@ -70,9 +70,6 @@ left_short c n k = by (ltb n 64) where
   by true = omega arith
   by false = omega arith
 
-pub fewer_lines : (a b c d : ℕ) → a ≤ c → b ≤ d → lines_to_copy a b ≤ lines_to_copy c d
-fewer_lines a b c d x y = omega (arith, x, y)
-
 -- The lines of a batch and of what is left are no more than were pledged.
 pub batch_lines : (count words n k : ℕ) → 0 < n → n ≤ 64 → n ≤ count → k ≤ words → lines_for k + lines_after count words n k ≤ lines_to_copy count words
 batch_lines count words n k some most few short = by (ltb n 64) refl where

@@ -21,7 +21,7 @@ use Rattle.core_worker.specs.CopyItems.{CopiesOn, LeavesCopies, needs_chunk}
 use Rattle.core_worker.specs.CopyTurns.{left_of}
 use Rattle.core_worker.specs.OwnPlaces.{own, lines_in, place_at}
 use Rattle.core_worker.specs.Refusals.{IsCounted}
-use Rattle.core_worker.specs.Supplies.{supply_of, under_way, rest, KeepsRule, HasKeptRoom}
+use Rattle.core_worker.specs.Supplies.{supply_of, under_way, left_in, no_more_than, rest, KeepsRule, HasKeptRoom}
 use Rattle.core_worker.specs.TakenChunks.{TakesFor}
 use Rattle.core_worker.specs.Ties.{Holds}
 use Rattle.core_worker.proofs.BatchRoom.{few_lines}
@@ -30,6 +30,7 @@ use Rattle.core_worker.proofs.CopiedHolds as copied
 use Rattle.core_worker.proofs.CopiedLog.{room_open, batch_lines, none_lines, room_copied, room_opened}
 use Rattle.core_worker.proofs.DoomedHolds as cleaning
 use Rattle.core_worker.proofs.Pointers.{each, counted}
+use Rattle.core_worker.proofs.UnderWay.{counted_rest}
 use Rattle.core_worker.proofs.Writing.{none_counted}
 
 -- eight places pledge forty lines at most
@@ -107,7 +108,7 @@ module _ (p : Place) (m : ℕ) (v : View) (w x : Worker) (victim : Victim) (firs
     by None e = ap (λ (f : Option ℕ). is_some (opened_for w.log f).opened) e ∙ room_open w.log (let room = K.fits e in omega (arith, room, some))
     by (Some j) e = ap (λ (f : Option ℕ). is_some (opened_for w.log f).opened) e
 
-  pub way_now : under_way x ≡ Copying (left_of victim K.count (length K.words)) false
+  pub way_now : under_way x ≡ Copying (no_more_than (left_in x.standing) (left_of victim K.count (length K.words))) false
   way_now =
       let C = cleaning.cleans p m v w H victim first way in
       ap under_way K.same ∙ runs_way (copied.to p m v w x victim first H own_log way some K) C.runs C.works
@@ -116,12 +117,13 @@ module _ (p : Place) (m : ℕ) (v : View) (w x : Worker) (victim : Victim) (firs
   copied_room had =
       let there = fits_there had in
       let owns : own x.places.items ≡ own w.places.items = ap (λ (y : Worker). own y.places.items) K.same in
+      let less = counted_rest (left_in x.standing) (Copying (left_of victim K.count (length K.words)) false) in
       let left = ap rest way_now in
       let log = ap room_of K.batch.log_is in
       let few = K.batch.few in
       let within = K.batch.within in
       subst (λ (c : Cleaning). KeepsRule c (supply_of x)) (sym way_now)
       (inl (⊎_elim
-      (λ y. (let room = y.1 in let lines = batch_lines victim.entries victim.words K.count (length K.words) y.0 few within (K.batch.short y.0) in omega (arith, there, owns, left, log, room, lines)))
-      (λ z. (let room = z.1 in let none = none_lines victim.entries victim.words K.count (length K.words) z.0 in omega (arith, there, owns, left, log, room, none)))
+      (λ y. (let room = y.1 in let lines = batch_lines victim.entries victim.words K.count (length K.words) y.0 few within (K.batch.short y.0) in omega (arith, there, owns, left, less, log, room, lines)))
+      (λ z. (let room = z.1 in let none = none_lines victim.entries victim.words K.count (length K.words) z.0 in omega (arith, there, owns, left, less, log, room, none)))
       (room_copied K.count (opened_for w.log K.fresh) K.words is_open)))

@@ -17,6 +17,7 @@ use Rattle.log_standing.specs.NameCounts.{StandingState}
 use Rattle.log_cleaner.specs.declared.types.Victim.{Victim}
 use Rattle.log_cleaner.specs.Copying.{words_sum}
 use Rattle.log_cleaner.specs.CopyBatch.{Bounds, IsLess, next_batch}
+use Rattle.log_cleaner.specs.Tallied.{IsTallied}
 use Rattle.log_cleaner.proofs.Tallies.{words_long}
 use Rattle.group_laws.specs.Places.{Place}
 use Rattle.group_laws.specs.MemberViews.{View}
@@ -37,6 +38,7 @@ use Rattle.core_worker.proofs.CopiedHolds as copied
 use Rattle.core_worker.proofs.CopiedLog.{copied_layout, copied_part, copied_more, opened_part}
 use Rattle.core_worker.proofs.DoomedHolds as cleaning
 use Rattle.core_worker.proofs.Led.{runs_whole}
+use Rattle.core_worker.proofs.NamesStood.{few_none, none_fewest}
 use Rattle.core_worker.proofs.Writing.{Same, takes_same, in_chunks, opened_layout}
 
 -- what is left is within the numbers that are left
@@ -134,7 +136,8 @@ module _ (s t : State) (p : Place) (m : ℕ) (v : View) (w x : Worker) (victim :
       let X = K.batch.names in
       let begun = cleaning.begun p m v w H victim first way in
       let chunk_is : C.now.chunk ≡ victim.chunk = begun.chunk in
-      let cleaned : CopiesIn s w.log w.standing victim w.clearing = subst (IsCleanedBy s w.log w.standing w.clearing) (cleaning.way_is p m v w H victim first way) had.cleaned in
+      let cleaned = cleaning.copies_in p m v w H victim first way s had.cleaned in
+      let none_few = few_none w.standing x.standing K.batch.tally cleaned.fewest in
       let batch = R.batch telling in
       let long = ap (λ (ws : List ℕ). length ws) batch.words ∙ words_long (next_batch w.standing (entries_in s w.log victim.chunk)) in
       record {
@@ -143,6 +146,7 @@ module _ (s t : State) (p : Place) (m : ℕ) (v : View) (w x : Worker) (victim :
           has = subst (λ (j : ℕ). is_some (tail_of x.log.chunks j) ≡ true) (sym (K.batch.read h at)) (copied.log_more p m v w x victim first H own way some K victim.chunk cleaned.chunk);
           closed = λ same. copied.still_closed p m v w x victim first H own way some K (same ∙ ap Some (K.batch.read h at ∙ sym chunk_is));
         };
+        fewest = none_fewest t x.log x.standing none_few;
         knows = record {
           stands = λ k i yes. had.knows.stands k i (X.stood k i yes);
           all = λ k i is. X.stands k i (had.knows.all k i is);
@@ -155,6 +159,8 @@ module _ (s t : State) (p : Place) (m : ℕ) (v : View) (w x : Worker) (victim :
           chunk = copied.log_more p m v w x victim first H own way some K victim.chunk cleaned.chunk;
           bounds = subst (λ (es : List (ℕ × Entry)). Bounds (left_of victim K.count (length K.words)) x.standing es) (sym (R.chunk telling))
               (bounds_left victim w.standing x.standing (entries_in s w.log victim.chunk) K.count (length K.words) batch.count long (R.less telling) cleaned.bounds);
+          counts = subst (IsTallied x.standing) (sym (R.chunk telling)) (K.batch.tally.tally (entries_in s w.log victim.chunk) cleaned.counts);
+          fewest = none_few;
           room = λ c is. (let room = cleaned.room c is in let same = ap (λ (es : List (ℕ × Entry)). length es) (R.chunk telling) in omega (arith, room, same));
         };
       }

@@ -1,13 +1,19 @@
 -- What the doom of a cleaned chunk's names leaves of the ties of a worker.
-use Rattle.std.proofs.Common.{◌≡◌, ◌≢◌, inl, inr, ⊎_elim, ℕ, ◌≤◌, ◌==◌, Bool, true, false, cond, List, [], ◌∷◌, length, Some, None, refl, sym, ◌∙◌, ap, subst, arith}
-use Rattle.std.specs.Prelude.{is_some, vec_capacity}
+use Rattle.std.proofs.Common.{◌≡◌, ◌≢◌, inl, inr, ⊎_elim, ℕ, ◌≤◌, ◌==◌, Bool, true, false, cond, List, [], ◌∷◌, length, Option, Some, None, refl, sym, ◌∙◌, ap, subst, arith}
+use Rattle.std.specs.Prelude.{is_some, option_map, vec_capacity}
+use Rattle.std.proofs.Math.Nat.{le-min}
 use Rattle.std.proofs.lemmas.Bool.{eqb-true, and_parts}
 use Rattle.pm_region.specs.State.{State, IsTelling}
 use Rattle.log_entry.specs.declared.entry.Entry.{Entry}
-use Rattle.core_log.specs.Log.{tail_of}
+use Rattle.core_log.specs.Log.{LogState, tail_of}
 use Rattle.core_log.specs.Walking.{entries_in}
 use Rattle.lazy_alloc.specs.Sets.{chunk_is_free, chunk_class}
-use Rattle.log_standing.specs.NameCounts.{is_told, count_of}
+use Rattle.log_standing.specs.declared.types.Amount.{Amount}
+use Rattle.log_standing.specs.NameCounts.{StandingState, is_told, count_of}
+use Rattle.log_standing.specs.Tallies.{TallyState}
+use Rattle.log_cleaner.specs.CopyBatch.{Bounds}
+use Rattle.log_cleaner.specs.Tallied.{IsTallied}
+use Rattle.log_cleaner.specs.declared.types.Victim.{Victim}
 use Rattle.log_cleaner.specs.Clearing.{ClearingState}
 use Rattle.log_cleaner.specs.Copying.{left_to_copy}
 use Rattle.group_laws.specs.Places.{Place}
@@ -25,22 +31,96 @@ use Rattle.core_worker.specs.GoneMail.{HasPlacesFor}
 use Rattle.core_worker.specs.KeepsCleaning.{HasPhase, MayVanish, IsBegun, may_go, Cleans}
 use Rattle.core_worker.specs.LogNames.{CopiesIn, ClearsIn, IsCleanedBy}
 use Rattle.core_worker.specs.Order.{InOrder}
-use Rattle.core_worker.specs.Supplies.{under_way}
+use Rattle.core_worker.specs.Supplies.{under_way, counted_by, left_in, no_more_than}
 use Rattle.core_worker.specs.Ties.{LeadsAt, HasSpaceFor, Holds, Stands}
 use Rattle.core_worker.proofs.CleaningKept.{runs_way}
 use Rattle.core_worker.proofs.LogNames.{has_times}
 use Rattle.core_worker.proofs.MailKept.{mail_same}
+use Rattle.core_worker.proofs.UnderWay.{fewer_lines, left_chunk, left_fewer}
+
+-- A cleaning of which so much is left by what is counted.
+pub record Raw (o : Option Amount) (c : Cleaning) (left : Victim) (first : Bool) : Type 0 where
+  pub victim : Victim
+  pub is : c ≡ Copying victim first
+  pub lowered : left ≡ no_more_than o victim
+  pub chunk : left.chunk ≡ victim.chunk
+  pub fewer : (left.entries ≤ victim.entries) × (left.words ≤ victim.words)
+
+raw_of : (o : Option Amount) (c : Cleaning) (left : Victim) (first : Bool) → counted_by o c ≡ Copying left first → Raw o c left first
+raw_of o Nothing left first e = absurd (cc e)
+raw_of o (Doomed j) left first e = absurd (cc e)
+raw_of o (Copying v b) left first e =
+    let same : left ≡ no_more_than o v = sym (ap victim_in e) in
+    let less = left_fewer o v in
+    record {
+      victim = v;
+      is = ap (Copying v) (ap first_in e);
+      lowered = same;
+      chunk = ap (λ (x : Victim). x.chunk) same ∙ left_chunk o v;
+      fewer = subst (λ (x : Victim). (x.entries ≤ v.entries) × (x.words ≤ v.words)) (sym same) less;
+    }
+  where
+    victim_in : Cleaning → Victim
+    victim_in Nothing = v
+    victim_in (Copying x f) = x
+    victim_in (Doomed j) = v
+
+    first_in : Cleaning → Bool
+    first_in Nothing = b
+    first_in (Copying x f) = f
+    first_in (Doomed j) = b
+
+-- what is counted bounds what is left
+counted_in : (s : State) (log : LogState) (st : StandingState) (c : Option ClearingState) (v left : Victim) → left.chunk ≡ v.chunk → left ≡ no_more_than (left_in st) v → CopiesIn s log st v c → CopiesIn s log st left c
+counted_in s log st c v left chunk is C = record {
+  chunk = subst (λ (j : ℕ). is_some (tail_of log.chunks j) ≡ true) (sym chunk) C.chunk;
+  bounds = subst (λ (j : ℕ). Bounds left st (entries_in s log j)) (sym chunk) (subst (λ (x : Victim). Bounds x st (entries_in s log v.chunk)) (sym (is ∙ ap (λ (o : Option Amount). no_more_than o v) (ap (λ (o : Option TallyState). option_map (λ (t : TallyState). t.left) o) C.counts.is))) (record {
+    entries = le-min C.bounds.entries (let e = C.counts.of.entries in omega (arith, e));
+    words = le-min C.bounds.words (let e = C.counts.of.words in omega (arith, e));
+  }));
+  counts = subst (λ (j : ℕ). IsTallied st (entries_in s log j)) (sym chunk) C.counts;
+  fewest = C.fewest;
+  room = λ x has. subst (λ (j : ℕ). length (entries_in s log j) ≤ x.room) (sym chunk) (C.room x has);
+}
 
 -- who goes on with copies cleans a chunk as its ties say
 module _ (p : Place) (m : ℕ) (v : View) (w : Worker) (H : Holds p m v w) (victim : _) (first : Bool) (way : under_way w ≡ Copying victim first) where
   pub cleans : Cleans p m v.doomed v.dead w.stopped w.winds_down w.leading w.log w.allocator w.standing w.clearing w.own_gone w.notices.items w.cleaning
   cleans = ⊎_elim (λ none. absurd (let both : Nothing ≡ Copying victim first = sym none ∙ way in cc both)) (λ C. C) H.cleaning
 
-  pub way_is : w.cleaning ≡ Copying victim first
-  way_is = sym (runs_way w cleans.runs cleans.works) ∙ way
+  pub raw : Raw (left_in w.standing) w.cleaning victim first
+  raw = raw_of (left_in w.standing) w.cleaning victim first (sym (runs_way w cleans.runs cleans.works) ∙ way)
+
+  begun_raw : IsBegun w.log cleans.now raw.victim first
+  begun_raw = subst (HasPhase p m v.doomed v.dead w.log w.standing cleans.now w.own_gone.items) raw.is cleans.phase
 
   pub begun : IsBegun w.log cleans.now victim first
-  begun = subst (HasPhase p m v.doomed v.dead w.log w.standing cleans.now w.own_gone.items) way_is cleans.phase
+  begun =
+      let B = begun_raw in
+      let few = raw.fewer in
+      let a = few.0 in
+      let b = few.1 in
+      let c = B.small.0 in
+      let d = B.small.1 in
+      let third = B.third in
+      let less = fewer_lines victim.entries victim.words raw.victim.entries raw.victim.words a b in
+      record {
+        chunk = B.chunk ∙ sym raw.chunk;
+        fresh = B.fresh;
+        small = (omega (arith, b, c), omega (arith, a, d));
+        third = omega (arith, third, less);
+      }
+
+  -- there are places for all names of its clearing
+  pub room_here : cleans.now.room ≤ vec_capacity w.own_gone
+  room_here = subst (λ (c : Cleaning). may_go cleans.now c ≤ vec_capacity w.own_gone) raw.is cleans.own_places
+
+  pub room_boxes : HasPlacesFor cleans.now.room w.notices.items
+  room_boxes = subst (λ (c : Cleaning). HasPlacesFor (may_go cleans.now c) w.notices.items) raw.is cleans.places
+
+  -- what the region has of the chunk
+  pub copies_in : (s : State) → IsCleanedBy s w.log w.standing w.clearing w.cleaning → CopiesIn s w.log w.standing victim w.clearing
+  copies_in s had = counted_in s w.log w.standing w.clearing raw.victim victim raw.chunk raw.lowered (subst (IsCleanedBy s w.log w.standing w.clearing) raw.is had)
 
 module _ (s : State) (p : Place) (m : ℕ) (v u : View) (w x : Worker) (H : Holds p m v w) (O : InOrder p m v w) (D : DoomsIn s p m v u w x) where
   abbrev C : Cleans p m v.doomed v.dead w.stopped w.winds_down w.leading w.log w.allocator w.standing w.clearing w.own_gone w.notices.items w.cleaning
@@ -82,10 +162,10 @@ module _ (s : State) (p : Place) (m : ℕ) (v u : View) (w x : Worker) (H : Hold
   fewer = subst (λ (c : ClearingState). length D.now.doomed ≤ c.room) old_is D.few
 
   room_places : C.now.room ≤ vec_capacity w.own_gone
-  room_places = subst (λ (c : Cleaning). may_go C.now c ≤ vec_capacity w.own_gone) (way_is p m v w H D.victim D.first D.way) C.own_places
+  room_places = room_here p m v w H D.victim D.first D.way
 
   boxes_places : HasPlacesFor C.now.room w.notices.items
-  boxes_places = subst (λ (c : Cleaning). HasPlacesFor (may_go C.now c) w.notices.items) (way_is p m v w H D.victim D.first D.way) C.places
+  boxes_places = room_boxes p m v w H D.victim D.first D.way
 
   cleans_now : Cleans p m now.doomed now.dead w.stopped w.winds_down w.leading w.log w.allocator w.standing x.clearing x.own_gone w.notices.items (Doomed D.victim.chunk)
   cleans_now = record {
@@ -177,7 +257,7 @@ module _ (s : State) (p : Place) (m : ℕ) (v u : View) (w x : Worker) (H : Hold
   clears_now : Stands s p m v w → IsTelling s → IsCleanedBy s w.log w.standing x.clearing (Doomed D.victim.chunk)
   clears_now S telling c is =
       let here : D.now ≡ c = (let both : Some D.now ≡ Some c = sym D.is ∙ is in cc both) in
-      let had : CopiesIn s w.log w.standing D.victim w.clearing = subst (IsCleanedBy s w.log w.standing w.clearing) (way_is p m v w H D.victim D.first D.way) (S.names D.runs D.works telling).cleaned in
+      let had = copies_in p m v w H D.victim D.first D.way s (S.names D.runs D.works telling).cleaned in
       subst (ClearsIn s w.log w.standing) here (record {
         chunk = subst (λ (j : ℕ). is_some (tail_of w.log.chunks j) ≡ true) chunk_is C.chunk;
         ready = record {
@@ -198,6 +278,7 @@ module _ (s : State) (p : Place) (m : ℕ) (v u : View) (w x : Worker) (H : Hold
     names = λ r on telling. let N = S.names r on telling in record {
       counted = N.counted;
       read = N.read;
+      fewest = N.fewest;
       knows = N.knows;
       cleaned = clears_now S telling;
     };

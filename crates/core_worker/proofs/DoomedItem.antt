@@ -30,7 +30,7 @@ use Rattle.core_worker.specs.KeepsCleaning.{IsBegun, may_go, Cleans}
 use Rattle.core_worker.specs.LogNames.{AreOwnOf, CopiesIn, IsCleanedBy}
 use Rattle.core_worker.specs.Order.{InOrder}
 use Rattle.core_worker.specs.OwnPlaces.{own}
-use Rattle.core_worker.specs.Supplies.{supply_of, under_way, rest, KeepsRule, HasKeptRoom}
+use Rattle.core_worker.specs.Supplies.{supply_of, under_way, rest, KeepsRule, HasKeptRoom, counted_by, left_in}
 use Rattle.core_worker.specs.Ties.{LeadsAt, Holds, Stands, HoldsAt, StandsAt}
 use Rattle.core_worker.specs.Turning.{KeepsTurn}
 use Rattle.core_worker.specs.Turns.{InOrderAt, Steps}
@@ -78,12 +78,13 @@ module _ (s : State) (p : Place) (m : ℕ) (v : View) (w : Worker) (H : Holds p 
     fresh = begun_now.fresh
 
     pub places : c.room ≤ vec_capacity w.own_gone
-    places = subst (λ (y : ClearingState). y.room ≤ vec_capacity w.own_gone) now_is (subst (λ (k : Cleaning). may_go cleans.now k ≤ vec_capacity w.own_gone) (doomed.way_is p m v w H victim d.0 d.1) cleans.own_places)
+    unfolding cleans
+    places = subst (λ (y : ClearingState). y.room ≤ vec_capacity w.own_gone) now_is (doomed.room_here p m v w H victim d.0 d.1)
 
     pub room : IsTelling s → length (entries_in s w.log c.chunk) ≤ c.room
     room telling = subst (λ (j : ℕ). length (entries_in s w.log j) ≤ c.room) (sym begun_now.chunk) (had.room c is) where
       had : CopiesIn s w.log w.standing victim w.clearing
-      had = subst (IsCleanedBy s w.log w.standing w.clearing) (doomed.way_is p m v w H victim d.0 d.1) (S.names cleans.runs cleans.works telling).cleaned
+      had = doomed.copies_in p m v w H victim d.0 d.1 s (S.names cleans.runs cleans.works telling).cleaned
 
     pub dooms_in : (u : View) (x : Worker) (now : ClearingState) → x.clearing ≡ Some now → now.chunk ≡ c.chunk → AreLone w.standing now.doomed → AreNoted now → length now.doomed ≤ c.room → vec_capacity w.own_gone ≤ vec_capacity x.own_gone → (IsTelling s → IsGathered w.standing (entries_in s w.log c.chunk) now)
         → AreOwnOf p m now.doomed x.own_gone.items → u ≡ after_doom now.doomed v → x ≡ record w { cleaning = Doomed victim.chunk; clearing = x.clearing; own_gone = x.own_gone } → DoomsIn s p m v u w x
@@ -112,7 +113,7 @@ module _ (s : State) (p : Place) (m : ℕ) (v : View) (w : Worker) (H : Holds p 
 
 module _ (s : State) (p : Place) (m : ℕ) (v u : View) (w x : Worker) (H : Holds p m v w) (O : InOrder p m v w) (D : DoomsIn s p m v u w x) where
   way_now : under_way x ≡ Doomed D.victim.chunk
-  way_now = runs_way x (ap (λ (y : Worker). y.stopped) D.same ∙ D.runs) (ap (λ (y : Worker). y.winds_down) D.same ∙ D.works) ∙ ap (λ (y : Worker). y.cleaning) D.same
+  way_now = runs_way x (ap (λ (y : Worker). y.stopped) D.same ∙ D.runs) (ap (λ (y : Worker). y.winds_down) D.same ∙ D.works) ∙ ap (counted_by (left_in x.standing)) (ap (λ (y : Worker). y.cleaning) D.same)
 
   pub doomed_room : HasKeptRoom w → HasKeptRoom x
   doomed_room had = subst (λ (c : Cleaning). KeepsRule c (supply_of x)) (sym way_now) (by D.first (subst (λ (c : Cleaning). KeepsRule c (supply_of w)) D.way had)) where
@@ -139,8 +140,9 @@ module _ (s : State) (p : Place) (m : ℕ) (v u : View) (w x : Worker) (H : Hold
   doomed_less =
       let same = ap serves_left D.same in
       let kept = ap (λ (y : Worker). clears_left y.accepted y.cleaning y.standing y.index y.notices.items) D.same in
-      let was = ap (λ (c : Cleaning). clears_left w.accepted c w.standing w.index w.notices.items) (doomed.way_is p m v w H D.victim D.first D.way) in
-      let less = clears.dooms w.accepted D.first w.standing w.index w.notices.items D.victim D.victim.chunk in
+      let raw = doomed.raw p m v w H D.victim D.first D.way in
+      let was = ap (λ (c : Cleaning). clears_left w.accepted c w.standing w.index w.notices.items) raw.is in
+      let less = clears.dooms w.accepted D.first w.standing w.index w.notices.items raw.victim D.victim.chunk in
       omega (arith, same, kept, was, less)
 
 pub doomed_lower : (before after : Option Group) (m : ℕ) (ns : List EntryName) (u : View) (w x : Worker) → Makes before m (Kind.Doom ns) after u → IsLawful before → left x < left w → Lowers before after w x

@@ -20,6 +20,8 @@ use Rattle.core_worker.specs.Ties.{Holds}
 use Rattle.core_worker.specs.Order.{InOrder, PointsAt}
 use Rattle.core_worker.specs.Finishing.{PutsBackIf, IsFreed}
 use Rattle.core_worker.specs.Stopping.{staged_block, PutsAway}
+use Rattle.core_worker.specs.Supplies.{under_way}
+use Rattle.core_worker.proofs.UnderWay.{pledges_itself}
 use Rattle.core_worker.proofs.CleaningKept.{stopped_none}
 use Rattle.core_worker.proofs.Posts.{busy_by}
 use Rattle.core_worker.proofs.PuttingBack.{put_chunks, put_count, put_less, put_gone, put_kept}
@@ -83,7 +85,7 @@ module _ (p : groups.Place) (m : ℕ) (v : View) (w : Worker) (H : Holds p m v w
       layout = refl;
       core = refl;
       log = refl;
-      cleaning = inl refl;
+      cleaning = inl (pledges_itself (under_way w) (under_way w) refl);
       cleans = λ had. inl (stopped_none w stopped);
       runs = λ r. r;
       spelled = H.spelled;

@@ -25,7 +25,7 @@ use Rattle.batch_leader.specs.Persisting.{StaysLicensed, WritesPart}
 use Rattle.licence.specs.Licence.{Licensed}
 use Rattle.licence.specs.Writes.{Begins}
 use Rattle.core_worker.specs.declared.types.Cleaning.{Cleaning}
-use Rattle.core_worker.specs.declared.types.Cleaning.TheVariants.{Nothing, Doomed}
+use Rattle.core_worker.specs.declared.types.Cleaning.TheVariants.{Copying, Doomed, Nothing}
 use Rattle.core_worker.specs.declared.types.Leading.TheVariants as leads
 use Rattle.core_worker.specs.declared.types.Place as places
 use Rattle.core_worker.specs.declared.types.Place.TheVariants.{Free, Staged, Posted}
@@ -45,6 +45,8 @@ use Rattle.core_worker.specs.Turning.{KeepsTurn}
 use Rattle.core_worker.specs.Turns.{InOrderAt, Steps}
 use Rattle.core_worker.proofs.BlockStands.{holds_stopped}
 use Rattle.core_worker.proofs.ClearsLeft as clears
+use Rattle.log_standing.specs.declared.types.Amount.{Amount}
+use Rattle.core_worker.specs.Supplies.{counted_by, left_in}
 use Rattle.core_worker.proofs.CleaningKept.{runs_way}
 use Rattle.core_worker.proofs.EndedHolds.{ended_holds}
 use Rattle.core_worker.proofs.EndedMoves.{ended_moves, ended_room}
@@ -59,6 +61,12 @@ use Rattle.core_worker.proofs.LogEnds.{others_none, names_agree}
 use Rattle.core_worker.proofs.PostMoves.{fault_moves}
 use Rattle.core_worker.proofs.TurnLaws.{nothing_fixed}
 
+-- a cleaning that dooms, whatever is counted
+doomed_raw : (o : Option Amount) (c : Cleaning) (j : ℕ) → counted_by o c ≡ Doomed j → c ≡ Doomed j
+doomed_raw o Nothing j e = absurd (cc e)
+doomed_raw o (Copying v first) j e = absurd (cc e)
+doomed_raw o (Doomed i) j e = e
+
 module _ (s : State) (p : Place) (m : ℕ) (v : View) (w : Worker) (H : Holds p m v w) (S : Stands s p m v w) (O : InOrder p m v w) (d : (j : ℕ) × (under_way w ≡ Doomed j)) where
   pub cleans : Cleans p m v.doomed v.dead w.stopped w.winds_down w.leading w.log w.allocator w.standing w.clearing w.own_gone w.notices.items w.cleaning
   cleans = ⊎_elim (λ none. absurd (let both : Nothing ≡ Doomed d.0 = sym none ∙ d.1 in cc both)) (λ C. C) H.cleaning
@@ -67,7 +75,7 @@ module _ (s : State) (p : Place) (m : ℕ) (v : View) (w : Worker) (H : Holds p 
   runs = cleans.runs
 
   pub way_is : w.cleaning ≡ Doomed d.0
-  way_is = sym (runs_way w cleans.runs cleans.works) ∙ d.1
+  way_is = doomed_raw (left_in w.standing) w.cleaning d.0 (sym (runs_way w cleans.runs cleans.works) ∙ d.1)
 
   pub begins : Begins s p m v w.log
   begins = record { own = record { layout = H.log_layout; part = H.log_part }; stands = S.log runs; licensed = S.licensed }

@@ -34,6 +34,7 @@ use Rattle.core_worker.specs.LogNames.{NamesStand}
 use Rattle.core_worker.specs.Outbox.{KeepsMail, as_told}
 use Rattle.core_worker.specs.Ties.{Stands, Leads, HasSpaceFor, is_lost}
 use Rattle.core_worker.specs.Beginning.{HoldsAside}
+use Rattle.core_worker.proofs.UnderWay.{Pledges}
 use Rattle.core_worker.proofs.ChunksKept.{chunk_same}
 use Rattle.core_worker.proofs.Posts.{busy_by, busy_has}
 
@@ -43,7 +44,7 @@ pub record Frees (p : Place) (m key slot : ℕ) (v u : View) (w x : Worker) : Ty
   pub layout : x.layout ≡ w.layout
   pub core : x.core ≡ w.core
   pub log : x.log ≡ w.log
-  pub cleaning : (under_way x ≡ under_way w) ⊎ (under_way x ≡ Nothing)
+  pub cleaning : Pledges (under_way x) (under_way w) ⊎ (under_way x ≡ Nothing)
   pub cleans : KeepsCleaning p m v w → KeepsCleaning p m u x
   pub runs : x.stopped ≡ false → w.stopped ≡ false
   -- keys

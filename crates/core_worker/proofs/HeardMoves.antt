@@ -26,8 +26,9 @@ use Rattle.core_worker.specs.Mails.{Hears}
 use Rattle.core_worker.specs.WorkerMoves.{placed_in, stock_of}
 use Rattle.core_worker.specs.Left.{place_left, places_left, serves_left, left}
 use Rattle.core_worker.specs.CleaningLeft.{clears_left}
+use Rattle.log_cleaner.proofs.TallyLaws.{keeps_both}
 use Rattle.core_worker.proofs.ClearsLeft as clears
-use Rattle.core_worker.proofs.UnderWay.{room_less}
+use Rattle.core_worker.proofs.UnderWay.{room_fewer, standing_pledges}
 use Rattle.core_worker.proofs.StockFacts.{still_spend, stock_small}
 use Rattle.core_worker.proofs.QuietMoves.{quiet_moves_low}
 use Rattle.core_worker.proofs.TurnLaws.{SameChange, held_same, nothing_fixed}
@@ -77,7 +78,7 @@ module _ (seat : SeatAt) (from : ℕ) (v : View) (w : Worker) (H : HoldsAt seat 
         holds = N;
         stands = R;
         order = stood.heard_order seat.place seat.number from v w H O runs nothing n A ps ix st X last told dead T;
-        rule = λ on kept. room_less w heard (omega (arith, own)) refl refl (inl refl) kept;
+        rule = λ on kept. room_fewer w heard (omega (arith, own)) refl refl (inl (standing_pledges w st (keeps_both w.standing X.killed st X.kills.tally X.tells.tally))) kept;
         moves = nothing_fixed seat s s before after v view w heard refl
             (quiet_moves_low seat.place seat.number s s before after v view w heard N (all_kept s (part_at seat.place seat.number) (part_end seat.place seat.number)) (started s (Licensed seat.place seat.number v) S.licensed) R.licensed made refl refl refl last_low refl
             (λ on. still_spend seat.place.layout v.took v.flying v.took v.flying (stock_of w) (stock_of heard) (record { chunks = omega arith; lines = omega arith; blocks = λ c. omega arith }) (stock_small seat.place seat.number view heard N) (omega arith))

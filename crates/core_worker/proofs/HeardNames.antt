@@ -12,6 +12,9 @@ use Rattle.log_standing.specs.NameCounts.{StandingState, name_eq, copies_at, cou
 use Rattle.log_standing.specs.NameCounts as counts
 use Rattle.log_standing.proofs.Clients.{same_name, name_same}
 use Rattle.core_worker.specs.Hearing.{is_dead_by}
+use Rattle.log_cleaner.specs.Tallied.{KeepsTally}
+use Rattle.log_cleaner.proofs.Between.{kill_tally}
+use Rattle.log_cleaner.proofs.TallyLaws.{keeps_both, keeps_itself}
 use Rattle.core_worker.specs.StandingTies.{HearsOwn}
 use Rattle.core_worker.proofs.Heard.{Hears, hears_none, hears_more, dead_told, standing_told}
 
@@ -48,6 +51,7 @@ pub record TellsSoFar (home : ℕ) (first es : List (ℕ × Place)) (old st : St
   pub all : (k n : ℕ) → 0 < count_of old k n → (is_told old k n ≡ true) ⊎ (Awaits (known_at first k) home n × (Awaits (known_at es k) home n → ⊥)) → is_told st k n ≡ true
   pub settled : st.settled ≡ old.settled
   pub room : st.room ≡ old.room
+  pub tally : KeepsTally old st
 
 pub tells_none : (home : ℕ) (es : List (ℕ × Place)) (st : StandingState) → TellsSoFar home es es st st
 tells_none home es st = record {
@@ -57,6 +61,7 @@ tells_none home es st = record {
   all = λ k n some which. ⊎_elim (λ t. t) (λ x. absurd (x.1 x.0)) which;
   settled = refl;
   room = refl;
+  tally = keeps_itself st;
 }
 
 count_killed : (o : Option Copies) → count_in (option_map killed o) ≡ count_in o
@@ -69,7 +74,7 @@ told_killed (Some c) some = refl
 
 -- one name more
 module _ (home : ℕ) (first es next : List (ℕ × Place)) (old st now : StandingState) (name : EntryName) (t : Tells es next home name) (kills : Changes st now name.key name.version (option_map killed (copies_at st name.key name.version)))
-    (settled : now.settled ≡ st.settled) (room : now.room ≡ st.room) (S : TellsSoFar home first es old st) where
+    (settled : now.settled ≡ st.settled) (room : now.room ≡ st.room) (tally : now.tally ≡ counts.tally_without st name.key name.version) (fewest : now.fewest ≡ counts.fewest_without st name.key name.version) (S : TellsSoFar home first es old st) where
   hears_next : Hears home first next
   hears_next = hears_more home first es next name S.hears t
 
@@ -147,6 +152,7 @@ module _ (home : ℕ) (first es next : List (ℕ × Place)) (old st now : Standi
     all = all_now;
     settled = settled ∙ S.settled;
     room = room ∙ S.room;
+    tally = keeps_both old st now S.tally (kill_tally st now name.key name.version kills tally fewest);
   }
 
 -- where none awaits any more, all were told
@@ -157,4 +163,5 @@ tells_all home first es old st none S = record {
   all = λ k n some which. S.all k n some (⊎_elim (λ x. inl x) (λ a. inr (a, λ b. none (record { key = k; version = n }) b)) which);
   settled = S.settled;
   room = (let r = S.room in omega (arith, r));
+  tally = S.tally;
 }

@@ -147,7 +147,7 @@ module _ (p : Place) (m from : ℕ) (v : View) (w : Worker) (H : Holds p m v w) 
   names_now : (s : State) → NamesStand s m v.kept v.present v.told v.dead w.log w.standing w.clearing w.cleaning → NamesStand s m v.kept left.present told dead w.log st w.clearing w.cleaning
   names_now s N =
       let killed = killed_names p m from n (mailing all v) w.standing X.killed (knew N.knows) (mail.heard_all p m from v w H O runs nothing n A ps ix st X last told dead T) X.kills in
-      let mid = names_more s m v.kept v.kept v.present left.present v.told (after_receive p m n (mailing all v)).told v.dead left.dead w.log w.standing X.killed w.clearing w.cleaning (killed_count n.dead w.standing X.killed X.kills) (λ k i some is. killed_up n.dead w.standing X.killed X.kills k i is) X.kills.settled N
+      let mid = names_more s m v.kept v.kept v.present left.present v.told (after_receive p m n (mailing all v)).told v.dead left.dead w.log w.standing X.killed w.clearing w.cleaning (killed_count n.dead w.standing X.killed X.kills) (λ k i some is. killed_up n.dead w.standing X.killed X.kills k i is) X.kills.settled X.kills.tally N
       (record { stands = killed.stands; all = killed.all; deaths = killed.deaths; buried = killed.buried; own = killed.own; heard = killed.heard }) in
       names_heard s m (core_of p m) X.mid v.kept v.kept left.present left.present (after_receive p m n (mailing all v)).told told left.dead dead w.log X.killed st w.clearing w.cleaning X.tells mid (heard_names N.knows)
 

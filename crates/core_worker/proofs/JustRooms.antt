@@ -414,10 +414,10 @@ just_dooms : (s : State) (p : groups.Place) (m : ℕ) (v u : View) (w x : Worker
 just_dooms s p m v u w x D J = subst HasJustRoom (sym D.same) J
 
 -- nor do copies
-just_copies : (p : groups.Place) (m : ℕ) (a b : Moment) (refused : Bool) → Copies refused p m a b → HasJustRoom a.worker → HasJustRoom b.worker
-just_copies p m a b refused C J =
+just_copies : (t : State) (p : groups.Place) (m : ℕ) (a b : Moment) (refused : Bool) → Copies t refused p m a b → HasJustRoom a.worker → HasJustRoom b.worker
+just_copies t p m a b refused C J =
     let R = just_passed p m a.worker C.ready C.before.looked.looks C.sending J in
-    ⊎_elim (λ K. subst HasJustRoom (sym K.0.same) R) (λ L. subst HasJustRoom (sym L.0.same) R) C.copies
+    ⊎_elim (λ K. subst HasJustRoom (sym K.0.same) R) (λ rest. ⊎_elim (λ L. subst HasJustRoom (sym L.0.same) R) (λ M. subst HasJustRoom (sym M.0.same) (subst HasJustRoom (sym M.0.copies.same) R)) rest) C.copies
 
 just_did : (s t : State) (refused : Bool) (before : Option Group) (seat : SeatAt) (a b : Moment) → AreApart a.worker.places.items → Did s t refused before seat a b → HasJustRoom a.worker → HasJustRoom b.worker
 just_did s t refused before seat a b apart (Did.goes_round calm (inl C)) J = same_leading a.worker b.worker C.same J
@@ -434,7 +434,7 @@ just_did s t refused before seat a b apart (Did.receives calm R) J = just_receiv
 just_did s t refused before seat a b apart (Did.sends calm S) J = just_sends refused seat.place seat.number a b S J
 just_did s t refused before seat a b apart (Did.winds calm W) J = just_winds b.worker W.winds
 just_did s t refused before seat a b apart (Did.dooms calm D) J = just_dooms s seat.place seat.number D.mid b.view D.ready b.worker D.dooms (just_passed seat.place seat.number a.worker D.ready D.before.looked.looks D.sending J)
-just_did s t refused before seat a b apart (Did.copies C) J = just_copies seat.place seat.number a b refused C J
+just_did s t refused before seat a b apart (Did.copies C) J = just_copies t seat.place seat.number a b refused C J
 just_did s t refused before seat a b apart (Did.loses_copies L) J = just_stopped b.worker (ap (λ (y : Worker). y.stopped) L.lost.same)
 just_did s t refused before seat a b apart (Did.clears C) J = just_ends seat.place seat.number C.mid b.view C.ready b.worker C.clearing C.ends (just_passed seat.place seat.number a.worker C.ready C.before.looked.looks C.sending J)
 just_did s t refused before seat a b apart (Did.loses_clearing L) J = just_stopped b.worker (ap (λ (y : Worker). y.stopped) L.same)

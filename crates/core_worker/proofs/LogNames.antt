@@ -10,7 +10,7 @@ use Rattle.core_index.specs.Records.{KeyRecord, Awaits, standing_at, standing_of
 use Rattle.core_index.specs.Slots as slots
 use Rattle.core_index.proofs.Clients.{found_version}
 use Rattle.log_standing.specs.declared.types.Copies.{Copies}
-use Rattle.log_standing.specs.NameCounts.{StandingState, name_eq, copies_at, count_in, count_of, is_told, killed, wants, bit, times_in, copies_with, Changes}
+use Rattle.log_standing.specs.NameCounts.{StandingState, name_eq, copies_at, count_in, count_of, is_told, killed, wants, bit, times_in, copies_with, Changes, tally_without, fewest_without}
 use Rattle.log_standing.specs.NameCounts as counts
 use Rattle.log_standing.specs.ChunkCounts.{is_named, has_name}
 use Rattle.log_standing.proofs.Clients.{same_name}
@@ -27,6 +27,8 @@ use Rattle.group_board.specs.Assurances.{IsHeard}
 use Rattle.core_worker.specs.declared.types.Place as places
 use Rattle.core_worker.specs.KeyTies.{KnowsKey}
 use Rattle.core_worker.specs.StandingTies.{IsNamedIn, KnowsDead, HearsOwn}
+use Rattle.log_cleaner.proofs.Between.{kill_tally}
+use Rattle.log_cleaner.proofs.TallyLaws.{keeps_both, keeps_itself}
 use Rattle.core_worker.specs.GoneNames.{LosesIn, KnowsAll, LetsNamesGo}
 use Rattle.core_worker.specs.LogNames.{KnowsNames, KnowsBy, KillsNames, HearsNotices, LosesChunk, AreOwnOf}
 use Rattle.core_worker.proofs.HeardNames.{stands_by, dies_by, awaits_by}
@@ -43,19 +45,20 @@ name_way a b k n = refl
 
 -- names are told dead one after another
 pub kills_first : (st : StandingState) → KillsNames [] st st
-kills_first st = record { copies = λ k n. refl; settled = refl; room = refl; count = refl }
+kills_first st = record { copies = λ k n. refl; settled = refl; room = refl; count = refl; tally = keeps_itself st }
 
 killed_twice : (o : Option Copies) → option_map killed (option_map killed o) ≡ option_map killed o
 killed_twice None = refl
 killed_twice (Some c) = refl
 
 pub kills_more : (ns : List EntryName) (i : ℕ) → i < length ns → (old mid new : StandingState) → KillsNames (take i ns) old mid
-    → Changes mid new (get_or ns i none).key (get_or ns i none).version (option_map killed (copies_at mid (get_or ns i none).key (get_or ns i none).version)) → new.settled ≡ mid.settled → new.room ≡ mid.room → length new.entries ≡ length mid.entries → KillsNames (take (i + 1) ns) old new
-kills_more ns i lt old mid new K C settled room count = subst (λ (j : ℕ). KillsNames (take j ns) old new) (let e : suc i ≡ i + 1 = omega arith in e) (record {
+    → Changes mid new (get_or ns i none).key (get_or ns i none).version (option_map killed (copies_at mid (get_or ns i none).key (get_or ns i none).version)) → new.settled ≡ mid.settled → new.room ≡ mid.room → length new.entries ≡ length mid.entries → new.tally ≡ tally_without mid (get_or ns i none).key (get_or ns i none).version → new.fewest ≡ fewest_without mid (get_or ns i none).key (get_or ns i none).version → KillsNames (take (i + 1) ns) old new
+kills_more ns i lt old mid new K C settled room count tally fewest = subst (λ (j : ℕ). KillsNames (take j ns) old new) (let e : suc i ≡ i + 1 = omega arith in e) (record {
   copies = λ k n. C k n ∙ by k n (name_eq (name.key, name.version) (k, n)) refl ∙ ap (λ (b : Bool). cond b (option_map killed (copies_at old k n)) (copies_at old k n)) (sym (has_more ns i lt k n));
   settled = settled ∙ K.settled;
   room = room ∙ K.room;
   count = count ∙ K.count;
+  tally = keeps_both old mid new K.tally (kill_tally mid new name.key name.version C tally fewest);
 }) where
   name : EntryName
   name = get_or ns i none

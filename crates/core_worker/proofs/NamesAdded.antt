@@ -1,5 +1,5 @@
 -- The names of a batch are added one after another.
-use Rattle.std.proofs.Common.{◌≡◌, ℕ, zero, suc, ◌+◌, ◌<◌, ◌≤◌, min, Bool, true, false, cond, List, [], ◌∷◌, length, take, Option, Some, None, refl, ◌∙◌, ap, arith}
+use Rattle.std.proofs.Common.{sym, subst, ◌≡◌, ℕ, zero, suc, ◌+◌, ◌<◌, ◌≤◌, min, Bool, true, false, cond, List, [], ◌∷◌, length, take, Option, Some, None, refl, ◌∙◌, ap, arith}
 use Rattle.std.proofs.lemmas.List.Sums.{sum_by-cons}
 use Rattle.log_entry.specs.declared.entry.Entry.{Entry}
 use Rattle.log_entry.specs.declared.entry.EntryName.{EntryName}
@@ -43,9 +43,10 @@ pub record AddsSoFar (ts : List Taken) (i : ℕ) (old st : StandingState) : Type
   pub settled : st.settled ≡ old.settled
   pub room : most_names ≤ st.room + i
   pub many : length st.entries ≤ length old.entries + min i (length ts)
+  pub fewest : st.fewest ≡ 0
 
-pub adds_first : (ts : List Taken) (st : StandingState) → most_names ≤ st.room → AddsSoFar ts 0 st st
-adds_first ts st room = record { counts = λ k n. omega arith; told = λ k n. refl; settled = refl; room = omega (arith, room); many = omega arith }
+pub adds_first : (ts : List Taken) (st new : StandingState) → new ≡ record st { fewest = 0 } → most_names ≤ st.room → AddsSoFar ts 0 st new
+adds_first ts st new is room = subst (AddsSoFar ts 0 st) (sym is) (record { counts = λ k n. omega arith; told = λ k n. refl; settled = refl; room = omega (arith, room); many = omega arith; fewest = refl })
 
 count_more : (o : Option Copies) → count_in (Some (one_more o)) ≡ count_in o + 1
 count_more None = refl
@@ -75,15 +76,17 @@ module _ (ts : List Taken) (i : ℕ) (old st : StandingState) (S : AddsSoFar ts 
     settled = S.settled;
     room = (let r = S.room in omega (arith, r));
     many = (let m = S.many in omega (arith, m));
+    fewest = S.fewest;
   }
 
-  pub adds_one : (new : StandingState) (name : EntryName) → name_in ts i ≡ Some name → Changes st new name.key name.version (Some (one_more (copies_at st name.key name.version))) → new.room + 1 ≡ st.room → new.settled ≡ st.settled → length new.entries ≤ length st.entries + 1 → AddsSoFar ts (i + 1) old new
-  adds_one new name is changes room settled one = record {
+  pub adds_one : (new : StandingState) (name : EntryName) → name_in ts i ≡ Some name → Changes st new name.key name.version (Some (one_more (copies_at st name.key name.version))) → new.room + 1 ≡ st.room → new.settled ≡ st.settled → length new.entries ≤ length st.entries + 1 → new.fewest ≡ st.fewest → AddsSoFar ts (i + 1) old new
+  adds_one new name is changes room settled one fewest = record {
     counts = λ k n. (let a = S.counts k n in let b = taken_more (Some name) is k n in let d = count_now k n in omega (arith, a, b, d));
     told = λ k n. told_now k n ∙ S.told k n;
     settled = settled ∙ S.settled;
     room = (let r = S.room in omega (arith, r, room));
     many = counts_more ts i old st new name is S.many one;
+    fewest = fewest ∙ S.fewest;
   } where
     here_is : (k n : ℕ) → name_eq (name.key, name.version) (k, n) ≡ true → copies_at st name.key name.version ≡ copies_at st k n
     here_is k n e = let same = same_name name.key name.version k n e in λ j. copies_at st (same.0 j) (same.1 j)
@@ -115,6 +118,7 @@ adds_all ts old st few S = record {
   counts = λ k n. S.counts k n ∙ ap (λ (es : List Entry). count_of old k n + named_in es k n) (take_all (entries_in ts) 64 (let long = length_entries ts in omega (arith, long, few)));
   told = S.told;
   settled = S.settled;
+  fewest = S.fewest;
 } where
   length_entries : (xs : List Taken) → length (entries_in xs) ≡ length xs
   length_entries [] = refl

@@ -7,6 +7,7 @@ use Rattle.group_laws.proofs.Clients.{In-append_left, In-append_right, In-append
 use Rattle.log_standing.specs.NameCounts.{StandingState, name_eq, count_in, count_of}
 use Rattle.log_standing.specs.NameCounts as counts
 use Rattle.log_standing.proofs.Clients.{same_name, name_same}
+use Rattle.log_cleaner.proofs.TallyLaws.{keeps_both, keeps_same}
 use Rattle.core_worker.specs.StandingTies.{IsNamedIn, named_in, KnowsDead, SameNames, HasCopies, HearsOwn, AddsNames}
 use Rattle.core_worker.specs.LogNames.{KnowsNames}
 use Rattle.core_worker.proofs.NamesAdded.{one_if, named_more}
@@ -97,6 +98,7 @@ heard_later home es old mid new same h = record {
   all = λ k n some which. h.all k n (let e = ap count_in (same.copies k n) in omega (arith, e, some)) (⊎_elim (λ before. inl (ap counts.told_in (same.copies k n) ∙ before)) (λ a. inr a) which);
   settled = h.settled ∙ same.settled;
   room = (let a = h.room in let b = same.room in omega (arith, a, b));
+  tally = keeps_both old mid new (keeps_same old mid same.copies same.tally same.fewest) h.tally;
 }
 
 -- and of what stood before there was a copy
@@ -109,4 +111,5 @@ adds_same old mid new es A same = record {
   counts = λ k n. ap count_in (same.copies k n) ∙ A.counts k n;
   told = λ k n. ap counts.told_in (same.copies k n) ∙ A.told k n;
   settled = same.settled ∙ A.settled;
+  fewest = (let few = same.fewest in let none = A.fewest in omega (arith, few, none));
 }

@@ -19,6 +19,8 @@ use Rattle.log_standing.proofs.Clients.{same_name}
 use Rattle.log_cleaner.specs.Clearing.{ClearingState, IsGathered, is_doomed}
 use Rattle.log_cleaner.specs.Copying.{awaits, left_to_copy, words_sum, IsSettled}
 use Rattle.log_cleaner.specs.CopyBatch.{Bounds}
+use Rattle.log_cleaner.specs.Tallied.{HasFewest, IsTallied, KeepsTally, lines_left}
+use Rattle.log_cleaner.proofs.TallyLaws.{keeps_same}
 use Rattle.log_cleaner.proofs.LessLaws.{filter_same_in, sum_filter, sum_ones}
 use Rattle.log_cleaner.proofs.Parts.{count_same}
 use Rattle.log_cleaner.proofs.SettledLaws.{settled_same}
@@ -46,10 +48,20 @@ none_named st (x ∷ xs) none k n has waits = by (awaits st x) refl none (λ res
   by true is rest later = cc rest
   by false off rest later = named (is_named k n x) refl off (later rest)
 
+-- no number is noted that is greater than nothing
+pub few_none : (old new : StandingState) → KeepsTally old new → old.fewest ≡ 0 → new.fewest ≡ 0
+few_none old new keeps none = let few = keeps.fewest [] (omega (arith, none)) in omega (arith, few)
+
+pub none_fewest : (s : State) (log : LogState) (st : StandingState) → st.fewest ≡ 0 → HasFewest s log st
+none_fewest s log st none j has closed = omega (arith, none)
+
+fewest_kept : (s : State) (log : LogState) (old new : StandingState) → KeepsTally old new → HasFewest s log old → HasFewest s log new
+fewest_kept s log old new keeps few j has closed = keeps.fewest (entries_in s log j) (few j has closed)
+
 -- what is counted of names alone is so by equal counts
-cleaned_same : (s : State) (log : LogState) (old new : StandingState) (o : Option ClearingState) (c : Cleaning) → SameCopies old new → IsCleanedBy s log old o c → IsCleanedBy s log new o c
-cleaned_same s log old new o Nothing same C = tt
-cleaned_same s log old new o (Copying victim first) same C =
+cleaned_same : (s : State) (log : LogState) (old new : StandingState) (o : Option ClearingState) (c : Cleaning) → SameCopies old new → KeepsTally old new → IsCleanedBy s log old o c → IsCleanedBy s log new o c
+cleaned_same s log old new o Nothing same keeps C = tt
+cleaned_same s log old new o (Copying victim first) same keeps C =
     let es = entries_in s log victim.chunk in
     let left = left_by old new same es in
     record {
@@ -58,9 +70,11 @@ cleaned_same s log old new o (Copying victim first) same C =
         entries = (let a = ap length left in let b = C.bounds.entries in omega (arith, a, b));
         words = (let a = ap words_sum left in let b = C.bounds.words in omega (arith, a, b));
       };
+      counts = keeps.tally es C.counts;
+      fewest = few_none old new keeps C.fewest;
       room = C.room;
     }
-cleaned_same s log old new o (Doomed chunk) same C = λ x is.
+cleaned_same s log old new o (Doomed chunk) same keeps C = λ x is.
     let had = C x is in
     let es = entries_in s log x.chunk in
     record {
@@ -82,8 +96,9 @@ names_same s m kept present told dead log old new o c same N = record {
     settled = λ h at. settled_same s log old new h same.copies (N.counted.settled h (sym same.settled ∙ at));
   };
   read = λ h at. N.read h (sym same.settled ∙ at);
+  fewest = fewest_kept s log old new (keeps_same old new same.copies same.tally same.fewest) N.fewest;
   knows = knows_same m kept present told dead old new same N.knows;
-  cleaned = cleaned_same s log old new o c same.copies N.cleaned;
+  cleaned = cleaned_same s log old new o c same.copies (keeps_same old new same.copies same.tally same.fewest) N.cleaned;
 }
 
 -- fewer are filtered out of fewer
@@ -100,7 +115,7 @@ narrow f g less (x ∷ xs) = by (g x) refl (narrow f g less xs) where
 
 -- more names were told dead: what a cleaning has read awaits no more than before
 module _ (s : State) (m : ℕ) (kept kept' : List Entry) (present present' : ℕ → ℕ → Option ℕ) (told told' dead dead' : ℕ → ℕ → Bool) (log : LogState) (old new : StandingState) (o : Option ClearingState) (c : Cleaning)
-    (counts : (k n : ℕ) → count_of new k n ≡ count_of old k n) (up : (k n : ℕ) → 0 < count_of old k n → is_told old k n ≡ true → is_told new k n ≡ true) (still : new.settled ≡ old.settled) (N : NamesStand s m kept present told dead log old o c) where
+    (counts : (k n : ℕ) → count_of new k n ≡ count_of old k n) (up : (k n : ℕ) → 0 < count_of old k n → is_told old k n ≡ true → is_told new k n ≡ true) (still : new.settled ≡ old.settled) (keeps : KeepsTally old new) (N : NamesStand s m kept present told dead log old o c) where
   fewer : (x : ℕ × Entry) → awaits new x ≡ true → awaits old x ≡ true
   fewer x is =
       let k = x.1.key in
@@ -125,12 +140,12 @@ module _ (s : State) (m : ℕ) (kept kept' : List Entry) (present present' : ℕ
   -- a name of the chunk that wasn't told before is one of which there is another copy
   doomed_same : (xs : List (ℕ × Entry)) → left_to_copy old xs ≡ [] → (k n : ℕ) → has_name xs k n ≡ true → is_doomed new k n ≡ is_doomed old k n
   doomed_same xs none k n has = by (count_of old k n == 1) refl where
-    keeps : (a : Bool) → is_told old k n ≡ a → count_of old k n ≡ 1 → is_told new k n ≡ a
-    keeps true is one = up k n (omega (arith, one)) is
-    keeps false is one = absurd (let waits : wants old k n ≡ true = (λ i. eqb (one i) 1 && not (is i)) in none_named old xs none k n has waits)
+    stays : (a : Bool) → is_told old k n ≡ a → count_of old k n ≡ 1 → is_told new k n ≡ a
+    stays true is one = up k n (omega (arith, one)) is
+    stays false is one = absurd (let waits : wants old k n ≡ true = (λ i. eqb (one i) 1 && not (is i)) in none_named old xs none k n has waits)
 
     by : (b : Bool) → (count_of old k n == 1) ≡ b → is_doomed new k n ≡ is_doomed old k n
-    by true is = (λ i. keeps (is_told old k n) refl (eqb-true (count_of old k n) 1 is) i && (counts k n i == 1))
+    by true is = (λ i. stays (is_told old k n) refl (eqb-true (count_of old k n) 1 is) i && (counts k n i == 1))
     by false is = ap (λ (b : Bool). is_told new k n && b) (ap (λ (x : ℕ). x == 1) (counts k n) ∙ is) ∙ no (is_told new k n) ∙ sym (no (is_told old k n)) ∙ ap (λ (b : Bool). is_told old k n && b) (sym is) where
       no : (b : Bool) → (b && false) ≡ false
       no true = refl
@@ -166,6 +181,8 @@ module _ (s : State) (m : ℕ) (kept kept' : List Entry) (present present' : ℕ
         let same = ap length (left_narrow es) in
         let same_words = ap words_sum (left_narrow es) in
         record { entries = omega (arith, fewer_entries, entries, one, two, same); words = omega (arith, fewer_words, words, same_words) };
+    counts = keeps.tally (entries_in s log victim.chunk) C.counts;
+    fewest = few_none old new keeps C.fewest;
     room = C.room;
   }
   cleaned_heard (Doomed chunk) C = λ x is. clears_heard x (C x is)
@@ -177,6 +194,7 @@ module _ (s : State) (m : ℕ) (kept kept' : List Entry) (present present' : ℕ
       settled = λ h at. still_settled h (N.counted.settled h (sym still ∙ at));
     };
     read = λ h at. N.read h (sym still ∙ at);
+    fewest = fewest_kept s log old new keeps N.fewest;
     knows = knows;
     cleaned = cleaned_heard c N.cleaned;
   }
@@ -184,7 +202,7 @@ module _ (s : State) (m : ℕ) (kept kept' : List Entry) (present present' : ℕ
 -- own names were told dead
 pub names_heard : (s : State) (m home : ℕ) (index : List (ℕ × slots.Place)) (kept kept' : List Entry) (present present' : ℕ → ℕ → Option ℕ) (told told' dead dead' : ℕ → ℕ → Bool) (log : LogState) (old new : StandingState) (o : Option ClearingState) (c : Cleaning) → HearsOwn home index old new
     → NamesStand s m kept present told dead log old o c → KnowsNames m kept' present' told' dead' new → NamesStand s m kept' present' told' dead' log new o c
-names_heard s m home index kept kept' present present' told told' dead dead' log old new o c tells = names_more s m kept kept' present present' told told' dead dead' log old new o c tells.counts (λ k n some is. tells.all k n some (inl is)) tells.settled
+names_heard s m home index kept kept' present present' told told' dead dead' log old new o c tells = names_more s m kept kept' present present' told told' dead dead' log old new o c tells.counts (λ k n some is. tells.all k n some (inl is)) tells.settled tells.tally
 
 -- the words of the log are what they were
 module _ (s t : State) (m : ℕ) (kept : List Entry) (present : ℕ → ℕ → Option ℕ) (told dead : ℕ → ℕ → Bool) (log : LogState) (st : StandingState) (o : Option ClearingState) (c : Cleaning) (words : (j u : ℕ) → tail_of log.chunks j ≡ Some u → words_now t (first_of log j) u ≡ words_now s (first_of log j) u) where
@@ -195,7 +213,7 @@ module _ (s t : State) (m : ℕ) (kept : List Entry) (present : ℕ → ℕ → 
   cleaned_kept Nothing C = tt
   cleaned_kept (Copying victim first) C =
       let there = sym (entries_kept victim.chunk C.chunk) in
-      record { chunk = C.chunk; bounds = subst (λ (es : List (ℕ × Entry)). Bounds victim st es) there C.bounds; room = λ x is. subst (λ (es : List (ℕ × Entry)). length es ≤ x.room) there (C.room x is) }
+      record { chunk = C.chunk; bounds = subst (λ (es : List (ℕ × Entry)). Bounds victim st es) there C.bounds; counts = subst (IsTallied st) there C.counts; fewest = C.fewest; room = λ x is. subst (λ (es : List (ℕ × Entry)). length es ≤ x.room) there (C.room x is) }
   cleaned_kept (Doomed chunk) C = λ x is.
       let had = C x is in
       let there = sym (entries_kept x.chunk had.chunk) in
@@ -220,6 +238,7 @@ module _ (s t : State) (m : ℕ) (kept : List Entry) (present : ℕ → ℕ → 
           };
     };
     read = N.read;
+    fewest = λ j has closed. subst (λ (es : List (ℕ × Entry)). st.fewest ≤ lines_left st es) (sym (entries_kept j has)) (N.fewest j has closed);
     knows = N.knows;
     cleaned = cleaned_kept c N.cleaned;
   }

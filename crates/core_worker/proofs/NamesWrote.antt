@@ -38,7 +38,10 @@ use Rattle.core_worker.specs.Supplies.{under_way}
 use Rattle.core_worker.specs.LogNames.{NamesStand, IsCleanedBy}
 use Rattle.core_worker.specs.Ties.{Holds, Stands}
 use Rattle.core_worker.specs.Turns.{TakesFor}
+use Rattle.core_worker.specs.Supplies.{left_in}
+use Rattle.core_worker.proofs.UnderWay.{nothing_raw}
 use Rattle.core_worker.proofs.CleaningKept.{runs_way}
+use Rattle.core_worker.proofs.NamesStood.{none_fewest}
 use Rattle.core_worker.proofs.NamesAdded.{one_if}
 use Rattle.core_worker.proofs.NamesKnown.{knows_added}
 use Rattle.core_worker.proofs.Counted.{counted, once, fresh, other_open, still_has, still_closed, else_same}
@@ -95,6 +98,7 @@ module _ (m : ℕ) (present : ℕ → ℕ → Option ℕ) (told dead : ℕ → �
           has = ap (λ (l : LogState). is_some (tail_of l.chunks h.chunk)) appended.log_is ∙ ap is_some (tail_other (opened_for log o).chunks (open_number (opened_for log o)) (open_tail (opened_for log o) + length (padded (flat_map words_of es))) h.chunk ne) ∙ still_has log o h.chunk ne was.has;
           closed = λ same. still_closed log o h.chunk ne was.closed (sym (ap (λ (l : LogState). l.opened) appended.log_is) ∙ same);
         };
+    fewest = none_fewest t log' new adds.fewest;
     knows = knows_added m kept es present told dead old new adds N.knows;
     cleaned = subst (λ (d : Cleaning). IsCleanedBy t log' new o' d) (sym none) tt;
   }
@@ -115,4 +119,4 @@ module _ (s t : State) (p : Place) (m : ℕ) (v : View) (w : Worker) (a : Sets) 
   batch_stood adds on telling =
       let before = told_at_entry s t (KeepsOutside (cell_now s) (open_first (opened_for w.log o)) (open_first (opened_for w.log o) + chunk_words w.log.layout)) chunk telling in
       subst (λ (xs : List Entry). NamesStand t m (v.kept ++ xs) v.present v.told v.dead log' st w.clearing w.cleaning) (sym flying)
-      (names_wrote m v.present v.told v.dead s t w.log log' o es v.kept w.standing st (S.log runs) (may_open before) batch wrote chunk w.clearing w.cleaning (S.names runs on before) (sym (runs_way w runs on) ∙ clean) each apart (adds on) before telling)
+      (names_wrote m v.present v.told v.dead s t w.log log' o es v.kept w.standing st (S.log runs) (may_open before) batch wrote chunk w.clearing w.cleaning (S.names runs on before) (nothing_raw (left_in w.standing) w.cleaning (sym (runs_way w runs on) ∙ clean)) each apart (adds on) before telling)

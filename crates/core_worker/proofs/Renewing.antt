@@ -11,7 +11,7 @@ use Rattle.batch_leader.specs.Rounds.{words_in}
 use Rattle.batch_leader.specs.Leading.{Suits, HasSpace}
 use Rattle.core_worker.specs.Status.{is_leading}
 use Rattle.core_worker.specs.Supplies.{room_for, HasKeptRoom}
-use Rattle.core_worker.proofs.UnderWay.{room_winds}
+use Rattle.core_worker.proofs.UnderWay.{room_winds, room_counted}
 use Rattle.core_worker.proofs.CleaningKept.{keeps_counts, keeps_winds, led_room}
 use Rattle.core_worker.specs.declared.worker.Worker.{Worker}
 use Rattle.core_worker.specs.Ties.{Holds, Stands, HasSpaceFor}
@@ -22,7 +22,7 @@ use Rattle.core_worker.proofs.MailKept.{mail_winds}
 use Rattle.core_worker.proofs.NamesKnown.{adds_same}
 use Rattle.core_worker.proofs.NamesStood.{names_same}
 
-space : (w : Worker) (st : StandingState) (winds : Bool) → (is_leading w.leading ≡ true → room_for (record w { winds_down = winds }) ≡ room_for w) → (l : Leading) → w.leading ≡ l → HasSpaceFor w l → HasSpaceFor (record w { standing = st; winds_down = winds }) l
+space : (w : Worker) (st : StandingState) (winds : Bool) → (is_leading w.leading ≡ true → room_for (record w { standing = st; winds_down = winds }) ≡ room_for w) → (l : Leading) → w.leading ≡ l → HasSpaceFor w l → HasSpaceFor (record w { standing = st; winds_down = winds }) l
 space w st winds room (leads.Nothing b) e h = tt
 space w st winds room (leads.Collecting c) e h = subst (λ (r : Room). Suits r c) (sym (room (ap is_leading e))) h
 space w st winds room (leads.Batch b) e h = subst (λ (r : Room). HasSpace r b.fresh b.own_lines (words_in b.changes.taken.items)) (sym (room (ap is_leading e))) h
@@ -52,7 +52,7 @@ holds_renewed p m v w st winds works cleaning H = record {
   blocks = H.blocks;
   waits = λ on. H.waits (works on);
   leads = H.leads;
-  space = λ r. space w st winds (led_room p m v w winds works H.cleaning) w.leading refl (H.space r);
+  space = λ r. space w st winds (led_room p m v w st winds works H.cleaning) w.leading refl (H.space r);
   broken = H.broken;
   lost = H.lost;
   cleaning = cleaning;
@@ -103,5 +103,5 @@ batch_renewed m a y x u rest same count up still which = by y.stopped refl which
   by false e P = subst (λ (b : Bool). PersistsOrLoses b m a (record { worker = x; view = u })) (sym (ap (λ (z : Worker). z.stopped) rest ∙ e)) (subst (λ (z : Worker). Persists m a (record { worker = z; view = u })) (sym rest) (persists_renewed m a y u x.standing x.winds_down same count up P))
 
 -- and the room rule is kept
-pub renewed_room : (y x : Worker) → x ≡ record y { standing = x.standing; winds_down = x.winds_down } → (y.winds_down ≡ true → x.winds_down ≡ true) → HasKeptRoom y → HasKeptRoom x
-renewed_room y x rest up h = subst (λ (z : Worker). HasKeptRoom z) (sym rest) (room_winds y x.winds_down (still_works y x up) h)
+pub renewed_room : (y x : Worker) → x ≡ record y { standing = x.standing; winds_down = x.winds_down } → (y.winds_down ≡ true → x.winds_down ≡ true) → SameNames y.standing x.standing → HasKeptRoom y → HasKeptRoom x
+renewed_room y x rest up same h = subst (λ (z : Worker). HasKeptRoom z) (sym rest) (room_winds (record y { standing = x.standing }) x.winds_down (still_works y x up) (room_counted y x.standing same.tally h))

@@ -42,6 +42,7 @@ use Rattle.core_worker.specs.Outbox.{mailing, waiting_dead}
 use Rattle.core_worker.specs.Hearing.{heard_at, last_change, HearsAll}
 use Rattle.core_worker.specs.StandingTies.{IsNamedIn, KnowsDead, HearsOwn}
 use Rattle.core_worker.specs.LogNames.{KnowsNames}
+use Rattle.core_worker.proofs.UnderWay.{standing_pledges}
 use Rattle.core_worker.proofs.CleaningKept.{fewer_same, keeps_counts, keeps_few, keeps_seen}
 use Rattle.core_worker.proofs.NamesStood.{names_heard}
 use Rattle.core_worker.specs.Finishing.{PutsBackIf}
@@ -539,7 +540,7 @@ module _ (p : Place) (m : ℕ) (v : View) (w : Worker) (H : HoldsAside p m v w) 
       layout = refl;
       core = refl;
       log = refl;
-      cleaning = inl refl;
+      cleaning = inl (standing_pledges w st tells.tally);
       cleans = λ had. keeps_seen p m v view done (λ k n is. is) (λ k n is. (T.learns k n).1 (inl is)) (keeps_counts p m v (record w { allocator = al }) st tells.counts (keeps_few p m v w al (let C = put_chunks w.allocator al (block_of (known_at w.index key)) P in fewer_same w.allocator al (chunks_same w.allocator al (same_part w.allocator al C) C.free) C.free C.classes) had));
       runs = λ r. r;
       spelled = spelled_now;

@@ -55,6 +55,7 @@ use Rattle.core_worker.specs.OwnChunks.{AreChunks}
 use Rattle.core_worker.specs.Ties.{Holds, Stands, Leads, LeadsAt, HasSpaceFor, is_lost}
 use Rattle.core_worker.specs.Order.{InOrder, PointsAt, count_changes}
 use Rattle.core_worker.specs.Hearing.{is_dead_by, heard_at, last_change}
+use Rattle.core_worker.proofs.NamesStood.{none_fewest}
 use Rattle.core_worker.proofs.MailKept.{knows_none, mail_new}
 use Rattle.core_worker.proofs.HeardNames.{stands_by, dies_by, awaits_by}
 use Rattle.core_worker.proofs.Tidied.{present_of}
@@ -406,6 +407,7 @@ module _ (p : Place) (m : ℕ) (image : ℕ → ℕ) (start : CoreStart) (layout
           settled = λ h read. unread h read;
         };
         read = λ h read. unread h read;
+        fewest = none_fewest s w.log w.standing N.fewest;
         knows = knows_names;
         cleaned = subst (λ (d : Cleaning). IsCleanedBy s w.log w.standing w.clearing d) (sym N.cleaning) tt;
       };

@@ -37,7 +37,7 @@ use Rattle.core_worker.proofs.Posts.{busy_by}
 use Rattle.core_worker.proofs.RoomKept.{own_with}
 use Rattle.core_worker.proofs.PuttingBack.{put_count}
 use Rattle.core_worker.proofs.Freeing.{Frees, busy_was, idle_now, busy_still, freed_holds, freed_stands}
-use Rattle.core_worker.proofs.UnderWay.{room_less}
+use Rattle.core_worker.proofs.UnderWay.{room_fewer}
 use Rattle.core_worker.proofs.FreedOrder.{FreesInOrder, freed_order, waiting_few}
 use Rattle.core_worker.proofs.GivingUp.{gives_up, gives_up_order}
 use Rattle.core_worker.proofs.Settling.{settles, settles_order, replaced_used, next_here}
@@ -116,7 +116,7 @@ module _ (p : groups.Place) (m key slot : ℕ) (v u : View) (w x : Worker) (H : 
     order = freed_order p m key slot v u w x aside was F O G;
     own = mine;
     ready = ready;
-    rule = room_less w x less chunks F.log F.cleaning;
+    rule = room_fewer w x less chunks F.log F.cleaning;
   }
 
 nothing_yet : (w x : Worker) → x.leading ≡ w.leading → LeadsNothing w → LeadsNothingYet x

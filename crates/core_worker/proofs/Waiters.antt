@@ -63,8 +63,8 @@ aside_other p m v w q h b works H = record {
 } where
   by : (l : Leading) → w.leading ≡ l → HasSpaceFor (record w { queue = [] }) l → HasSpaceFor (record w { queue = []; in_hand = h; winds_down = b }) l
   by (leads.Nothing x) e h = tt
-  by (leads.Collecting c) e h = subst (λ (r : Room). Suits r c) (sym (led_room p m v w b works H.cleaning (ap is_leading e))) h
-  by (leads.Batch x) e h = subst (λ (r : Room). HasSpace r x.fresh x.own_lines (words_in x.changes.taken.items)) (sym (led_room p m v w b works H.cleaning (ap is_leading e))) h
+  by (leads.Collecting c) e h = subst (λ (r : Room). Suits r c) (sym (led_room p m v w w.standing b works H.cleaning (ap is_leading e))) h
+  by (leads.Batch x) e h = subst (λ (r : Room). HasSpace r x.fresh x.own_lines (words_in x.changes.taken.items)) (sym (led_room p m v w w.standing b works H.cleaning (ap is_leading e))) h
   by (leads.Persisted x) e h = tt
   by (leads.Failed x) e h = tt
   by leads.Between e h = tt

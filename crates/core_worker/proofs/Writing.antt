@@ -36,6 +36,7 @@ use Rattle.core_worker.specs.KeyTies.{IsBlockFor, AreBlocks, IsPlaced}
 use Rattle.core_worker.specs.OwnChunks.{AreChunks}
 use Rattle.log_standing.specs.NameCounts.{StandingState}
 use Rattle.core_worker.specs.LogNames.{NamesStand}
+use Rattle.core_worker.specs.Supplies.{counted_by, left_in}
 use Rattle.core_worker.proofs.UnderWay.{still_nothing}
 use Rattle.core_worker.specs.Ties.{Leads, HasSpaceFor, is_lost, Holds, Stands}
 use Rattle.core_worker.specs.Turns.{TakesFor}
@@ -147,7 +148,7 @@ holds_wrote p m v u w a log l stopped kept flying taken holds looked took e more
       leads = subst (λ (x : View). Leads p m x l) e leads;
       space = λ runs. space;
       broken = λ b. broken (ap (λ (x : View). x.broken) e ∙ b);
-      cleaning = inl (still_nothing w.cleaning w.stopped w.winds_down stopped w.winds_down running (λ on. on) none);
+      cleaning = inl (still_nothing (counted_by (left_in w.standing) w.cleaning) w.stopped w.winds_down stopped w.winds_down running (λ on. on) none);
       remembers = λ r. H.remembers (running r);
       chunks = chunks;
       lost = lost;

@@ -1,5 +1,6 @@
 -- A worker goes on with the copies of a cleaning.
 use Rattle.std.specs.Prelude.{◌≡◌, ℕ, ◌≤◌, ◌<◌, ◌&&◌, Bool, true, false, List, length, Option, None}
+use Rattle.pm_region.specs.State.{State, IsTelling}
 use Rattle.core_log.specs.Log.{room_of}
 use Rattle.core_room.specs.CleaningRoom.{needs_fresh}
 use Rattle.lazy_alloc.specs.Sets.{AreSets}
@@ -54,3 +55,11 @@ pub record LeavesCopies (victim : Victim) (first : Bool) (w x : Worker) : Type 0
   pub none : TakesFor (needs_chunk first w) w.allocator w.allocator None
   pub lacks : room_of w.log < rest (Copying victim first)
   pub same : x ≡ record w { cleaning = Nothing; clearing = None }
+
+-- More was found to be copied than the numbers say, which only a region has that reads otherwise than before: nothing is copied, the chunk stays as it is, and is cleaned no more.
+pub record MisreadsCopies (t : State) (victim : Victim) (first : Bool) (w x : Worker) : Type 0 where
+  pub mid : Worker
+  pub copies : CopiesOn victim first w mid
+  pub none : copies.count ≡ 0
+  pub untold : IsTelling t → ⊥
+  pub same : x ≡ record mid { cleaning = Nothing; clearing = None }

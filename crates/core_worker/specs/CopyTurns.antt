@@ -10,6 +10,7 @@ use Rattle.log_standing.specs.declared.types.Settled.{Settled}
 use Rattle.log_standing.specs.NameCounts.{StandingState}
 use Rattle.log_cleaner.specs.Copying.{IsUpToDate}
 use Rattle.log_cleaner.specs.CopyBatch.{IsBatchOf, IsLess, KeepsNames}
+use Rattle.log_cleaner.specs.Tallied.{KeepsTally}
 use Rattle.log_cleaner.specs.declared.types.Victim.{Victim}
 use Rattle.core_worker.specs.TakenChunks.{appended_to}
 
@@ -31,6 +32,7 @@ pub record CopiesBatch (victim : Victim) (log log' : LogState) (old new : Standi
   pub some : 0 < n → 0 < length ws
   pub log_is : log' ≡ copied_to n log ws
   pub names : KeepsNames old new
+  pub tally : KeepsTally old new
   pub read : (h : Settled) → new.settled ≡ Some h → h.chunk ≡ victim.chunk
 
 -- The same by the region: the names stand as the log has them, the victim's chunk has its entries, and less of it is left to be copied.

@@ -83,3 +83,4 @@ pub record EndsInRegion (s t : State) (p : groups.Place) (m : ℕ) (u : View) (w
   pub names : IsTelling s → KnowsBy m u x.standing
   pub counted : IsTelling t → IsUpToDate t x.log x.standing
   pub read : x.standing.settled ≡ None
+  pub fewest : x.standing.fewest ≡ 0

@@ -11,6 +11,7 @@ use Rattle.log_cleaner.specs.Clearing.{ClearingState, IsGathered, IsReady}
 use Rattle.log_cleaner.specs.Copying.{left_to_copy, IsUpToDate}
 use Rattle.log_cleaner.specs.CopyBatch.{Bounds}
 use Rattle.log_cleaner.specs.Dropping.{Drops}
+use Rattle.log_cleaner.specs.Tallied.{HasFewest, IsTallied, KeepsTally}
 use Rattle.log_cleaner.specs.declared.types.Victim.{Victim}
 use Rattle.core_index.specs.Slots as slots
 use Rattle.group_laws.specs.State.{Notices}
@@ -43,11 +44,13 @@ pub record IsClosed (log : LogState) (j : ℕ) : Type 0 where
   pub has : is_some (tail_of log.chunks j) ≡ true
   pub closed : log.opened ≢ Some j
 
--- The chunk is one of the log, and no more of it is still to be copied than these numbers say; the clearing has room for the names of all its entries.
+-- The chunk is one of the log. What of it is still to be copied is counted, and is no more than these numbers say; the clearing has room for the names of all its entries.
 pub record CopiesIn (s : State) (log : LogState) (st : StandingState) (victim : Victim)
     (clearing : Option ClearingState) : Type 0 where
   pub chunk : is_some (tail_of log.chunks victim.chunk) ≡ true
   pub bounds : Bounds victim st (entries_in s log victim.chunk)
+  pub counts : IsTallied st (entries_in s log victim.chunk)
+  pub fewest : st.fewest ≡ 0
   pub room : (c : ClearingState) → clearing ≡ Some c
       → length (entries_in s log victim.chunk) ≤ c.room
 
@@ -70,6 +73,7 @@ pub record NamesStand (s : State) (m : ℕ) (kept : List Entry) (present : ℕ �
     (clearing : Option ClearingState) (cleaning : Cleaning) : Type 0 where
   pub counted : IsUpToDate s log st
   pub read : (h : Settled) → st.settled ≡ Some h → IsClosed log h.chunk
+  pub fewest : HasFewest s log st
   pub knows : KnowsNames m kept present told dead st
   pub cleaned : IsCleanedBy s log st clearing cleaning
 
@@ -80,6 +84,7 @@ pub record KillsNames (ns : List EntryName) (old new : StandingState) : Type 0 w
   pub settled : new.settled ≡ old.settled
   pub room : new.room ≡ old.room
   pub count : length new.entries ≡ length old.entries
+  pub tally : KeepsTally old new
 
 -- What another member told is heard: its dead names, then the gone ones, and then the own names that died by these.
 pub record HearsNotices (core : ℕ) (n : Notices) (ps qs : List Place) (es ix : List (ℕ × slots.Place))

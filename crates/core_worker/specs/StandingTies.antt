@@ -8,6 +8,7 @@ use Rattle.core_index.specs.Index.{known_at}
 use Rattle.core_index.specs.Records.{Awaits}
 use Rattle.core_index.specs.Slots as slots
 use Rattle.core_worker.specs.declared.batch_names.TheConstants.{MOST_NAMES}
+use Rattle.log_cleaner.specs.Tallied.{KeepsTally}
 use Rattle.log_standing.specs.NameCounts.{StandingState, SameCopies, name_eq, copies_at, count_of, is_told}
 
 -- as many names as a batch may have
@@ -44,6 +45,8 @@ pub record SameNames (old new : StandingState) : Type 0 where
   pub copies : SameCopies old new
   pub settled : new.settled ≡ old.settled
   pub room : old.room ≤ new.room
+  pub tally : new.tally ≡ old.tally
+  pub fewest : new.fewest ≤ old.fewest
 
 -- of each name that stands there is a copy
 abbrev pub HasCopies : StandingState → Type 0
@@ -54,6 +57,7 @@ pub record AddsNames (old new : StandingState) (es : List Entry) : Type 0 where
   pub counts : (k n : ℕ) → count_of new k n ≡ count_of old k n + named_in es k n
   pub told : (k n : ℕ) → is_told new k n ≡ is_told old k n
   pub settled : new.settled ≡ old.settled
+  pub fewest : new.fewest ≡ 0
 
 -- Of the names that stand exactly those were told dead besides that by the index awaited to be told to this home; and no other name was.
 pub record HearsOwn (home : ℕ) (es : List (ℕ × slots.Place))
@@ -65,3 +69,4 @@ pub record HearsOwn (home : ℕ) (es : List (ℕ × slots.Place))
       ⊎ Awaits (known_at es k) home n → is_told new k n ≡ true
   pub settled : new.settled ≡ old.settled
   pub room : old.room ≤ new.room
+  pub tally : KeepsTally old new

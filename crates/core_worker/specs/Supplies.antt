@@ -1,5 +1,5 @@
 -- The room of a worker at one moment, and which requests are refused for want of it.
-use Rattle.std.specs.Prelude.{ℕ, ◌^◌, ◌<◌, ◌==◌, ◌||◌, nat_lt, nat_le, true, false, List, length, Option, Some, None, if◌then◌else◌}
+use Rattle.std.specs.Prelude.{ℕ, ◌^◌, ◌<◌, ◌==◌, ◌||◌, nat_lt, nat_le, min, true, false, List, length, Option, Some, None, option_map, if◌then◌else◌}
 use Rattle.chunk_map.specs.declared.layouts.Geometry.{Geometry}
 use Rattle.chunk_map.specs.Layouts.{payload_lines, longest_value}
 use Rattle.core_log.specs.Log.{room_of}
@@ -13,14 +13,35 @@ use Rattle.core_room.specs.declared.types.Shortage.{Shortage}
 use Rattle.core_room.specs.declared.types.Shortage.TheVariants as causes
 use Rattle.core_room.specs.Lengths.{lines_needed, class_for, lines_to_copy}
 use Rattle.core_room.specs.RoomRule.{KeepsRoom, KeepsRoomAtCleaning, pledged, shortage_at}
+use Rattle.log_standing.specs.declared.types.Amount.{Amount}
+use Rattle.log_standing.specs.NameCounts.{StandingState}
+use Rattle.log_cleaner.specs.declared.types.Victim.{Victim}
 use Rattle.core_worker.specs.declared.types.Cleaning.{Cleaning}
 use Rattle.core_worker.specs.declared.types.Cleaning.TheVariants.{Nothing, Copying, Doomed}
 use Rattle.core_worker.specs.declared.worker.Worker.{Worker}
 use Rattle.core_worker.specs.OwnPlaces.{own}
 
--- The cleaning that a worker goes on with: one that has stopped or winds down leaves its cleaning as it stands.
+-- what is left of a victim's chunk: no more than is counted of it
+abbrev pub no_more_than : Option Amount → Victim → Victim
+no_more_than None v = v
+no_more_than (Some a) v = record v {
+  entries = min v.entries a.entries;
+  words = min v.words a.words;
+}
+
+abbrev pub counted_by : Option Amount → Cleaning → Cleaning
+counted_by left Nothing = Nothing
+counted_by left (Copying victim first) = Copying (no_more_than left victim) first
+counted_by left (Doomed chunk) = Doomed chunk
+
+-- what the names that stand in a log count of the chunk that is copied
+abbrev pub left_in : StandingState → Option Amount
+left_in st = option_map (λ t. t.left) st.tally
+
+-- The cleaning that a worker goes on with, with what is still to be copied: one that has stopped or winds down leaves its cleaning as it stands.
 abbrev pub under_way : Worker → Cleaning
-under_way w = if w.stopped || w.winds_down then Nothing else w.cleaning
+under_way w = if w.stopped || w.winds_down then Nothing
+    else counted_by (left_in w.standing) w.cleaning
 
 -- the lines that a cleaning under way has still to copy
 abbrev pub rest : Cleaning → ℕ

@@ -86,7 +86,7 @@ pub data Did (s t : State) (refused : Bool) (before : Option Group) (seat : Seat
   winds : t ≡ s → WindsDown refused seat.place seat.number a b → Did s t refused before seat a b
   dooms : t ≡ s → Dooms s refused seat.place seat.number a b
       → Did s t refused before seat a b
-  copies : Copies refused seat.place seat.number a b → Did s t refused before seat a b
+  copies : Copies t refused seat.place seat.number a b → Did s t refused before seat a b
   loses_copies : LosesBatchOfCopies refused seat.place seat.number a b
       → Did s t refused before seat a b
   clears : Clears refused seat.place seat.number a b → Did s t refused before seat a b

@@ -38,7 +38,7 @@ use Rattle.core_worker.specs.declared.types.Place.{Place as WorkerPlace}
 use Rattle.core_worker.specs.declared.types.Place.TheVariants.{Free, Staged, Posted}
 use Rattle.core_worker.specs.declared.worker.Worker.{Worker}
 use Rattle.core_worker.specs.OwnPlaces.{place_at, is_staged, is_posted, IsLowest, HasNone, Replaces}
-use Rattle.core_worker.specs.CopyItems.{CopiesOn, LeavesCopies, LosesCopies}
+use Rattle.core_worker.specs.CopyItems.{CopiesOn, LeavesCopies, LosesCopies, MisreadsCopies}
 use Rattle.core_worker.specs.DoomsNames.{DoomsIn}
 use Rattle.core_worker.specs.EndsCleaning.{EndsIn}
 use Rattle.core_worker.specs.Ties.{LeadsNothing}
@@ -350,8 +350,8 @@ pub record LosesClearing (refused : Bool) (p : Place) (m : ℕ) (a b : Moment) :
   pub view : b.view ≡ mid
   pub same : b.worker ≡ record ready { clearing = None; stopped = true }
 
--- Item 6, copies: the next batch of the chunk that is cleaned is copied, as far as there is room. What it copies stays certain, and the view as it is.
-pub record Copies (refused : Bool) (p : Place) (m : ℕ) (a b : Moment) : Type 0 where
+-- Item 6, copies: the next batch of the chunk that is cleaned is copied, as far as there is room and the region reads as before. What it copies stays certain, and the view as it is.
+pub record Copies (t : State) (refused : Bool) (p : Place) (m : ℕ) (a b : Moment) : Type 0 where
   pub mid : View
   pub before : PassesItems m a SLOTS mid
   pub post : PassesPost refused a.worker
@@ -364,7 +364,8 @@ pub record Copies (refused : Bool) (p : Place) (m : ℕ) (a b : Moment) : Type 0
   pub way : under_way ready ≡ Copying victim first
   pub some : 0 < victim.entries
   pub copies : (CopiesOn victim first ready b.worker × (b.view ≡ after_commit mid))
-      ⊎ (LeavesCopies victim first ready b.worker × (b.view ≡ mid))
+      ⊎ ((LeavesCopies victim first ready b.worker × (b.view ≡ mid))
+      ⊎ (MisreadsCopies t victim first ready b.worker × (b.view ≡ after_commit mid)))
 
 -- Item 6 at a fault: the batch of copies could not be written, and the core stops.
 pub record LosesBatchOfCopies (refused : Bool) (p : Place) (m : ℕ) (a b : Moment) : Type 0 where

@@ -1,5 +1,5 @@
 // The turn that begins a cleaning.
-ghost use Rattle.std.specs.Prelude.{◌≡◌, ℕ, ◌≤◌, true, Option, Some, None, IfOk, IfSome, length, option_map};
+ghost use Rattle.std.specs.Prelude.{◌≡◌, ℕ, ◌≤◌, true, Option, Some, None, IfOk, IfNone, IfSome, OnErr, length, option_map};
 ghost use Rattle.pm_region.specs.State.{IsTelling};
 ghost use Rattle.chunk_map.specs.Layouts.{payload_lines};
 ghost use Rattle.core_log.specs.Log.{StandsIn};
@@ -10,13 +10,14 @@ ghost use Rattle.lazy_alloc.specs.Sets.{free_chunk_count};
 ghost use Rattle.log_cleaner.specs.Choosing.{IsChosen, IsVictim, fits};
 ghost use Rattle.log_cleaner.specs.Clearing.{IsFresh};
 ghost use Rattle.log_cleaner.specs.Copying.{IsUpToDate};
+ghost use Rattle.log_cleaner.specs.Tallied.{HasFewest, IsTallied};
 ghost use Rattle.log_cleaner.specs.declared.types.Victim.{Victim as Chosen};
 ghost use Rattle.core_worker.specs.declared.worker.Worker.{Worker};
 ghost use Rattle.core_worker.specs.Supplies.{rest, room_for, supply_of, under_way};
 
 use core_log::{CoreLog, Room};
 use fs_errors::Memory;
-use log_cleaner::{Clearing, Victim, victim};
+use log_cleaner::{Clearing, Victim, tally_of, victim};
 use log_standing::Standing;
 use pm_region::Region;
 use std::alloc::Global;
@@ -28,25 +29,37 @@ pub(crate) struct Begun {
     pub(crate) clearing: Clearing,
 }
 
-// Chooses the next victim, and takes the memory for its names. None exactly where there is no chunk to be cleaned.
+// Chooses the next victim, takes the memory for its names, and counts what is left of it from then on. None exactly where
+// there is no chunk to be cleaned: then the fewest lines that one has to copy are noted.
 pub(crate) fn begin_cleaning<R: Region>(
     alloc: Global,
     region: &R,
     log: &CoreLog,
-    standing: &Standing,
+    standing: &mut Standing,
     after: Option<u32>,
     room: &Room,
 ) -> Result<Option<Begun>, Memory>
     requires stands { StandsIn (R.state region.now) log.now }
     requires standing { IsTelling (R.state region.now) → IsUpToDate (R.state region.now) log.now
-        standing.now }
+        standing.old }
     ensures chosen { IfOk result (λ found. IfSome found (λ x. IsChosen log.now room.now x.victim
         × (x.clearing.chunk ≡ x.victim.chunk) × IsFresh x.clearing)) }
     ensures tells { IfOk result (λ found. IsTelling (R.state region.now)
-        → IsVictim (R.state region.now) log.now standing.now after room.now
+        → IsVictim (R.state region.now) log.now standing.old after room.now
         (option_map (λ x. x.victim) found)) }
     ensures room { IfOk result (λ found. IfSome found (λ x. IsTelling (R.state region.now)
         → length (entries_in (R.state region.now) log.now x.victim.chunk) ≤ x.clearing.room)) }
+    ensures counts { IfOk result (λ found. IfSome found (λ x. IsTelling (R.state region.now)
+        → IsTallied standing.new (entries_in (R.state region.now) log.now x.victim.chunk))) }
+    ensures few { IfOk result (λ found. IfSome found (λ x. standing.new.fewest ≡ 0)) }
+    ensures none { IfOk result (λ found. IfNone found ((standing.new.tally ≡ standing.old.tally)
+        × (IsTelling (R.state region.now)
+        → HasFewest (R.state region.now) log.now standing.new))) }
+    ensures same { standing.new ≡ record standing.old {
+      tally = standing.new.tally;
+      fewest = standing.new.fewest;
+    } }
+    ensures memory { OnErr result (standing.new ≡ standing.old) }
 {
     match victim(alloc, region, log, standing, after, room)? {
         None => {
@@ -54,6 +67,9 @@ pub(crate) fn begin_cleaning<R: Region>(
         }
         Some(victim) => {
             let clearing = Clearing::begin(alloc, region, log, &victim)?;
+            let tally = tally_of(alloc, region, log, &victim)?;
+            standing.count(Some(tally));
+            standing.note_fewest(0);
             return Ok(Some(Begun { victim, clearing }));
         }
     }

@@ -88,6 +88,7 @@ pub(crate) fn end_cleaning<R: Region, B: Board>(
     ensures counted { OnOk result (IsTelling (R.state region.new)
         → IsUpToDate (R.state region.new) log.new standing.new) }
     ensures read { OnOk result (standing.new.settled ≡ None) }
+    ensures few { OnOk result (standing.new.fewest ≡ 0) }
     ensures untold { all_untold index.new ≤ all_untold index.old }
     ensures kept { OnErr result ((B.view board.new ≡ B.view board.old) × (log.new ≡ log.old)
         × (allocator.new ≡ allocator.old) × (standing.new ≡ standing.old)

@@ -9,7 +9,7 @@ ghost use Rattle.group_laws.specs.Places.{Place as PlaceOf};
 ghost use Rattle.group_laws.specs.State.{Group};
 ghost use Rattle.group_laws.specs.MemberViews.{View};
 ghost use Rattle.batch_leader.specs.TurnSteps.{TurnSteps, trail_with};
-ghost use Rattle.core_worker.specs.declared.types.Cleaning.TheVariants.{Copying};
+ghost use Rattle.core_worker.specs.declared.types.Cleaning.TheVariants.{Nothing, Copying};
 ghost use Rattle.core_worker.specs.CopyItems.{LeavesCopies};
 ghost use Rattle.core_worker.specs.CopyTurns.{left_of};
 ghost use Rattle.core_worker.specs.Left.{Lowers, StartsFirst};
@@ -75,8 +75,16 @@ fn lacks_lines(fresh: Option<u32>, supply: &Supply) -> bool
 }
 
 impl Worker {
+    // Leaves the chunk that is cleaned as it is.
+    fn leave_chunk(&mut self)
+        ensures { self.new ≡ record self.old { cleaning = Nothing; clearing = None } }
+    {
+        self.cleaning = Cleaning::Nothing;
+        self.clearing = None;
+    }
+
     // Copies the next batch of the chunk that is cleaned. After a fault the core stops. Where there is no room for what
-    // is left, which the room rule excludes, the chunk is cleaned no more.
+    // is left, which the room rule excludes, or the region reads otherwise than before, the chunk is cleaned no more.
     pub(crate) fn copy<R: Region, B: Board>(
         &mut self,
         region: &mut R,
@@ -115,8 +123,7 @@ impl Worker {
         let needed = needs_chunk(first, &supply);
         let fresh = chunk_for(&mut self.allocator, needed);
         if lacks_lines(fresh, &supply) {
-            self.cleaning = Cleaning::Nothing;
-            self.clearing = None;
+            self.leave_chunk();
             return;
         }
         match copy_into(
@@ -128,14 +135,19 @@ impl Worker {
             &mut self.copies,
             fresh,
         ) {
-            Ok(count) => {
-                let words = self.copies.words.words().len() as u64;
-                let left = left_of(victim, count, words);
-                self.cleaning = Cleaning::Copying {
-                    victim: left,
-                    first: false,
-                };
-            }
+            Ok(copied) => match copied {
+                Some(count) => {
+                    let words = self.copies.words.words().len() as u64;
+                    let left = left_of(victim, count, words);
+                    self.cleaning = Cleaning::Copying {
+                        victim: left,
+                        first: false,
+                    };
+                }
+                None => {
+                    self.leave_chunk();
+                }
+            },
             Err(_fault) => {
                 self.stopped = true;
             }

@@ -1,5 +1,5 @@
 // A batch of copies of a cleaning, with the chunk that is opened for the first one.
-ghost use Rattle.std.specs.Prelude.{◌≡◌, ◌≢◌, ℕ, ◌≤◌, ◌<◌, ◌∷◌, true, false, [], is_some, Some, None, IfOk, OnErr, MatchResult};
+ghost use Rattle.std.specs.Prelude.{◌≡◌, ◌≢◌, ℕ, ◌≤◌, ◌<◌, ◌∷◌, true, false, [], is_some, Some, None, IfOk, OnErr, IsSome, MatchResult};
 ghost use Rattle.pm_region.specs.State.{IsTelling, cell_now, Faulted};
 ghost use Rattle.pm_region.specs.Words.{lines_for};
 ghost use Rattle.core_log.specs.Log.{tail_of, room_of};
@@ -14,7 +14,7 @@ ghost use Rattle.licence.specs.Licence.{IsLogOf, Licensed};
 ghost use Rattle.licence.specs.Writes.{Begins};
 ghost use Rattle.log_standing.specs.declared.types.Settled.{Settled};
 ghost use Rattle.log_cleaner.specs.Copying.{IsUpToDate};
-ghost use Rattle.log_cleaner.specs.CopyBatch.{Bounds, KeepsNames};
+ghost use Rattle.log_cleaner.specs.CopyBatch.{Bounds, KeepsNames, copied_in};
 ghost use Rattle.core_worker.specs.CopyTurns.{CopiesBatch, CopiesInRegion};
 
 use crate::copy_buffer::CopyBuffer;
@@ -24,7 +24,8 @@ use log_cleaner::{Victim, copy_live};
 use log_standing::Standing;
 use pm_region::{Region, RegionFault};
 
-// Copies the next batch out of the victim's chunk and commits it. It gives the number of entries, 0 where none is left.
+// Copies the next batch out of the victim's chunk and commits it. It gives the number of entries, 0 where none is left,
+// and no number where the region reads otherwise than before: then nothing is copied.
 // It is licensed throughout by the view, which stays but for what was loaded.
 fn copy_on<R: Region, B: Board>(
     region: &mut R,
@@ -33,7 +34,7 @@ fn copy_on<R: Region, B: Board>(
     standing: &mut Standing,
     victim: &Victim,
     buffer: &mut CopyBuffer,
-) -> Result<u64, RegionFault>
+) -> Result<Option<u64>, RegionFault>
     requires begins { Begins (R.state region.old) (B.seat board.old).place
         (B.seat board.old).number (B.view board.old) log.old }
     requires member { (B.seat board.old).number < members (B.seat board.old).place }
@@ -56,9 +57,11 @@ fn copy_on<R: Region, B: Board>(
         (B.seat board.old).number (B.view board.new) (cell_now (R.state region.new)) }
     // Whatever the region tells, and by what it tells.
     ensures copies { IfOk result (λ n. CopiesBatch victim.now log.old log.new
-        standing.old standing.new n buffer.new.words.words) }
+        standing.old standing.new (copied_in n) buffer.new.words.words) }
     ensures tells { IfOk result (λ n. CopiesInRegion (R.state region.old) (R.state region.new)
-        victim.now log.old log.new standing.old standing.new n buffer.new.words.words) }
+        victim.now log.old log.new standing.old standing.new (copied_in n)
+        buffer.new.words.words) }
+    ensures told { IfOk result (λ n. IsTelling (R.state region.new) → IsSome n) }
     ensures log { IsLogOf (B.seat board.old).place (B.seat board.old).number log.new }
     ensures names { KeepsNames standing.old standing.new }
     ensures view { MatchResult result
@@ -95,7 +98,7 @@ pub(crate) fn copy_into<R: Region, B: Board>(
     victim: &Victim,
     buffer: &mut CopyBuffer,
     fresh: Option<u32>,
-) -> Result<u64, RegionFault>
+) -> Result<Option<u64>, RegionFault>
     requires begins { Begins (R.state region.old) (B.seat board.old).place
         (B.seat board.old).number (B.view board.old) log.old }
     requires member { (B.seat board.old).number < members (B.seat board.old).place }
@@ -121,9 +124,11 @@ pub(crate) fn copy_into<R: Region, B: Board>(
         (B.seat board.old).number (B.view board.new) (cell_now (R.state region.new)) }
     // Whatever the region tells, and by what it tells.
     ensures copies { IfOk result (λ n. CopiesBatch victim.now (opened_for log.old fresh) log.new
-        standing.old standing.new n buffer.new.words.words) }
+        standing.old standing.new (copied_in n) buffer.new.words.words) }
     ensures tells { IfOk result (λ n. CopiesInRegion (R.state region.old) (R.state region.new)
-        victim.now log.old log.new standing.old standing.new n buffer.new.words.words) }
+        victim.now log.old log.new standing.old standing.new (copied_in n)
+        buffer.new.words.words) }
+    ensures told { IfOk result (λ n. IsTelling (R.state region.new) → IsSome n) }
     ensures log { IsLogOf (B.seat board.old).place (B.seat board.old).number log.new }
     ensures names { KeepsNames standing.old standing.new }
     ensures view { MatchResult result

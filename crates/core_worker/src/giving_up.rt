@@ -75,6 +75,7 @@ pub(crate) fn give_up<R: Region, B: Board>(
         (runs.Kind.Retire clearing.doomed) (B.whole board.new) (B.view board.new))
         (λ _. B.whole board.new ≡ B.whole board.old) }
     ensures read { OnOk result (standing.new.settled ≡ None) }
+    ensures few { OnOk result (standing.new.fewest ≡ 0) }
     ensures count { OnOk result (length standing.new.entries
         + lone_in standing.old clearing.names ≤ length standing.old.entries) }
     ensures room { OnOk result (standing.new.room ≡ standing.old.room) }

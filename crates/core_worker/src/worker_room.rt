@@ -3,14 +3,16 @@ ghost use Rattle.std.specs.Prelude.{◌≡◌, ◌⊎◌, ℕ, ◌+◌, ◌^◌,
 ghost use Rattle.chunk_map.specs.Layouts.{is_class};
 ghost use Rattle.core_room.specs.RoomRule.{pledged};
 ghost use Rattle.core_worker.specs.OwnPlaces.{lines_in, own};
-ghost use Rattle.core_worker.specs.Supplies.{supply_of, under_way, rest, IsSmall, free_blocks, lacks};
+ghost use Rattle.core_worker.specs.Supplies.{supply_of, under_way, rest, IsSmall, free_blocks, lacks, counted_by, no_more_than};
 ghost use Rattle.core_worker.specs.Refusals.{IsCounted, AreCounted, IsMeasured};
 
-use crate::types::{Cleaning, Place};
+use crate::types::{Cleaning, Place, Victim};
 use crate::worker::Worker;
 use core_room::{Shortage, Supply, lines_to_copy};
 use group_laws::group_sizes::SLOTS;
 use log_entry::entry_lines;
+use log_standing::Amount;
+use std::cmp::min;
 
 // The lines of the log that a place pledges.
 fn lines_in(place: &Place) -> u64
@@ -52,6 +54,34 @@ fn copy_lines(cleaning: &Cleaning) -> u64
     }
 }
 
+// What is left of a victim's chunk: no more than is counted of it.
+fn no_more_than(left: Option<Amount>, victim: Victim) -> Victim
+    ensures { result ≡ no_more_than left victim }
+{
+    match left {
+        None => victim,
+        Some(left) => Victim {
+            chunk: victim.chunk,
+            entries: min(victim.entries, left.entries),
+            words: min(victim.words, left.words),
+        },
+    }
+}
+
+// The cleaning with what is still to be copied, where so much is counted of its chunk.
+fn counted_by(left: Option<Amount>, cleaning: Cleaning) -> Cleaning
+    ensures { result ≡ counted_by left cleaning }
+{
+    match cleaning {
+        Cleaning::Nothing => Cleaning::Nothing,
+        Cleaning::Copying { victim, first } => Cleaning::Copying {
+            victim: no_more_than(left, victim),
+            first,
+        },
+        Cleaning::Doomed { chunk } => Cleaning::Doomed { chunk },
+    }
+}
+
 impl Worker {
     // The cleaning that the core goes on with.
     pub(crate) fn under_way(&self) -> Cleaning
@@ -63,7 +93,7 @@ impl Worker {
         if self.winds_down {
             return Cleaning::Nothing;
         }
-        self.cleaning
+        counted_by(self.standing.left(), self.cleaning)
     }
 
     // The room of the core at this moment.

@@ -14,4 +14,4 @@ pub mod AppendLaws
 pub mod Added
 pub mod Opened
 pub mod Tallies
-mod TallyLaws
+pub mod TallyLaws

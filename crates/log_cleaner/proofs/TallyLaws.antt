@@ -25,14 +25,19 @@ use Rattle.log_cleaner.proofs.Batches.{name_sym, filter_same}
 use Rattle.log_cleaner.proofs.LessLaws.{sum_ones}
 
 pub keeps_itself : (st : StandingState) → KeepsTally st st
-keeps_itself st = record { tally = λ es is. is; fewest = λ es le. le }
+keeps_itself st = record { less = λ t is. record { tally = t; is = is; entries = omega arith; words = omega arith }; tally = λ es is. is; fewest = λ es le. le }
 
 pub keeps_both : (old mid new : StandingState) → KeepsTally old mid → KeepsTally mid new → KeepsTally old new
-keeps_both old mid new first then = record { tally = λ es is. then.tally es (first.tally es is); fewest = λ es le. then.fewest es (first.fewest es le) }
+keeps_both old mid new first then = record {
+  less = λ t is. (let a = first.less t is in let b = then.less a.tally a.is in let e = a.entries in let f = a.words in let g = b.entries in let h = b.words in record { tally = b.tally; is = b.is; entries = omega (arith, e, g); words = omega (arith, f, h) });
+  tally = λ es is. then.tally es (first.tally es is);
+  fewest = λ es le. then.fewest es (first.fewest es le);
+}
 
 -- where the names stand as before
 pub keeps_same : (old new : StandingState) → SameCopies old new → new.tally ≡ old.tally → new.fewest ≤ old.fewest → KeepsTally old new
 keeps_same old new same tally fewest = record {
+  less = λ t is. record { tally = t; is = tally ∙ is; entries = omega arith; words = omega arith };
   tally = λ es is. record {
     tally = is.tally;
     is = tally ∙ is.is;
@@ -117,6 +122,12 @@ module _ (old new : StandingState) (k v : ℕ) (now : Option Copies) (changes : 
   pub wanted_no_more : new.tally ≡ tally_without old k v → new.fewest ≡ fewest_without old k v → KeepsTally old new
   wanted_no_more tally fewest = elim (wants old k v) as (λ b. wants old k v ≡ b → KeepsTally old new) [
     | true ↦ λ wanted. record {
+      less = λ t is. record {
+        tally = less k v t;
+        is = tally ∙ cond-true (wants old k v) (option_map (less k v) old.tally) old.tally wanted ∙ ap (λ (o : Option TallyState). option_map (less k v) o) is;
+        entries = omega arith;
+        words = omega arith;
+      };
       tally = λ es is. record {
         tally = less k v is.tally;
         is = tally ∙ cond-true (wants old k v) (option_map (less k v) old.tally) old.tally wanted ∙ ap (λ (o : Option TallyState). option_map (less k v) o) is.is;
@@ -125,6 +136,7 @@ module _ (old new : StandingState) (k v : ℕ) (now : Option Copies) (changes : 
       fewest = λ es le. (let none : new.fewest ≡ 0 = fewest ∙ cond-true (wants old k v) 0 old.fewest wanted in omega (arith, none));
     }
     | false ↦ λ wasnt. record {
+      less = λ t is. record { tally = t; is = tally ∙ cond-false (wants old k v) (option_map (less k v) old.tally) old.tally wasnt ∙ is; entries = omega arith; words = omega arith };
       tally = λ es is. record {
         tally = is.tally;
         is = tally ∙ cond-false (wants old k v) (option_map (less k v) old.tally) old.tally wasnt ∙ is.is;

@@ -48,8 +48,16 @@ pub record IsTallied (st : StandingState) (es : List (ℕ × Entry)) : Type 0 wh
 abbrev pub lines_left : StandingState → List (ℕ × Entry) → ℕ
 lines_left st es = copy_lines (tally_of 0 (left_to_copy st es))
 
--- What is counted of some entries stays so, and the number that is noted stays no greater than their lines.
+-- no more is counted, whatever it is counted of
+pub record CountsLess (new : StandingState) (t : TallyState) : Type 0 where
+  pub tally : TallyState
+  pub is : new.tally ≡ Some tally
+  pub entries : tally.left.entries ≤ t.left.entries
+  pub words : tally.left.words ≤ t.left.words
+
+-- What is counted of some entries stays so and only falls, and the number that is noted stays no greater than their lines.
 pub record KeepsTally (old new : StandingState) : Type 0 where
+  pub less : (t : TallyState) → old.tally ≡ Some t → CountsLess new t
   pub tally : (es : List (ℕ × Entry)) → IsTallied old es → IsTallied new es
   pub fewest : (es : List (ℕ × Entry)) → old.fewest ≤ lines_left old es
       → new.fewest ≤ lines_left new es

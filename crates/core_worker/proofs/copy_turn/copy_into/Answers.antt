@@ -15,6 +15,7 @@ use Rattle.core_log.specs.Walking.{entries_in}
 use Rattle.core_log.proofs.Clients.{tail_other}
 use Rattle.log_standing.specs.declared.types.Settled.{Settled}
 use Rattle.log_standing.specs.NameCounts.{StandingState}
+use Rattle.log_cleaner.specs.CopyBatch.{copied_in}
 use Rattle.log_cleaner.specs.Additions.{OpensNew, with_open}
 use Rattle.log_cleaner.specs.Copying.{IsUpToDate, left_to_copy}
 use Rattle.log_cleaner.specs.CopyBatch.{Bounds, IsBatchOf, IsLess, next_batch, entries_of}
@@ -52,7 +53,7 @@ has_still log log' j i is none has =
 told_mid : (s mid : State) (a b : ℕ) → During s mid (KeepsOutside (cell_now s) a b) → IsTelling mid → IsTelling s
 told_mid s mid a b outside = told_at_entry s mid (KeepsOutside (cell_now s) a b) outside
 
-if_ok_on : {E : Type 0} (r : Result ℕ E) (P Q : ℕ → Type 0) → ((n : ℕ) → P n → Q n) → IfOk r P → IfOk r Q
+if_ok_on : {A E : Type 0} (r : Result A E) (P Q : A → Type 0) → ((n : A) → P n → Q n) → IfOk r P → IfOk r Q
 if_ok_on (Ok n) P Q on is = on n is
 if_ok_on (Err e) P Q on is = tt
 
@@ -162,13 +163,13 @@ returns-in-Ok-clause-tells g c =
     let new = opens_new s mid log st v.words c.args.fresh c.in-Some.chunk c.in-Some.is c.requires.begins.stands c.requires.room c.requires.new c.open_chunk.ensures.outside (c.requires.read was) in
     ap (λ (l : LogState). entries_in mid l v.chunk) c.in-Ok.ensures.ok.log_is ∙ open_else s mid log st c.in-Some.chunk new telling v.chunk c.requires.has) in
     if_ok_on c.copy_on-in-Ok.result
-    (λ n. CopiesInRegion mid t v opened log' st c.copy_on-in-Ok.new.standing n c.copy_on-in-Ok.new.buffer.words.words)
-    (λ n. CopiesInRegion s t v log log' st c.copy_on-in-Ok.new.standing n c.copy_on-in-Ok.new.buffer.words.words)
+    (λ n. CopiesInRegion mid t v opened log' st c.copy_on-in-Ok.new.standing (copied_in n) c.copy_on-in-Ok.new.buffer.words.words)
+    (λ n. CopiesInRegion s t v log log' st c.copy_on-in-Ok.new.standing (copied_in n) c.copy_on-in-Ok.new.buffer.words.words)
     (λ n T. record {
       stands = T.stands;
       counted = T.counted;
       chunk = λ telling. T.chunk telling ∙ same (told telling);
-      batch = λ telling. batch_moved s mid log opened st v.chunk n c.copy_on-in-Ok.new.buffer.words.words (same (told telling)) (T.batch telling);
+      batch = λ telling. batch_moved s mid log opened st v.chunk (copied_in n) c.copy_on-in-Ok.new.buffer.words.words (same (told telling)) (T.batch telling);
       less = λ telling. subst (IsLess st c.copy_on-in-Ok.new.standing) (same (told telling)) (T.less telling);
     })
     c.copy_on-in-Ok.ensures.tells

@@ -17,6 +17,7 @@ use Rattle.core_log.specs.Log.{LogState, open_first}
 use Rattle.log_standing.specs.declared.types.Settled.{Settled}
 use Rattle.core_log.specs.Walking.{entries_in}
 use Rattle.core_worker.specs.TakenChunks.{appended_to}
+use Rattle.log_cleaner.specs.CopyBatch.{copied_in}
 use Rattle.core_worker.specs.CopyTurns.{copied_to}
 use Rattle.core_worker.proofs.copy_turn.copy_on.Goals as goal
 
@@ -73,8 +74,9 @@ returns-in-Ok-clause-copies g c = record {
   within = c.in-Ok.ensures.within.0;
   short = c.in-Ok.ensures.within.2;
   some = c.in-Ok.ensures.some;
-  log_is = copied_by c.in-Ok.count c.args.log.now c.copy_live.new.log c.copy_live.new.buffer.words (λ none. (c.in-Ok.ensures.nothing none).1) c.in-Ok.ensures.log;
+  log_is = copied_by (copied_in c.in-Ok.count) c.args.log.now c.copy_live.new.log c.copy_live.new.buffer.words (λ none. (c.in-Ok.ensures.nothing none).1) c.in-Ok.ensures.log;
   names = c.copy_live.ensures.names;
+  tally = c.copy_live.ensures.tally;
   read = λ h at. read_at c.args.victim.now.chunk c.copy_live.new.standing.settled c.copy_live.ensures.read h at;
 }
 
@@ -105,3 +107,10 @@ returns-in-Err-clause-outside g c = let s = g.R.Region.state c.args.region.now i
 
 pub returns-in-Err-clause-exit : goal.returns-in-Err-clause-exit
 returns-in-Err-clause-exit g c telling = at_exit (g.R.Region.state c.args.region.now) (g.R.Region.state c.copy_live.new.region) (Licensed (g.B.Board.seat c.args.board.now).place (g.B.Board.seat c.args.board.now).number (g.B.Board.view c.args.board.now)) (returns-in-Err-clause-moments g c) telling
+
+pub returns-in-Ok-clause-told : goal.returns-in-Ok-clause-told
+returns-in-Ok-clause-told g c telling =
+    let s = g.R.Region.state c.args.region.now in
+    let t = g.R.Region.state c.copy_live.new.region in
+    let log = c.args.log.now in
+    c.in-Ok.ensures.told (told_at_entry s t (KeepsOutside (cell_now s) (open_first log) (open_first log + chunk_words log.layout)) c.copy_live.ensures.moments.outside telling)

@@ -1,5 +1,5 @@
 -- The turn that copies on.
-use Rattle.std.proofs.Common.{◌≡◌, ℕ, ◌&&◌, Bool, true, false, List, [], ◌∷◌, length, None, inl, inr, refl, sym, ◌∙◌, ap, subst}
+use Rattle.std.proofs.Common.{◌≡◌, ℕ, ◌&&◌, Bool, true, false, List, [], ◌∷◌, length, Option, None, inl, inr, refl, sym, ◌∙◌, ap, subst}
 use Rattle.pm_region.specs.State.{cell_now}
 use Rattle.core_room.specs.CleaningRoom.{needs_fresh}
 use Rattle.core_room.specs.declared.supply.Supply.{Supply}
@@ -9,8 +9,11 @@ use Rattle.group_board.specs.Trails.{step_with}
 use Rattle.licence.specs.Licence.{Licensed}
 use Rattle.batch_leader.proofs.Clients.{no_steps}
 use Rattle.core_worker.specs.declared.types.Cleaning.TheVariants.{Nothing, Copying}
-use Rattle.core_worker.specs.CopyItems.{CopiesOn, LosesCopies, needs_chunk}
-use Rattle.core_worker.specs.CopyTurns.{left_of}
+use Rattle.std.specs.Prelude.{IsSome}
+use Rattle.log_cleaner.specs.CopyBatch.{copied_in}
+use Rattle.batch_leader.specs.Persisting.{opened_for}
+use Rattle.core_worker.specs.CopyItems.{CopiesOn, LosesCopies, MisreadsCopies, needs_chunk}
+use Rattle.core_worker.specs.CopyTurns.{left_of, CopiesBatch, CopiesInRegion}
 use Rattle.core_worker.specs.TakenChunks.{TakesFor}
 use Rattle.core_worker.specs.Turning.Did.{copies, loses_copies}
 use Rattle.core_worker.proofs.CopiedItem as copied
@@ -51,8 +54,8 @@ returns-then-lacks_lines-clause-keeps g c =
     let takes : TakesFor (needs_chunk first w) w.allocator c.chunk_for-fresh.new.allocator c.chunk_for-fresh.result = subst (λ (b : Bool). TakesFor b w.allocator c.chunk_for-fresh.new.allocator c.chunk_for-fresh.result) f_is c.chunk_for-fresh.ensures.takes in
     let none = (c.lacks_lines.ensures.lacks c.if-lacks_lines.true).0 in
     let still = copied.none_same (needs_chunk first w) w.allocator c.chunk_for-fresh.new.allocator c.chunk_for-fresh.result takes none in
-    let x = record w { allocator = c.chunk_for-fresh.new.allocator; cleaning = Nothing; clearing = None } in
-    let same : x ≡ record w { cleaning = Nothing; clearing = None } = (λ i. record w { allocator = still i; cleaning = Nothing; clearing = None }) in
+    let x = c.leave_chunk.new.self in
+    let same : c.leave_chunk.new.self ≡ record c.args.self.now { cleaning = Nothing; clearing = None } = c.leave_chunk.ensures ∙ (λ i. record w { allocator = still i; cleaning = Nothing; clearing = None }) in
     let before = g.B.Board.whole c.args.board.now in
     copied.keeps_left seat s before v w x victim first H c.requires.stands c.requires.order c.requires.way same ([], no_steps before seat.number seat.place v (g.met.B.Board.agrees c.args.board.now))
 
@@ -69,8 +72,8 @@ returns-then-lacks_lines-clause-did g c refused start from entry passed passes m
     let takes : TakesFor (needs_chunk first w) w.allocator c.chunk_for-fresh.new.allocator c.chunk_for-fresh.result = subst (λ (b : Bool). TakesFor b w.allocator c.chunk_for-fresh.new.allocator c.chunk_for-fresh.result) f_is c.chunk_for-fresh.ensures.takes in
     let none = (c.lacks_lines.ensures.lacks c.if-lacks_lines.true).0 in
     let still = copied.none_same (needs_chunk first w) w.allocator c.chunk_for-fresh.new.allocator c.chunk_for-fresh.result takes none in
-    let x = record w { allocator = c.chunk_for-fresh.new.allocator; cleaning = Nothing; clearing = None } in
-    let same : x ≡ record w { cleaning = Nothing; clearing = None } = (λ i. record w { allocator = still i; cleaning = Nothing; clearing = None }) in
+    let x = c.leave_chunk.new.self in
+    let same : c.leave_chunk.new.self ≡ record c.args.self.now { cleaning = Nothing; clearing = None } = c.leave_chunk.ensures ∙ (λ i. record w { allocator = still i; cleaning = Nothing; clearing = None }) in
     let takes_none : TakesFor (needs_chunk first w) w.allocator w.allocator None = subst (λ (a : _). TakesFor (needs_chunk first w) w.allocator a None) still (subst (λ (o : _). TakesFor (needs_chunk first w) w.allocator c.chunk_for-fresh.new.allocator o) none takes) in
     copies (record {
       mid = v;
@@ -84,7 +87,7 @@ returns-then-lacks_lines-clause-did g c refused start from entry passed passes m
       first = first;
       way = c.requires.way;
       some = c.requires.some;
-      copies = inr (record { none = takes_none; lacks = copied.lacks_of w victim first c.requires.way c.supply-supply.result c.supply-supply.ensures.supply (c.lacks_lines.ensures.lacks c.if-lacks_lines.true).1; same = same }, refl);
+      copies = inr (inl (record { none = takes_none; lacks = copied.lacks_of w victim first c.requires.way c.supply-supply.result c.supply-supply.ensures.supply (c.lacks_lines.ensures.lacks c.if-lacks_lines.true).1; same = same }, refl));
     })
 
 pub returns-then-lacks_lines-clause-less : goal.returns-then-lacks_lines-clause-less
@@ -100,13 +103,13 @@ returns-then-lacks_lines-clause-less g c =
     let takes : TakesFor (needs_chunk first w) w.allocator c.chunk_for-fresh.new.allocator c.chunk_for-fresh.result = subst (λ (b : Bool). TakesFor b w.allocator c.chunk_for-fresh.new.allocator c.chunk_for-fresh.result) f_is c.chunk_for-fresh.ensures.takes in
     let none = (c.lacks_lines.ensures.lacks c.if-lacks_lines.true).0 in
     let still = copied.none_same (needs_chunk first w) w.allocator c.chunk_for-fresh.new.allocator c.chunk_for-fresh.result takes none in
-    let x = record w { allocator = c.chunk_for-fresh.new.allocator; cleaning = Nothing; clearing = None } in
-    let same : x ≡ record w { cleaning = Nothing; clearing = None } = (λ i. record w { allocator = still i; cleaning = Nothing; clearing = None }) in
+    let x = c.leave_chunk.new.self in
+    let same : c.leave_chunk.new.self ≡ record c.args.self.now { cleaning = Nothing; clearing = None } = c.leave_chunk.ensures ∙ (λ i. record w { allocator = still i; cleaning = Nothing; clearing = None }) in
     let before = g.B.Board.whole c.args.board.now in
     lowers_still before before w x refl (copied.leaves_lower s seat.place seat.number v w x victim first H c.requires.stands c.requires.order c.requires.way same)
 
-pub returns-in-Ok-clause-keeps : goal.returns-in-Ok-clause-keeps
-returns-in-Ok-clause-keeps g c =
+pub returns-in-Some-clause-keeps : goal.returns-in-Some-clause-keeps
+returns-in-Some-clause-keeps g c =
     let seat = g.B.Board.seat c.args.board.now in
     let s = g.R.Region.state c.args.region.now in
     let v = g.B.Board.view c.args.board.now in
@@ -122,23 +125,23 @@ returns-in-Ok-clause-keeps g c =
     let after = g.B.Board.whole c.copy_into.new.board in
     let words = c.copy_into.new.buffer.words.words in
     let x = record w { log = c.copy_into.new.log; allocator = c.chunk_for-fresh.new.allocator; standing = c.copy_into.new.standing; copies = c.copy_into.new.buffer; cleaning = Copying c.left_of-left.result false } in
-    let left_is : c.left_of-left.result ≡ left_of victim c.in-Ok.count (length words) = c.left_of-left.ensures ∙ ap (λ (ws : List ℕ). left_of victim c.in-Ok.count (length ws)) c.words.ensures.words in
+    let left_is : c.left_of-left.result ≡ left_of victim c.in-Some.count (length words) = c.left_of-left.ensures ∙ ap (λ (ws : List ℕ). left_of victim c.in-Some.count (length ws)) c.words.ensures.words in
     let K : CopiesOn victim first w x = record {
       fresh = c.chunk_for-fresh.result;
       takes = takes;
       sets = c.chunk_for-fresh.ensures.sets;
       fits = λ none. copied.fits_of w victim first c.requires.way c.supply-supply.result c.supply-supply.ensures.supply (c.lacks_lines.ensures.fits c.if-lacks_lines.false none);
-      count = c.in-Ok.count;
+      count = c.in-Some.count;
       words = words;
-      batch = c.in-Ok.ensures.copies;
+      batch = subst (λ (n : Option ℕ). CopiesBatch victim (opened_for w.log c.chunk_for-fresh.result) c.copy_into.new.log w.standing c.copy_into.new.standing (copied_in n) words) c.in-Some.is c.in-Ok.ensures.copies;
       same = (λ i. record w { log = c.copy_into.new.log; allocator = c.chunk_for-fresh.new.allocator; standing = c.copy_into.new.standing; copies = c.copy_into.new.buffer; cleaning = Copying (left_is i) false });
     } in
     let own = (c.requires.stands.log (cleaning.cleans seat.place seat.number v w H victim first c.requires.way).runs).own in
-    copied.keeps_copied seat s t before after v u w x victim first H c.requires.stands c.requires.order own c.requires.way c.requires.some K c.in-Ok.ensures.tells c.copy_into.ensures.chunk c.in-Ok.ensures.view c.copy_into.ensures.exit c.copy_into.ensures.moments c.copy_into.ensures.outside
+    copied.keeps_copied seat s t before after v u w x victim first H c.requires.stands c.requires.order own c.requires.way c.requires.some K (subst (λ (n : Option ℕ). CopiesInRegion s t victim w.log c.copy_into.new.log w.standing c.copy_into.new.standing (copied_in n) words) c.in-Some.is c.in-Ok.ensures.tells) c.copy_into.ensures.chunk c.in-Ok.ensures.view c.copy_into.ensures.exit c.copy_into.ensures.moments c.copy_into.ensures.outside
     (runs.Kind.Commit ∷ [], one_step before after seat.number runs.Kind.Commit u c.in-Ok.ensures.made)
 
-pub returns-in-Ok-clause-did : goal.returns-in-Ok-clause-did
-returns-in-Ok-clause-did g c refused start from entry passed passes mail sending =
+pub returns-in-Some-clause-did : goal.returns-in-Some-clause-did
+returns-in-Some-clause-did g c refused start from entry passed passes mail sending =
     let seat = g.B.Board.seat c.args.board.now in
     let s = g.R.Region.state c.args.region.now in
     let v = g.B.Board.view c.args.board.now in
@@ -154,15 +157,15 @@ returns-in-Ok-clause-did g c refused start from entry passed passes mail sending
     let after = g.B.Board.whole c.copy_into.new.board in
     let words = c.copy_into.new.buffer.words.words in
     let x = record w { log = c.copy_into.new.log; allocator = c.chunk_for-fresh.new.allocator; standing = c.copy_into.new.standing; copies = c.copy_into.new.buffer; cleaning = Copying c.left_of-left.result false } in
-    let left_is : c.left_of-left.result ≡ left_of victim c.in-Ok.count (length words) = c.left_of-left.ensures ∙ ap (λ (ws : List ℕ). left_of victim c.in-Ok.count (length ws)) c.words.ensures.words in
+    let left_is : c.left_of-left.result ≡ left_of victim c.in-Some.count (length words) = c.left_of-left.ensures ∙ ap (λ (ws : List ℕ). left_of victim c.in-Some.count (length ws)) c.words.ensures.words in
     let K : CopiesOn victim first w x = record {
       fresh = c.chunk_for-fresh.result;
       takes = takes;
       sets = c.chunk_for-fresh.ensures.sets;
       fits = λ none. copied.fits_of w victim first c.requires.way c.supply-supply.result c.supply-supply.ensures.supply (c.lacks_lines.ensures.fits c.if-lacks_lines.false none);
-      count = c.in-Ok.count;
+      count = c.in-Some.count;
       words = words;
-      batch = c.in-Ok.ensures.copies;
+      batch = subst (λ (n : Option ℕ). CopiesBatch victim (opened_for w.log c.chunk_for-fresh.result) c.copy_into.new.log w.standing c.copy_into.new.standing (copied_in n) words) c.in-Some.is c.in-Ok.ensures.copies;
       same = (λ i. record w { log = c.copy_into.new.log; allocator = c.chunk_for-fresh.new.allocator; standing = c.copy_into.new.standing; copies = c.copy_into.new.buffer; cleaning = Copying (left_is i) false });
     } in
     let own = (c.requires.stands.log (cleaning.cleans seat.place seat.number v w H victim first c.requires.way).runs).own in
@@ -181,8 +184,8 @@ returns-in-Ok-clause-did g c refused start from entry passed passes mail sending
       copies = inl (K, c.in-Ok.ensures.view);
     })
 
-pub returns-in-Ok-clause-less : goal.returns-in-Ok-clause-less
-returns-in-Ok-clause-less g c =
+pub returns-in-Some-clause-less : goal.returns-in-Some-clause-less
+returns-in-Some-clause-less g c =
     let seat = g.B.Board.seat c.args.board.now in
     let s = g.R.Region.state c.args.region.now in
     let v = g.B.Board.view c.args.board.now in
@@ -198,24 +201,160 @@ returns-in-Ok-clause-less g c =
     let after = g.B.Board.whole c.copy_into.new.board in
     let words = c.copy_into.new.buffer.words.words in
     let x = record w { log = c.copy_into.new.log; allocator = c.chunk_for-fresh.new.allocator; standing = c.copy_into.new.standing; copies = c.copy_into.new.buffer; cleaning = Copying c.left_of-left.result false } in
-    let left_is : c.left_of-left.result ≡ left_of victim c.in-Ok.count (length words) = c.left_of-left.ensures ∙ ap (λ (ws : List ℕ). left_of victim c.in-Ok.count (length ws)) c.words.ensures.words in
+    let left_is : c.left_of-left.result ≡ left_of victim c.in-Some.count (length words) = c.left_of-left.ensures ∙ ap (λ (ws : List ℕ). left_of victim c.in-Some.count (length ws)) c.words.ensures.words in
     let K : CopiesOn victim first w x = record {
       fresh = c.chunk_for-fresh.result;
       takes = takes;
       sets = c.chunk_for-fresh.ensures.sets;
       fits = λ none. copied.fits_of w victim first c.requires.way c.supply-supply.result c.supply-supply.ensures.supply (c.lacks_lines.ensures.fits c.if-lacks_lines.false none);
-      count = c.in-Ok.count;
+      count = c.in-Some.count;
       words = words;
-      batch = c.in-Ok.ensures.copies;
+      batch = subst (λ (n : Option ℕ). CopiesBatch victim (opened_for w.log c.chunk_for-fresh.result) c.copy_into.new.log w.standing c.copy_into.new.standing (copied_in n) words) c.in-Some.is c.in-Ok.ensures.copies;
       same = (λ i. record w { log = c.copy_into.new.log; allocator = c.chunk_for-fresh.new.allocator; standing = c.copy_into.new.standing; copies = c.copy_into.new.buffer; cleaning = Copying (left_is i) false });
     } in
     let own = (c.requires.stands.log (cleaning.cleans seat.place seat.number v w H victim first c.requires.way).runs).own in
     let view : u ≡ record v { looked = [] } = c.in-Ok.ensures.view ∙ copied.view_still v (copied.flying_none seat.place seat.number v w H victim first c.requires.way) in
     copied.copied_lower before after seat.number u w x c.in-Ok.ensures.made (g.met.B.Board.lawful c.args.board.now)
-    (copied.copied_less seat.place seat.number v u w x victim first H c.requires.way c.requires.some K view (returns-in-Ok-clause-keeps g c).holds)
+    (copied.copied_less seat.place seat.number v u w x victim first H c.requires.way c.requires.some K view (returns-in-Some-clause-keeps g c).holds)
 
-pub returns-in-Ok-clause-steps : goal.returns-in-Ok-clause-steps
-returns-in-Ok-clause-steps g c passes = record { made = step_with runs.Kind.Commit (g.B.Board.view c.copy_into.new.board) ∷ []; more = c.in-Ok.ensures.steps.0; loads = tt; ends = refl; last = record { handed = λ _. c.in-Ok.ensures.steps.1; alone = λ _ no. absurd (cc no) }; asks = λ no. absurd (cc no) }
+pub returns-in-Some-clause-steps : goal.returns-in-Some-clause-steps
+returns-in-Some-clause-steps g c passes = record { made = step_with runs.Kind.Commit (g.B.Board.view c.copy_into.new.board) ∷ []; more = c.in-Ok.ensures.steps.0; loads = tt; ends = refl; last = record { handed = λ _. c.in-Ok.ensures.steps.1; alone = λ _ no. absurd (cc no) }; asks = λ no. absurd (cc no) }
+
+pub returns-in-None-clause-keeps : goal.returns-in-None-clause-keeps
+returns-in-None-clause-keeps g c =
+    let seat = g.B.Board.seat c.args.board.now in
+    let s = g.R.Region.state c.args.region.now in
+    let v = g.B.Board.view c.args.board.now in
+    let w = c.args.self.now in
+    let victim = c.args.victim in
+    let first = c.args.first in
+    let H = c.requires.holds in
+    let f_is : c.needs_chunk-needed.result ≡ needs_chunk first w = c.needs_chunk-needed.ensures ∙ ap (λ (y : Supply). first && needs_fresh y) c.supply-supply.ensures.supply in
+    let takes : TakesFor (needs_chunk first w) w.allocator c.chunk_for-fresh.new.allocator c.chunk_for-fresh.result = subst (λ (b : Bool). TakesFor b w.allocator c.chunk_for-fresh.new.allocator c.chunk_for-fresh.result) f_is c.chunk_for-fresh.ensures.takes in
+    let t = g.R.Region.state c.copy_into.new.region in
+    let u = g.B.Board.view c.copy_into.new.board in
+    let before = g.B.Board.whole c.args.board.now in
+    let after = g.B.Board.whole c.copy_into.new.board in
+    let words = c.copy_into.new.buffer.words.words in
+    let mid = record w { log = c.copy_into.new.log; allocator = c.chunk_for-fresh.new.allocator; standing = c.copy_into.new.standing; copies = c.copy_into.new.buffer; cleaning = Copying (left_of victim 0 (length words)) false } in
+    let K : CopiesOn victim first w mid = record {
+      fresh = c.chunk_for-fresh.result;
+      takes = takes;
+      sets = c.chunk_for-fresh.ensures.sets;
+      fits = λ none. copied.fits_of w victim first c.requires.way c.supply-supply.result c.supply-supply.ensures.supply (c.lacks_lines.ensures.fits c.if-lacks_lines.false none);
+      count = 0;
+      words = words;
+      batch = subst (λ (n : Option ℕ). CopiesBatch victim (opened_for w.log c.chunk_for-fresh.result) c.copy_into.new.log w.standing c.copy_into.new.standing (copied_in n) words) c.in-None.is c.in-Ok.ensures.copies;
+      same = refl;
+    } in
+    let M : MisreadsCopies t victim first w c.leave_chunk-in-None.new.self = record {
+      mid = mid;
+      copies = K;
+      none = refl;
+      untold = λ telling. (let some = c.in-Ok.ensures.told telling in let both : false ≡ true = subst (λ (o : Option ℕ). IsSome o) c.in-None.is some in cc both);
+      same = c.leave_chunk-in-None.ensures;
+    } in
+    let own = (c.requires.stands.log (cleaning.cleans seat.place seat.number v w H victim first c.requires.way).runs).own in
+    let T = copied.keeps_copied seat s t before after v u w mid victim first H c.requires.stands c.requires.order own c.requires.way c.requires.some K (subst (λ (n : Option ℕ). CopiesInRegion s t victim w.log c.copy_into.new.log w.standing c.copy_into.new.standing (copied_in n) words) c.in-None.is c.in-Ok.ensures.tells) c.copy_into.ensures.chunk c.in-Ok.ensures.view c.copy_into.ensures.exit c.copy_into.ensures.moments c.copy_into.ensures.outside
+    (runs.Kind.Commit ∷ [], one_step before after seat.number runs.Kind.Commit u c.in-Ok.ensures.made) in
+    copied.keeps_misread seat s t before after v u w c.leave_chunk-in-None.new.self victim first H c.requires.stands c.requires.order own c.requires.way c.requires.some M T
+
+pub returns-in-None-clause-did : goal.returns-in-None-clause-did
+returns-in-None-clause-did g c refused start from entry passed passes mail sending =
+    let seat = g.B.Board.seat c.args.board.now in
+    let s = g.R.Region.state c.args.region.now in
+    let v = g.B.Board.view c.args.board.now in
+    let w = c.args.self.now in
+    let victim = c.args.victim in
+    let first = c.args.first in
+    let H = c.requires.holds in
+    let f_is : c.needs_chunk-needed.result ≡ needs_chunk first w = c.needs_chunk-needed.ensures ∙ ap (λ (y : Supply). first && needs_fresh y) c.supply-supply.ensures.supply in
+    let takes : TakesFor (needs_chunk first w) w.allocator c.chunk_for-fresh.new.allocator c.chunk_for-fresh.result = subst (λ (b : Bool). TakesFor b w.allocator c.chunk_for-fresh.new.allocator c.chunk_for-fresh.result) f_is c.chunk_for-fresh.ensures.takes in
+    let t = g.R.Region.state c.copy_into.new.region in
+    let u = g.B.Board.view c.copy_into.new.board in
+    let before = g.B.Board.whole c.args.board.now in
+    let after = g.B.Board.whole c.copy_into.new.board in
+    let words = c.copy_into.new.buffer.words.words in
+    let mid = record w { log = c.copy_into.new.log; allocator = c.chunk_for-fresh.new.allocator; standing = c.copy_into.new.standing; copies = c.copy_into.new.buffer; cleaning = Copying (left_of victim 0 (length words)) false } in
+    let K : CopiesOn victim first w mid = record {
+      fresh = c.chunk_for-fresh.result;
+      takes = takes;
+      sets = c.chunk_for-fresh.ensures.sets;
+      fits = λ none. copied.fits_of w victim first c.requires.way c.supply-supply.result c.supply-supply.ensures.supply (c.lacks_lines.ensures.fits c.if-lacks_lines.false none);
+      count = 0;
+      words = words;
+      batch = subst (λ (n : Option ℕ). CopiesBatch victim (opened_for w.log c.chunk_for-fresh.result) c.copy_into.new.log w.standing c.copy_into.new.standing (copied_in n) words) c.in-None.is c.in-Ok.ensures.copies;
+      same = refl;
+    } in
+    let M : MisreadsCopies t victim first w c.leave_chunk-in-None.new.self = record {
+      mid = mid;
+      copies = K;
+      none = refl;
+      untold = λ telling. (let some = c.in-Ok.ensures.told telling in let both : false ≡ true = subst (λ (o : Option ℕ). IsSome o) c.in-None.is some in cc both);
+      same = c.leave_chunk-in-None.ensures;
+    } in
+    let own = (c.requires.stands.log (cleaning.cleans seat.place seat.number v w H victim first c.requires.way).runs).own in
+    let T = copied.keeps_copied seat s t before after v u w mid victim first H c.requires.stands c.requires.order own c.requires.way c.requires.some K (subst (λ (n : Option ℕ). CopiesInRegion s t victim w.log c.copy_into.new.log w.standing c.copy_into.new.standing (copied_in n) words) c.in-None.is c.in-Ok.ensures.tells) c.copy_into.ensures.chunk c.in-Ok.ensures.view c.copy_into.ensures.exit c.copy_into.ensures.moments c.copy_into.ensures.outside
+    (runs.Kind.Commit ∷ [], one_step before after seat.number runs.Kind.Commit u c.in-Ok.ensures.made) in
+    copies (record {
+      mid = v;
+      before = passes;
+      post = passed;
+      mail = mail;
+      ready = w;
+      sending = sending;
+      runs = (cleaning.cleans seat.place seat.number v w H victim first c.requires.way).runs;
+      victim = victim;
+      first = first;
+      way = c.requires.way;
+      some = c.requires.some;
+      copies = inr (inr (M, c.in-Ok.ensures.view));
+    })
+
+pub returns-in-None-clause-less : goal.returns-in-None-clause-less
+returns-in-None-clause-less g c =
+    let seat = g.B.Board.seat c.args.board.now in
+    let s = g.R.Region.state c.args.region.now in
+    let v = g.B.Board.view c.args.board.now in
+    let w = c.args.self.now in
+    let victim = c.args.victim in
+    let first = c.args.first in
+    let H = c.requires.holds in
+    let f_is : c.needs_chunk-needed.result ≡ needs_chunk first w = c.needs_chunk-needed.ensures ∙ ap (λ (y : Supply). first && needs_fresh y) c.supply-supply.ensures.supply in
+    let takes : TakesFor (needs_chunk first w) w.allocator c.chunk_for-fresh.new.allocator c.chunk_for-fresh.result = subst (λ (b : Bool). TakesFor b w.allocator c.chunk_for-fresh.new.allocator c.chunk_for-fresh.result) f_is c.chunk_for-fresh.ensures.takes in
+    let t = g.R.Region.state c.copy_into.new.region in
+    let u = g.B.Board.view c.copy_into.new.board in
+    let before = g.B.Board.whole c.args.board.now in
+    let after = g.B.Board.whole c.copy_into.new.board in
+    let words = c.copy_into.new.buffer.words.words in
+    let mid = record w { log = c.copy_into.new.log; allocator = c.chunk_for-fresh.new.allocator; standing = c.copy_into.new.standing; copies = c.copy_into.new.buffer; cleaning = Copying (left_of victim 0 (length words)) false } in
+    let K : CopiesOn victim first w mid = record {
+      fresh = c.chunk_for-fresh.result;
+      takes = takes;
+      sets = c.chunk_for-fresh.ensures.sets;
+      fits = λ none. copied.fits_of w victim first c.requires.way c.supply-supply.result c.supply-supply.ensures.supply (c.lacks_lines.ensures.fits c.if-lacks_lines.false none);
+      count = 0;
+      words = words;
+      batch = subst (λ (n : Option ℕ). CopiesBatch victim (opened_for w.log c.chunk_for-fresh.result) c.copy_into.new.log w.standing c.copy_into.new.standing (copied_in n) words) c.in-None.is c.in-Ok.ensures.copies;
+      same = refl;
+    } in
+    let M : MisreadsCopies t victim first w c.leave_chunk-in-None.new.self = record {
+      mid = mid;
+      copies = K;
+      none = refl;
+      untold = λ telling. (let some = c.in-Ok.ensures.told telling in let both : false ≡ true = subst (λ (o : Option ℕ). IsSome o) c.in-None.is some in cc both);
+      same = c.leave_chunk-in-None.ensures;
+    } in
+    let own = (c.requires.stands.log (cleaning.cleans seat.place seat.number v w H victim first c.requires.way).runs).own in
+    let T = copied.keeps_copied seat s t before after v u w mid victim first H c.requires.stands c.requires.order own c.requires.way c.requires.some K (subst (λ (n : Option ℕ). CopiesInRegion s t victim w.log c.copy_into.new.log w.standing c.copy_into.new.standing (copied_in n) words) c.in-None.is c.in-Ok.ensures.tells) c.copy_into.ensures.chunk c.in-Ok.ensures.view c.copy_into.ensures.exit c.copy_into.ensures.moments c.copy_into.ensures.outside
+    (runs.Kind.Commit ∷ [], one_step before after seat.number runs.Kind.Commit u c.in-Ok.ensures.made) in
+    let view : u ≡ record v { looked = [] } = c.in-Ok.ensures.view ∙ copied.view_still v (copied.flying_none seat.place seat.number v w H victim first c.requires.way) in
+    copied.copied_lower before after seat.number u w c.leave_chunk-in-None.new.self c.in-Ok.ensures.made (g.met.B.Board.lawful c.args.board.now)
+    (copied.misread_less seat s t before after v u w c.leave_chunk-in-None.new.self victim first H c.requires.stands c.requires.order own c.requires.way c.requires.some M T
+    (copied.copied_less seat.place seat.number v u w mid victim first H c.requires.way c.requires.some K view T.holds))
+
+pub returns-in-None-clause-steps : goal.returns-in-None-clause-steps
+returns-in-None-clause-steps g c passes = record { made = step_with runs.Kind.Commit (g.B.Board.view c.copy_into.new.board) ∷ []; more = c.in-Ok.ensures.steps.0; loads = tt; ends = refl; last = record { handed = λ _. c.in-Ok.ensures.steps.1; alone = λ _ no. absurd (cc no) }; asks = λ no. absurd (cc no) }
 
 pub returns-in-Err-clause-keeps : goal.returns-in-Err-clause-keeps
 returns-in-Err-clause-keeps g c =

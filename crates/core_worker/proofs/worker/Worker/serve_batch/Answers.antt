@@ -37,7 +37,7 @@ returns-in-Batch-clause-keeps g c =
     (runs_still w.stopped (λ stopped. subst MayLeadStopped c.in-Batch.is (c.requires.order.stops stopped))) n.room
     e.moments e.outside (batch_renewed seat.number (record { worker = w; view = v }) y x u n.rest n.names n.count n.winds n.still e.persists)
     (subst (λ (b : Bool). MadeOrStops b before after seat.number v u) (sym same) e.made) (λ stopped. e.cause (sym same ∙ stopped))
-    (λ runs kept. renewed_room y x n.rest n.winds (e.rule (sym same ∙ runs) kept))
+    (λ runs kept. renewed_room y x n.rest n.winds n.names (e.rule (sym same ∙ runs) kept))
 
 pub returns-in-Persisted-clause-keeps : goal.returns-in-Persisted-clause-keeps
 returns-in-Persisted-clause-keeps g c =

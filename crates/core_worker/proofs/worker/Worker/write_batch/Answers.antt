@@ -26,6 +26,7 @@ use Rattle.core_worker.specs.Turns.{TakesFor, MadeOrStops, PersistsOrLoses, unpl
 use Rattle.core_worker.specs.OwnPlaces.{place_at, own as own_lines_of}
 use Rattle.group_laws.specs.Runs as runs
 use Rattle.core_worker.specs.Status.{is_leading}
+use Rattle.core_worker.proofs.UnderWay.{none_standing}
 use Rattle.core_worker.proofs.CleaningKept.{leads_none}
 use Rattle.core_worker.proofs.LeadTies.{led_here, leads_of}
 use Rattle.core_worker.proofs.Made.{one_step}
@@ -76,7 +77,7 @@ returns-in-Ok-clause-holds g c =
     (leads_of seat u (leads.Persisted c.in-Ok.done) (gives.1, ap (λ (x : View). x.holds) view ∙ had.1, (λ whole. ap (λ (x : View). x.flying) view), (λ none. b.some (sym gives.0 ∙ none))))
     tt (λ broken. absurd (let both : true ≡ false = sym broken ∙ ap (λ (x : View). x.broken) view ∙ had.0.whole in cc both)) (λ lost. absurd (cc lost)) (λ runs. runs) (λ stopped. stopped)
     (λ runs. chunks_wrote p.layout.chunks b.fresh w.allocator c.chunk_for-fresh.new.allocator c.chunk_for-fresh.result w.log c.persist.new.log (padded (spelled ts)) H.sets takes (λ none. ap is_some (open_has w.log (c.requires.stands.log c.requires.runs).own (opened none))) c.in-Ok.ensures.wrote.log_is (H.chunks c.requires.runs)) (leads_none p m v w H.cleaning (ap is_leading (sym c.in-Batch.ensures.value))) in
-    holds_renewed p m u (record w { log = c.persist.new.log; allocator = c.chunk_for-fresh.new.allocator; leading = leads.Persisted c.in-Ok.done; places = c.unpledge.new.places }) c.note_names.new.standing w.winds_down (λ on. on) (inl (leads_none p m v w H.cleaning (ap is_leading (sym c.in-Batch.ensures.value))))
+    holds_renewed p m u (record w { log = c.persist.new.log; allocator = c.chunk_for-fresh.new.allocator; leading = leads.Persisted c.in-Ok.done; places = c.unpledge.new.places }) c.note_names.new.standing w.winds_down (λ on. on) (inl (none_standing w c.note_names.new.standing (leads_none p m v w H.cleaning (ap is_leading (sym c.in-Batch.ensures.value)))))
     (holds_lowered p m u (record w { log = c.persist.new.log; allocator = c.chunk_for-fresh.new.allocator; leading = leads.Persisted c.in-Ok.done; stopped = w.stopped }) wrote c.unpledge.new.places c.unpledge.ensures.count (λ s. is_some (taken_in ts m s))
     (λ s lt. c.unpledge.ensures.each s lt ∙ (λ i. unpledged_if (is_some (taken_in (gives.0 i) (own i) s)) (place_at w.places.items s)))
     (certain_own p m v u w H ts had.0.unlogged (subst (λ (rs : List Taken). AllByRecursion (λ t. In t.change.entry u.kept) rs) gives.0 gives.1.kept) (ap (λ (x : View). x.pending) view)) (λ runs. tt))
@@ -157,9 +158,10 @@ returns-in-Ok-clause-rule g c runs rule =
     let own : c.member-own.result ≡ m = c.member-own.ensures ∙ ap (λ (x : SeatAt). x.number) c.persist.ensures.seat in
     let each : (s : ℕ) → s < 8 → place_at c.unpledge.new.places.items s ≡ unpledged_if (is_some (taken_in ts m s)) (place_at w.places.items s) = λ s lt. c.unpledge.ensures.each s lt ∙ (λ i. unpledged_if (is_some (taken_in (gives.0 i) (own i) s)) (place_at w.places.items s)) in
     let less = less_own m ts c.unpledge.new.places.items w.places.items (c.unpledge.ensures.count ∙ sym H.eight) had.0.out.apart (pledged_by p m v w H ts had.0.unlogged) (each_place ts m w.places.items c.unpledge.new.places.items H.eight c.unpledge.ensures.count each) in
-    room_wrote p m v w (record w { log = c.persist.new.log; allocator = a; places = c.unpledge.new.places; leading = leads.Persisted c.in-Ok.done }) H b.fresh o b.own_lines (spelled ts) space takes
+    let none = leads_none p m v w H.cleaning (ap is_leading (sym c.in-Batch.ensures.value)) in
+    room_wrote p m v w (record w { log = c.persist.new.log; allocator = a; standing = c.note_names.new.standing; places = c.unpledge.new.places; leading = leads.Persisted c.in-Ok.done }) H b.fresh o b.own_lines (spelled ts) space takes
     (λ none. room_opens w.log (spelled ts) entries (subst (λ (x : Option ℕ). HasRoom s w.log (words_in ts) x) none room))
-    c.in-Ok.ensures.wrote.log_is (ap (λ (n : ℕ). own_lines_of c.unpledge.new.places.items + n) had.0.own ∙ less) refl (leads_none p m v w H.cleaning (ap is_leading (sym c.in-Batch.ensures.value))) rule
+    c.in-Ok.ensures.wrote.log_is (ap (λ (n : ℕ). own_lines_of c.unpledge.new.places.items + n) had.0.own ∙ less) (none_standing w c.note_names.new.standing none ∙ sym none) none rule
 
 pub returns-in-Ok-clause-persists : goal.returns-in-Ok-clause-persists
 returns-in-Ok-clause-persists g c =
