@@ -204,15 +204,16 @@ const ROOM: Room = Room {
     payload_lines: 60,
 };
 
-fn found(alloc: Global, stage: &Stage) -> Result<Option<Victim>, Fail>
-    requires { StandsIn (record (steady_state stage.now.region.region) { told = λ t. false })
-        stage.now.log }
+fn found(alloc: Global, stage: &mut Stage) -> Result<Option<Victim>, Fail>
+    requires { StandsIn (record (steady_state stage.old.region.region) { told = λ t. false })
+        stage.old.log }
+    ensures { stage.new ≡ record stage.old { standing = stage.new.standing } }
 {
     let found = victim(
         alloc,
         &stage.region,
         &stage.log,
-        &stage.standing,
+        &mut stage.standing,
         None,
         &ROOM,
     )?;
@@ -239,7 +240,8 @@ fn copied(stage: Stage) -> Result<(Stage, u64), Fail>
     check(has_chunk(&log, 0))?;
     check(log.opened() != Some(0))?;
     let chosen = to_copy(&region, &log, &standing, 0);
-    let count = copy_live(&mut region, &mut log, &mut standing, &chosen, &mut buffer)?;
+    let copied = copy_live(&mut region, &mut log, &mut standing, &chosen, &mut buffer)?;
+    let count = copied.unwrap_or(0);
     Ok((
         Stage {
             region,
@@ -311,13 +313,13 @@ fn times(region: &SteadyRegion, version: u64) -> u64 {
 #[test]
 fn all_dead(rt: HostRuntime) -> Result<(), Fail> {
     let alloc = rt.alloc();
-    let stage = prepared(alloc, 60)?;
+    let mut stage = prepared(alloc, 60)?;
     let chosen = Victim {
         chunk: 0,
         entries: 0,
         words: 0,
     };
-    assert_eq!(rt; found(alloc, &stage)?, Some(chosen));
+    assert_eq!(rt; found(alloc, &mut stage)?, Some(chosen));
     let (stage, doomed, gone) = cleared(alloc, stage)?;
     assert_eq!(rt; doomed, 60);
     assert_eq!(rt; gone.len(), 60);
@@ -357,13 +359,13 @@ fn images(alloc: Global, region: &SteadyRegion, from: u64, to: u64) -> Result<(u
 #[test]
 fn one_lives(rt: HostRuntime) -> Result<(), Fail> {
     let alloc = rt.alloc();
-    let stage = prepared(alloc, 59)?;
+    let mut stage = prepared(alloc, 59)?;
     let chosen = Victim {
         chunk: 0,
         entries: 1,
         words: 3,
     };
-    assert_eq!(rt; found(alloc, &stage)?, Some(chosen));
+    assert_eq!(rt; found(alloc, &mut stage)?, Some(chosen));
     let begin = stage.region.stamp();
     let (stage, count) = copied(stage)?;
     assert_eq!(rt; count, 1);

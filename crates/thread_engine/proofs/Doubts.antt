@@ -140,7 +140,7 @@ module _ (p : Place) (m : ℕ) (s t : State) (refused : Bool) (before : Option G
   did_keeps (sends quiet S) = ap (λ (z : View). z.blocks q) S.view ∙ ap (λ (z : View). z.blocks q) S.before.looked.view
   did_keeps (winds quiet W) = ap (λ (z : View). z.blocks q) W.view ∙ ap (λ (z : View). z.blocks q) W.before.looked.view
   did_keeps (dooms quiet D) = ap (λ (z : View). z.blocks q) D.dooms.view ∙ ap (λ (z : View). z.blocks q) D.before.looked.view
-  did_keeps (copies C) = ⊎_elim (λ K. ap (λ (z : View). z.blocks q) K.1) (λ L. ap (λ (z : View). z.blocks q) L.1) C.copies ∙ ap (λ (z : View). z.blocks q) C.before.looked.view
+  did_keeps (copies C) = ⊎_elim (λ K. ap (λ (z : View). z.blocks q) K.1) (λ rest. ⊎_elim (λ L. ap (λ (z : View). z.blocks q) L.1) (λ M. ap (λ (z : View). z.blocks q) M.1) rest) C.copies ∙ ap (λ (z : View). z.blocks q) C.before.looked.view
   did_keeps (loses_copies L) = ap (λ (z : View). z.blocks q) L.view ∙ ap (λ (z : View). z.blocks q) L.before.looked.view
   did_keeps (clears C) = ap (λ (z : View). z.blocks q) C.ends.tidied.4 ∙ ap (λ (z : View). z.blocks q) C.before.looked.view
   did_keeps (loses_clearing L) = ap (λ (z : View). z.blocks q) L.view ∙ ap (λ (z : View). z.blocks q) L.before.looked.view

@@ -146,7 +146,7 @@ module _ (p : Place) (m : ℕ) (v u : View) (w x : Worker) (H : Holds p m v w) (
     now_rests runs stop D (sends quiet S) = absurd (still (ap (λ (z : Worker). z.stopped) S.box.same ∙ ap (λ (z : Worker). z.stopped) S.readies.takes.same) runs stop)
     now_rests runs stop D (winds quiet W) = absurd (still (ap (λ (z : Worker). z.stopped) W.takes.same) runs stop)
     now_rests runs stop D (dooms quiet E) = absurd (still (ap (λ (z : Worker). z.stopped) E.dooms.same ∙ ap (λ (z : Worker). z.stopped) (passes_is seat.place seat.number w E.ready E.before.looked.looks E.sending)) runs stop)
-    now_rests runs stop D (copies C) = absurd (still (⊎_elim (λ K. ap (λ (z : Worker). z.stopped) K.0.same) (λ L. ap (λ (z : Worker). z.stopped) L.0.same) C.copies ∙ ap (λ (z : Worker). z.stopped) (passes_is seat.place seat.number w C.ready C.before.looked.looks C.sending)) runs stop)
+    now_rests runs stop D (copies C) = absurd (still (⊎_elim (λ K. ap (λ (z : Worker). z.stopped) K.0.same) (λ rest. ⊎_elim (λ L. ap (λ (z : Worker). z.stopped) L.0.same) (λ M. ap (λ (z : Worker). z.stopped) M.0.same ∙ ap (λ (z : Worker). z.stopped) M.0.copies.same) rest) C.copies ∙ ap (λ (z : Worker). z.stopped) (passes_is seat.place seat.number w C.ready C.before.looked.looks C.sending)) runs stop)
     now_rests runs stop D (loses_copies L) = absurd (no_doubt runs (doubted_in _ (L.view ∙ L.before.looked.view) refl D))
     now_rests runs stop D (clears C) = absurd (still (ap (λ (z : Worker). z.stopped) C.ends.same ∙ ap (λ (z : Worker). z.stopped) (passes_is seat.place seat.number w C.ready C.before.looked.looks C.sending)) runs stop)
     now_rests runs stop D (loses_clearing L) = absurd (no_doubt runs (doubted_in _ (L.view ∙ L.before.looked.view) refl D))
