@@ -94,6 +94,7 @@ mod LetGoMoves
 mod FinishMoves
 mod StopMoves
 pub mod LeftFair
+mod RestLaws
 mod RestingLoads
 mod RestingSlots
 mod RestingPlaces

@@ -1,9 +1,11 @@
 // The turn that goes on with the copies of a cleaning.
 ghost use Rattle.std.specs.Prelude.{◌≡◌, ℕ, ◌^◌, ◌<◌, ◌≤◌, ◌&&◌, Bool, true, false, Option, None};
+ghost use Rattle.pm_region.specs.State.{State, IsTelling};
 ghost use Rattle.log_entry.specs.declared.entry_limits.TheConstants.{MOST_ENTRIES};
 ghost use Rattle.core_room.specs.CleaningRoom.{needs_fresh};
 ghost use Rattle.core_room.specs.RoomRule.{pledged};
 ghost use Rattle.group_laws.specs.declared.group_sizes.TheConstants.{SLOTS};
+ghost use Rattle.log_cleaner.specs.Copying.{to_copy};
 ghost use Rattle.log_cleaner.specs.declared.types.Victim.{Victim as Chosen};
 ghost use Rattle.group_laws.specs.Places.{Place as PlaceOf};
 ghost use Rattle.group_laws.specs.State.{Group};
@@ -17,7 +19,7 @@ ghost use Rattle.core_worker.specs.Mails.{PassesMail};
 ghost use Rattle.core_worker.specs.Readying.{PassesSending};
 ghost use Rattle.core_worker.specs.declared.worker.Worker.{Worker};
 ghost use Rattle.core_worker.specs.Supplies.{under_way, HasKeptRoom};
-ghost use Rattle.core_worker.specs.Ties.{Holds, HoldsAt, StandsAt};
+ghost use Rattle.core_worker.specs.Ties.{Holds, HoldsAt, Stands, StandsAt};
 ghost use Rattle.core_worker.specs.Turning.{KeepsTurn, Did, at_entry};
 ghost use Rattle.core_worker.specs.Turns.{InOrderAt, PassesItems, PassesPost};
 
@@ -35,6 +37,14 @@ pub fn every_copy()
     ensures { (p : PlaceOf) (m : ℕ) (v : View) (w x : Worker) (victim : Chosen) (first : Bool)
         → Holds p m v w → under_way w ≡ Copying victim first → HasKeptRoom w
         → LeavesCopies victim first w x → ⊥ }
+{}
+
+/// Of the chunk that is copied a worker counts exactly what a reading of that chunk finds left, as names die and are
+/// copied.
+pub fn every_rest()
+    ensures { (s : State) (p : PlaceOf) (m : ℕ) (v : View) (w : Worker) (victim : Chosen) (first : Bool)
+        → Holds p m v w → Stands s p m v w → IsTelling s → under_way w ≡ Copying victim first
+        → victim ≡ to_copy s w.log w.standing victim.chunk }
 {}
 
 // What of a victim is left to be copied after a batch: a full one leaves the others, a smaller one leaves none.
