@@ -52,6 +52,7 @@ fn worked<B: Board + Drop>(
         piece,
         worker,
         queue,
+        pass: None,
     };
     job.work(rt, alloc, &OpenGate, &AtomicBool::new(short));
     Ok((job.queue.len() as u64, job.worker.next_answer().is_some()))

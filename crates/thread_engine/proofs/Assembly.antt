@@ -1,5 +1,5 @@
 -- A run on threads: from its supplies, the pieces of the split, what the cores gave back and the joined region to what it comes to.
-use Rattle.std.proofs.Common.{◌≡◌, ℕ, ◌+◌, ◌-◌, ◌*◌, ◌/◌, ◌<◌, Bool, true, false, List, [], ◌++◌, length, Option, Some, None, refl, sym, ◌∙◌, ap, subst, arith, append-nil, nat_lt, slice_index_or}
+use Rattle.std.proofs.Common.{◌≡◌, ℕ, ◌+◌, ◌-◌, ◌*◌, ◌/◌, ◌<◌, ◌≤◌, Bool, true, false, List, [], ◌++◌, length, Option, Some, None, refl, sym, ◌∙◌, ap, subst, arith, append-nil, nat_lt, slice_index_or}
 use Rattle.std.specs.List.{slice_get}
 use Rattle.std.proofs.lemmas.Bool.{ltb-true, lt-ltb}
 use Rattle.std.proofs.lemmas.Nat.{div-add-mod'}
@@ -28,6 +28,7 @@ use Rattle.engine_laws.specs.Origins.{Origin}
 use Rattle.engine_laws.specs.Parts.{Groups, group_of, member_of}
 use Rattle.engine_laws.proofs.Clients.{group_low, member_low, member_core}
 use Rattle.group_engine.specs.declared.run_outcome.Outcome.{Outcome}
+use Rattle.group_engine.specs.declared.types.Stamped.{Stamped}
 use Rattle.group_engine.specs.Replayed.{StandsAsFound, BeginsAt, report_in}
 use Rattle.group_engine.specs.Reports.{IsReport}
 use Rattle.thread_engine.specs.declared.muster.Returned.{Returned}
@@ -35,18 +36,18 @@ use Rattle.thread_engine.specs.declared.run_apart.Supplies.{Supplies}
 use Rattle.thread_engine.specs.CoreRuns.{HasView, LoadsLook}
 use Rattle.thread_engine.specs.Windows.{dealt_from}
 use Rattle.thread_engine.specs.Cuts.{steps_of, IsShown}
-use Rattle.thread_engine.specs.Collected.{stored_all, HaveAllPlaces, any_stopped, end_by}
+use Rattle.thread_engine.specs.Collected.{restamped, any_stopped, end_by}
 use Rattle.thread_engine.specs.RanApart.{RanApart}
 use Rattle.thread_engine.specs.Manned.{AreTokensOf, AllEnded}
-use Rattle.thread_engine.specs.Returns.{IsCrew, AllAtWork, AllWent, Went, core_stands}
+use Rattle.thread_engine.specs.Returns.{IsCrew, AllAtRest, AllWent, Went, core_stands}
 use Rattle.thread_engine.specs.Supplied.{IsSupplied, ArePartCuts}
 use Rattle.thread_engine.proofs.Blocks.{tokens_of}
 use Rattle.thread_engine.proofs.CutOrders.{shown_orders, orders_shown, orders_made}
 use Rattle.thread_engine.proofs.Doubts.{one_of}
-use Rattle.thread_engine.proofs.LastState.{CoreEnd, IsEnd, ChainLaw, OpeningKeys, OpeningDoubts, RefusalLaw, MomentLaw, CutLaw, have_places, ran}
+use Rattle.thread_engine.proofs.LastState.{CoreEnd, IsEnd, ChainLaw, OpeningKeys, OpeningDoubts, RefusalLaw, MomentLaw, CutLaw, kept_is, ran}
 use Rattle.thread_engine.proofs.Rejoining.{region_rejoined, region_superblock, next_joined}
 use Rattle.thread_engine.proofs.Places.{get_low, get_at, get_index}
-use Rattle.thread_engine.proofs.RunEnds.{shown_groups, shown_reached, shown_view, owns, first_works, core_end}
+use Rattle.thread_engine.proofs.RunEnds.{shown_groups, shown_reached, shown_view, owns, first_rest, core_end}
 use Rattle.thread_engine.proofs.Stops.{chain_frame, chain_tells}
 use Rattle.thread_engine.proofs.Supplying.{start_there, seat_there}
 
@@ -94,26 +95,27 @@ module _ {P : Type 0} (state : P → State) (refused : Bool) (s : State) (word :
       tokens = token_count ∙ sym piece_count;
       workers = worker_count ∙ sym piece_count;
       any = (let some = (numbers_of l is_layout).cores_low in let n = piece_count in omega (arith, some, n));
+      few = (let most = (numbers_of l is_layout).cores_high in let n = piece_count in omega (arith, most, n));
       some_ = (let some = (numbers_of l is_layout).group_low in let g = group_is in omega (arith, some, g));
       within = λ c low. subst (λ n. c / n < length tables) (sym group_is) (subst (λ n. c / l.group < n) (sym table_count) (group_low l is_layout c (let n = piece_count in omega (arith, low, n))));
       seats = λ c t b at_t at_b. ap (λ (y : SeatAt). y.table) (S.manned.seats (group_of l c) (member_of l c) b t (ap (λ n. slice_get tables (c / n)) (sym group_is) ∙ at_b) (member_low l is_layout c) (ap (slice_get x.crew.tokens.items) (div-add-mod' c l.group) ∙ at_t));
     }
 
-    pub all_work : AllAtWork state pieces x.crew
-    all_work c p t w at_p at_t at_w = (
+    pub all_rest : OpeningDoubts → AllAtRest state pieces x.crew
+    all_rest doubts_open c p t w at_p at_t at_w = (
       owns state refused o r is_layout given tables x.crew pieces x.cuts.items S.manned table_count S.workers.each (seat_there s word r o F B x.crew.workers.items S.seated worker_count) (start_there s word r o F B) given [] (sym (append-nil given)) piece_count piece_at cuts_are
           c (core_low c p at_p) p t w at_p at_t at_w,
-      first_works state refused o r is_layout given tables x.crew pieces x.cuts.items S.manned table_count S.workers.each (seat_there s word r o F B x.crew.workers.items S.seated worker_count) (start_there s word r o F B) given [] (sym (append-nil given)) piece_count piece_at cuts_are
-          c (core_low c p at_p) p t w at_p at_t at_w,
+      first_rest state refused o r is_layout given tables x.crew pieces x.cuts.items S.manned table_count S.workers.each (seat_there s word r o F B x.crew.workers.items S.seated worker_count) (start_there s word r o F B) given [] (sym (append-nil given)) piece_count piece_at cuts_are
+          c (core_low c p at_p) p t w at_p at_t at_w doubts_open,
     )
 
     -- what they gave back
-    module _ (back : Returned P) (in_all : Bool) (A : AllWent state refused pieces x.crew given in_all back) where
+    module _ (back : Returned P) (in_all : Bool) (first_kept : List (Option Stamped)) (A : AllWent state refused pieces x.crew given in_all back x.answers.items first_kept) where
       -- of one core
       abbrev One : ℕ → Type 0
       One c = (p : P) × (t : SeatToken) × (w : Worker) × (q : P) × (u : SeatToken) × (y : Worker)
           × (slice_get pieces c ≡ Some p) × (slice_get x.crew.tokens.items c ≡ Some t) × (slice_get x.crew.workers.items c ≡ Some w)
-          × (slice_get back.pieces.items c ≡ Some q) × (slice_get back.tokens.items c ≡ Some u) × (slice_get back.workers.items c ≡ Some y) × Went state refused p t w (dealt_from (length pieces) c 0 A.dealt) q u y
+          × (slice_get back.pieces.items c ≡ Some q) × (slice_get back.tokens.items c ≡ Some u) × (slice_get back.workers.items c ≡ Some y) × Went state refused p t w (dealt_from (length pieces) c 0 A.dealt) (slice_index_or A.outs c []) q u y
 
       one : (c : ℕ) → c < l.cores → One c
       one c low =
@@ -190,7 +192,7 @@ module _ {P : Type 0} (state : P → State) (refused : Bool) (s : State) (word :
         -- core c's end, its worker, its piece, and its steps
         abbrev Full : ℕ → CoreEnd refused → Type 0
         Full c y = IsEnd o r refused t shown given c y × (slice_get back.workers.items c ≡ Some y.last.worker) × ((q : P) × (slice_get back.pieces.items c ≡ Some q) × (state q ≡ y.last.region))
-            × (steps_of (order (group_of l c)) (member_of l c) ≡ y.last.trail.steps)
+            × (steps_of (order (group_of l c)) (member_of l c) ≡ y.last.trail.steps) × (y.outs ≡ slice_index_or A.outs c [])
 
         -- where one doesn't wind down, all were dealt
         all_there : (c : ℕ) (y : Worker) → slice_get back.workers.items c ≡ Some y → y.winds_down ≡ false → A.rest ≡ []
@@ -210,8 +212,8 @@ module _ {P : Type 0} (state : P → State) (refused : Bool) (s : State) (word :
             let loads = subst (λ (w : Group). LoadsLook (view_of w (member_of l c)) (trail_at O.4.own)) (S.manned.opened_on (group_of l c) b.0 b.1) made.1 in
             let taken : TakesPiece t (state O.3) = subst (λ (y : P). TakesPiece t (state y)) (get_index back.pieces.items c O.3 O.3 O.9) (takes c O.3 (get_low back.pieces.items c O.3 O.9)) in
             let end = core_end state refused o r is_layout given tables x.crew pieces x.cuts.items S.manned table_count S.workers.each (seat_there s word r o F B x.crew.workers.items S.seated worker_count) (start_there s word r o F B) A.dealt A.rest A.split piece_count piece_at cuts_are
-            c low O.0 O.1 O.2 O.6 O.7 O.8 t shown O.3 O.4 O.5 O.12 taken view loads (all_there c O.5 O.11) in
-            (end.0, (end.1, O.11, (O.3, O.9, refl), made.0))
+            c low O.0 O.1 O.2 O.6 O.7 O.8 t shown O.3 O.4 O.5 (slice_index_or A.outs c []) O.12 taken view loads (all_there c O.5 O.11) in
+            (end.0, (end.1, O.11, (O.3, O.9, refl), made.0, refl))
 
         chosen_by : (c : ℕ) (b : Bool) → nat_lt c l.cores ≡ b → Option (CoreEnd refused)
         chosen_by c true e = Some (ended c (ltb-true c l.cores e)).0
@@ -233,17 +235,21 @@ module _ {P : Type 0} (state : P → State) (refused : Bool) (s : State) (word :
         few : (c : ℕ) (w : Worker) → slice_get back.workers.items c ≡ Some w → c < l.cores
         few c w at = (let low = get_low back.workers.items c w at in let n = piece_count in let m = A.workers_count in omega (arith, low, n, m))
 
-        module _ (chain : ChainLaw) (keys_open : OpeningKeys) (doubts_open : OpeningDoubts) where
-          pub places : HaveAllPlaces (length x.answers.items) back.workers.items
-          places = have_places chain keys_open doubts_open o B.is is_layout r refused t shown given groups ends all back.workers.items x.answers.items (λ c low. (full c low).2.1) few S.places S.blank
+        outs_are : (c : ℕ) (low : c < l.cores) → (full c low).0.outs ≡ slice_index_or A.outs c []
+        outs_are c low = (full c low).2.4
 
+        outs_few : length A.outs ≤ l.cores
+        outs_few = (let less = A.few in let n = piece_count in omega (arith, less, n))
+
+        module _ (chain : ChainLaw) (keys_open : OpeningKeys) (doubts_open : OpeningDoubts) where
           -- what it comes to
           pub run_ran : (mid : State) → Parted s mid x.cuts.items → Joined mid t → ComesNext state mid t back.pieces.items → s.frame.parted ≡ false → mid.frame.opens ≡ s.frame.opens → mid.frame.refusals ≡ s.frame.refusals → t.frame.opens ≡ mid.frame.opens
-              → RefusalLaw → MomentLaw → CutLaw → (out : Outcome) → IsReport (stored_all back.workers.items t.stamp x.answers.items) (report_in out) → out.end ≡ end_by in_all (any_stopped back.workers.items) → RanApart s word refused r given t out
+              → RefusalLaw → MomentLaw → CutLaw → (out : Outcome) → IsReport (restamped t.stamp first_kept) (report_in out) → out.end ≡ end_by in_all (any_stopped back.workers.items) → RanApart s word refused r given t out
           run_ran mid D J N whole_is opens refusals opens' refusal moment at_cut out report end =
               ran chain keys_open doubts_open o B.is is_layout r refused t shown given groups ends all back.workers.items x.answers.items (λ c low. (full c low).2.1) few S.places S.blank
+              A.outs outs_are outs_few first_kept A.taken
               s word out B (region_rejoined s word r o F B x.cuts.items cuts_are mid t D J whole_is opens refusals opens') (λ g low. (at_group g low).2)
               (region_superblock s word r o F B x.cuts.items cuts_are mid t D J) (λ c low. (full c low).2.0.piece.piece.faults)
               (next_joined s mid t x.cuts.items D J state back.pieces.items l.cores (λ c low. (full c low).0.last.region) N (A.pieces_count ∙ piece_count)
               (λ c low q at. (let f = (full c low).2.2 in ap state (one_of q f.0 (sym at ∙ f.1)) ∙ f.2)))
-              report in_all end refusal moment at_cut order (λ c low. (full c low).2.3) order_shown (λ is c low. A.memory is c (full c low).0.last.worker (full c low).2.1) (λ is c low. A.wound is c (full c low).0.last.worker (full c low).2.1)
+              (subst (λ ys. IsReport ys (report_in out)) (kept_is chain keys_open doubts_open o B.is is_layout r refused t shown given groups ends all back.workers.items x.answers.items (λ c low. (full c low).2.1) few S.places S.blank A.outs outs_are outs_few first_kept A.taken) report) in_all end refusal moment at_cut order (λ c low. (full c low).2.3) order_shown (λ is c low. A.memory is c (full c low).0.last.worker (full c low).2.1) (λ is c low. A.wound is c (full c low).0.last.worker (full c low).2.1)

@@ -1,7 +1,6 @@
 -- The state in which a run on threads ends, made of what each core has then.
-use Rattle.std.proofs.Common.{◌≡◌, ◌≢◌, ◌⊎◌, inl, inr, ℕ, zero, suc, ◌+◌, ◌*◌, ◌≤◌, ◌<◌, ◌==◌, Bool, true, false, List, [], ◌∷◌, ◌++◌, map, length, Option, Some, None, refl, sym, ◌∙◌, ap, subst, arith, append-nil, append_assoc}
-use Rattle.std.proofs.lemmas.Bool.{cases_eq, eq-eqb, eqb-true}
-use Rattle.std.proofs.lemmas.Option.{slice_get_within}
+use Rattle.std.proofs.Common.{◌≡◌, ◌≢◌, ◌⊎◌, inl, inr, ℕ, zero, suc, ◌+◌, ◌*◌, ◌≤◌, ◌<◌, ◌==◌, Bool, true, false, List, [], ◌∷◌, ◌++◌, map, length, slice_index_or, Option, Some, None, refl, sym, ◌∙◌, ap, subst, arith, append-nil, append_assoc}
+use Rattle.std.proofs.lemmas.Bool.{eq-eqb}
 use Rattle.std.proofs.lemmas.Nat.{div-mul-add, mod-mul-add}
 use Rattle.std.specs.List.{AllByRecursion, slice_get, enumerate_from}
 use Rattle.std.proofs.lemmas.List.Elements.{filter-append}
@@ -55,14 +54,18 @@ use Rattle.core_worker.specs.Openings.{IsNew, IsStartAt}
 use Rattle.group_engine.specs.declared.types.Stamped.{Stamped}
 use Rattle.group_engine.specs.declared.run_outcome.End.TheVariants as closings
 use Rattle.group_engine.specs.declared.run_outcome.Outcome.{Outcome}
-use Rattle.group_engine.specs.Answers.{ShowsAnswer, kept_at, HavePlaces}
+use Rattle.group_engine.specs.Answers.{ShowsAnswer, kept_at, stored}
 use Rattle.group_engine.specs.Replayed.{BeginsAt, report_in}
 use Rattle.group_engine.specs.Reports.{IsReport}
 use Rattle.group_engine.proofs.Clients.{reports_by}
-use Rattle.thread_engine.specs.Collected.{AreBlank, stored_all, HaveAllPlaces, any_stopped, end_by}
-use Rattle.thread_engine.specs.RanApart.{stamped, KeepsAnswers, Rejoined, RanApart}
+use Rattle.thread_engine.specs.Collected.{AreBlank, restamped, any_stopped, end_by}
+use Rattle.thread_engine.specs.RanApart.{stamped, KeepsAnswers, TakesOnce, Rejoined, RanApart}
+use Rattle.thread_engine.specs.Takings.{TakenAs}
+use Rattle.answer_cores.specs.Passes.{all_answers}
+use Rattle.std.proofs.lemmas.List.Sorted.{IsPermutation-sym}
 use Rattle.thread_engine.proofs.Places.{any_at, any_in}
-use Rattle.thread_engine.proofs.KeptAnswers.{Lacks, Apart, given_for, fixed_for, there_kept, from_all, blank_none, apart_by_keys, all_long}
+use Rattle.thread_engine.proofs.KeptAnswers.{given_for, fixed_for, from_one, blank_none, stored_long}
+use Rattle.thread_engine.proofs.TakenKept.{taken_kept, in_order, in_one, in_all as in_all_outs, restamped_stored, blank_restamped}
 use Rattle.thread_engine.specs.Pieces.{IsPieceOf, HasPart}
 use Rattle.thread_engine.specs.WorkStates.{WorkState, IsAtWork, Works, HasEnded, joined_in, given_in}
 use Rattle.thread_engine.specs.WorkLaws.{KeepsDoubts, WorksOff, HasRested, hands_at}
@@ -82,8 +85,9 @@ pub record CoreEnd (refused : Bool) : Type 0 where
   pub first : WorkState
   pub last : WorkState
   pub works : Works seat refused first last
-  -- the requests that did not join
+  -- the requests that did not join, and the answers that its worker handed over
   pub later : List (ℕ × Request)
+  pub outs : List Answer
 
 abbrev pub no_hands : Hands
 no_hands = record { place = λ k. None; waits = λ k. []; stopped = false; stock = record { chunks = 0; lines = 0; blocks = λ class. 0 } }
@@ -141,7 +145,8 @@ pub record IsEnd (o : Origin) (r : Recovered) (refused : Bool) (t : State) (grou
   pub queue : x.first.queue ≡ []
   pub dealt : joined_in x.seat refused x.first x.last x.works ++ x.later ≡ requests_to (layout_of o.found) c given
   pub whole : x.last.worker.winds_down ≡ false → x.later ≡ []
-  pub kept : given_in x.seat refused x.first x.last x.works ≡ []
+  pub handed : given_in x.seat refused x.first x.last x.works ≡ x.outs
+  pub none : answers_of x.last.worker ≡ []
   pub at_work : IsAtWork x.seat x.first
   pub idle : x.first.trail.steps ≡ []
   pub loads : LoadsLook x.first.view x.last.trail.steps
@@ -213,16 +218,6 @@ none_past : (xs : List Request) (n : ℕ) → length xs ≤ n → slice_get xs n
 none_past [] n past = refl
 none_past (y ∷ ys) zero past = absurd (omega (arith, past))
 none_past (y ∷ ys) (suc n) past = none_past ys n (omega (arith, past))
-
--- where a worker is, and that numbers have places
-in_at : (ws : List Worker) (w : Worker) → In w ws → (c : ℕ) × (slice_get ws c ≡ Some w)
-in_at [] w i = absurd i
-in_at (v ∷ vs) w (inl e) = (0, ap Some (sym e))
-in_at (v ∷ vs) w (inr i) = (let r = in_at vs w i in (suc r.0, r.1))
-
-places_in : (n : ℕ) (outs : List Answer) → ((a : Answer) → In a outs → a.number < n) → HavePlaces n outs
-places_in n [] h = tt
-places_in n (a ∷ outs) h = (h a (inl refl), places_in n outs (λ b i. h b (inr i)))
 
 module _ (chain : ChainLaw) (keys_open : OpeningKeys) (doubts_open : OpeningDoubts) (o : Origin) (is : IsOrigin o) (is_layout : IsLayout (layout_of o.found)) (r : Recovered) (refused : Bool) (t : State) (group : ℕ → Group) (given : List Request)
     (groups : Groups (layout_of o.found) group) (ends : ℕ → Option (CoreEnd refused)) (all : (c : ℕ) → c < (layout_of o.found).cores → (x : CoreEnd refused) × (ends c ≡ Some x) × IsEnd o r refused t group given c x) where
@@ -600,57 +595,42 @@ module _ (chain : ChainLaw) (keys_open : OpeningKeys) (doubts_open : OpeningDoub
           | inr R ↦ absurd (subst (λ (ds : List Entry). In D.1 ds) (sym there ∙ (X (g * l.group + lost.0) low').shown.flying ∙ R.0) lost.2)
         ]
 
-  -- the answers that the workers gave
-  gave : (c : ℕ) (low : c < l.cores) → AreGiven (IsTelling (x c low).last.region) (fixed_of_end (x c low)) (answers_of (x c low).last.worker)
+  -- the answers that the workers gave, all of which they handed over
+  gave : (c : ℕ) (low : c < l.cores) → AreGiven (IsTelling (x c low).last.region) (fixed_of_end (x c low)) (x c low).outs
   gave c low =
       let A = (W c low).answers in
+      let outs = (x c low).outs in
       let none : answers_of (x c low).first.worker ≡ [] = (X c low).new.answers.0 in
-      let kept = ap (λ outs. outs ++ answers_of (x c low).last.worker) ((off c low).3 ∙ (X c low).kept) in
-      let same : A.more ≡ answers_of (x c low).last.worker = sym (A.added ∙ ap (λ outs. outs ++ A.more) none) ∙ kept in
-      subst (λ outs. AreGiven (IsTelling (x c low).last.region) (fixed_of_end (x c low)) outs) same (subst (λ ys. AreGiven (IsTelling (x c low).last.region) ys A.more) (off c low).1 A.given)
+      let handed = ap (λ os. os ++ answers_of (x c low).last.worker) ((off c low).3 ∙ (X c low).handed) ∙ ap (λ os. outs ++ os) (X c low).none ∙ append-nil outs in
+      let same : A.more ≡ outs = sym (A.added ∙ ap (λ os. os ++ A.more) none) ∙ handed in
+      subst (λ os. AreGiven (IsTelling (x c low).last.region) (fixed_of_end (x c low)) os) same (subst (λ ys. AreGiven (IsTelling (x c low).last.region) ys A.more) (off c low).1 A.given)
 
-  -- those of one core are apart
-  core_apart : (c : ℕ) (low : c < l.cores) → Apart (fixed_of_end (x c low))
-  core_apart c low = apart_by_keys (fixed_of_end (x c low)) (λ k. up_in k (cases_eq (owner l k) c))
-      (λ y z i j same. (let both : Some y.request ≡ Some z.request = sym (core_asked c low y i) ∙ ap (slice_get given) same ∙ core_asked c low z j in ap key_of (one_of y.request z.request both)))
-    where
-      up_in : (k : ℕ) → (owner l k ≡ c) ⊎ (owner l k ≢ c) → IsUp (map asked (fixed_of k (fixed_of_end (x c low))))
-      up_in k (inl own) = subst (λ (d : ℕ). (low' : d < l.cores) → IsUp (map asked (fixed_of k (fixed_of_end (x d low'))))) own
-          (λ low'. subst (λ (y : CoreEnd refused). IsUp (map asked (fixed_of k (fixed_of_end y)))) (same_end (owner l k) (owner_low l is_layout k) low') (up_front (map asked (fs k)) (rest k) (rising k))) low
-      up_in k (inr other) = none_up (map asked (fixed_of k (fixed_of_end (x c low)))) (λ z i. (let h = of_map asked z (fixed_of k (fixed_of_end (x c low))) i in
-          let f = in_filter (λ (f : Fixed). key_of f.request == k) (fixed_of_end (x c low)) h.0 h.1 in
-          other (ap (owner l) (sym (eqb-true (key_of h.0.request) k f.1)) ∙ (in_own c low h.0 f.0).0)))
-
-  module _ (workers : List Worker) (blanks : List (Option Stamped)) (workers_are : (c : ℕ) (low : c < l.cores) → slice_get workers c ≡ Some (x c low).last.worker) (few : (c : ℕ) (w : Worker) → slice_get workers c ≡ Some w → c < l.cores) (places_are : length blanks ≡ length given) (blank : AreBlank blanks) where
+  module _ (workers : List Worker) (blanks : List (Option Stamped)) (workers_are : (c : ℕ) (low : c < l.cores) → slice_get workers c ≡ Some (x c low).last.worker) (few : (c : ℕ) (w : Worker) → slice_get workers c ≡ Some w → c < l.cores) (places_are : length blanks ≡ length given) (blank : AreBlank blanks)
+      (outs : List (List Answer)) (outs_are : (c : ℕ) (low : c < l.cores) → (x c low).outs ≡ slice_index_or outs c []) (outs_few : length outs ≤ l.cores) (first_kept : List (Option Stamped)) (T : TakenAs 0 0 (length given) outs blanks first_kept) where
     worker_is : (c : ℕ) (v : Worker) (at_v : slice_get workers c ≡ Some v) → v ≡ (x c (few c v at_v)).last.worker
     worker_is c v at_v = one_of v (x c (few c v at_v)).last.worker (sym at_v ∙ workers_are c (few c v at_v))
 
     -- the request with an answer's number
-    answer_asked : (c : ℕ) (low : c < l.cores) (a : Answer) → In a (answers_of (x c low).last.worker) → (y : Fixed) × In y (fixed_of_end (x c low)) × IsGiven (IsTelling (x c low).last.region) y a
-    answer_asked c low a i = fixed_for (IsTelling (x c low).last.region) (fixed_of_end (x c low)) (answers_of (x c low).last.worker) (gave c low) a i
+    answer_asked : (c : ℕ) (low : c < l.cores) (a : Answer) → In a (x c low).outs → (y : Fixed) × In y (fixed_of_end (x c low)) × IsGiven (IsTelling (x c low).last.region) y a
+    answer_asked c low a i = fixed_for (IsTelling (x c low).last.region) (fixed_of_end (x c low)) (x c low).outs (gave c low) a i
 
-    pub have_places : HaveAllPlaces (length blanks) workers
-    have_places = in_all (λ (v : Worker). HavePlaces (length blanks) (answers_of v)) workers (λ v i. (let at_v = in_at workers v i in
-        subst (λ (z : Worker). HavePlaces (length blanks) (answers_of z)) (sym (worker_is at_v.0 v at_v.1)) (places_in (length blanks) (answers_of (x at_v.0 (few at_v.0 v at_v.1)).last.worker)
-        (λ a j. (let low' = few at_v.0 v at_v.1 in let f = answer_asked at_v.0 low' a j in let lt = slice_get_within given f.0.number f.0.request (core_asked at_v.0 low' f.0 f.1) in let n = f.2.number in omega (arith, lt, n, places_are))))))
-
+    -- what was taken is kept, with the last stamp
     abbrev kept : List (Option Stamped)
-    kept = stored_all workers t.stamp blanks
+    kept = stored T.taken t.stamp blanks
 
-    lacks : (c : ℕ) (low : c < l.cores) (a : Answer) → In a (answers_of (x c low).last.worker) → (d : ℕ) (v : Worker) → d ≢ c → slice_get workers d ≡ Some v → Lacks a.number (answers_of v)
-    lacks c low a i d v ne at_v b j same =
-        let low' = few d v at_v in
-        let f = answer_asked c low a i in
-        let g = answer_asked d low' b (subst (λ (z : Worker). In b (answers_of z)) (worker_is d v at_v) j) in
-        let both : Some g.0.request ≡ Some f.0.request = sym (core_asked d low' g.0 g.1) ∙ ap (slice_get given) (sym g.2.number ∙ same ∙ f.2.number) ∙ core_asked c low f.0 f.1 in
-        ne (sym (in_own d low' g.0 g.1).0 ∙ ap (λ (q : Request). owner l (key_of q)) (one_of g.0.request f.0.request both) ∙ (in_own c low f.0 f.1).0)
+    pub kept_is : restamped t.stamp first_kept ≡ kept
+    kept_is = ap (restamped t.stamp) T.kept ∙ restamped_stored T.taken 0 t.stamp blanks ∙ ap (stored T.taken t.stamp) (blank_restamped t.stamp blanks blank)
 
-    pub keeps_all : (c : ℕ) (low : c < l.cores) (a : Answer) → In a (answers_of (x c low).last.worker) → kept_at kept a.number ≡ Some (stamped t.stamp a)
-    keeps_all c low a i = there_kept (IsTelling (x c low).last.region) workers t.stamp blanks have_places c (x c low).last.worker (workers_are c low) (fixed_of_end (x c low)) (gave c low) (core_apart c low) a i (lacks c low a i)
+    pub keeps_all : (c : ℕ) (low : c < l.cores) (a : Answer) → In a (x c low).outs → kept_at kept a.number ≡ Some (stamped t.stamp a)
+    keeps_all c low a i = taken_kept T.taken t.stamp blanks T.distinct (λ b j. (let less = (T.within b j).1 in omega (arith, less, places_are))) a
+        (in_order (all_answers outs) T.taken T.all a (in_all_outs outs c a (subst (In a) (outs_are c low) i)))
 
-    pub keeps_only : (n : ℕ) (y : Stamped) → kept_at kept n ≡ Some y → (c : ℕ) × (low : c < l.cores) × (a : Answer) × In a (answers_of (x c low).last.worker) × (a.number ≡ n)
-    keeps_only n y is = elim (from_all workers t.stamp n blanks y is) [
-      | inl there ↦ (there.0, few there.0 there.1 there.2, there.3, subst (λ (z : Worker). In there.3 (answers_of z)) (worker_is there.0 there.1 there.2) there.4, there.5)
+    pub keeps_only : (n : ℕ) (y : Stamped) → kept_at kept n ≡ Some y → (c : ℕ) × (low : c < l.cores) × (a : Answer) × In a (x c low).outs × (a.number ≡ n)
+    keeps_only n y is = elim (from_one T.taken t.stamp n blanks y is) [
+      | inl there ↦ (let one = in_one outs there.0 (in_order T.taken (all_answers outs) (IsPermutation-sym _ _ T.all) there.0 there.1) in
+          let less = one.1 in
+          let low : one.0 < l.cores = omega (arith, less, outs_few) in
+          (one.0, low, there.0, subst (In there.0) (sym (outs_are one.0 low)) one.2, there.2))
       | inr none ↦ absurd (none_some y (sym none ∙ blank_none blanks n blank))
     ]
 
@@ -668,7 +648,7 @@ module _ (chain : ChainLaw) (keys_open : OpeningKeys) (doubts_open : OpeningDoub
       by (Some a) is =
           let f = fixed_is n a is in
           let y = f.2 in
-          let g = given_for (IsTelling (x f.0 f.1).last.region) (fixed_of_end (x f.0 f.1)) (answers_of (x f.0 f.1).last.worker) (gave f.0 f.1) y f.3 in
+          let g = given_for (IsTelling (x f.0 f.1).last.region) (fixed_of_end (x f.0 f.1)) (x f.0 f.1).outs (gave f.0 f.1) y f.3 in
           let at_kept = keeps_all f.0 f.1 g.0 g.1 in
           subst (λ (m : ℕ). ShowsAnswer (IsTelling t) (slice_get given m) (e.answer m) (kept_at kept m)) f.4
           (subst (λ o. ShowsAnswer (IsTelling t) o (e.answer y.number) (kept_at kept y.number)) (sym (core_asked f.0 f.1 y f.3))
@@ -680,15 +660,31 @@ module _ (chain : ChainLaw) (keys_open : OpeningKeys) (doubts_open : OpeningDoub
             cause = g.2.cause;
           }))))
 
+    gave_is : (c : ℕ) (low : c < l.cores) → given_in (x c low).seat refused (x c low).first (x c low).last (x c low).works ++ answers_of (x c low).last.worker ≡ (x c low).outs
+    gave_is c low = ap (λ os. os ++ answers_of (x c low).last.worker) (X c low).handed ∙ ap (λ os. (x c low).outs ++ os) (X c low).none ∙ append-nil (x c low).outs
+
     pub keeps : KeepsAnswers o r refused e core_run kept
     unfolding core_run
     keeps = record {
-      count = all_long workers t.stamp blanks ∙ places_are;
+      count = stored_long T.taken t.stamp blanks ∙ places_are;
       all = λ c low a i. keeps_all c low a (subst (In a) (gave_is c low) i);
       only = λ n y is. (let k = keeps_only n y is in (k.0, k.1, k.2, subst (In k.2) (sym (gave_is k.0 k.1)) k.3, k.4));
-    } where
-      gave_is : (c : ℕ) (low : c < l.cores) → given_in (x c low).seat refused (x c low).first (x c low).last (x c low).works ++ answers_of (x c low).last.worker ≡ answers_of (x c low).last.worker
-      gave_is c low = ap (λ outs. outs ++ answers_of (x c low).last.worker) (X c low).kept
+    }
+
+    -- each was taken once
+    pub once : TakesOnce o r refused e core_run kept
+    unfolding core_run
+    once = record {
+      put = outs;
+      few = outs_few;
+      gave = λ c low. gave_is c low ∙ outs_are c low;
+      taken = T.taken;
+      all = T.all;
+      distinct = T.distinct;
+      blanks = blanks;
+      blank = blank;
+      stored_are = refl;
+    }
 
     -- What the run comes to.
     module _ (s : State) (word : ℕ → ℕ) (out : Outcome) (begins : BeginsAt s word o) (rejoined : Rejoined s t) (reached : (g : ℕ) → g < groups_in l → (steps : List (ℕ × Kind)) × Runs (opened (place_at l g) o.found) steps (group g))
@@ -741,8 +737,9 @@ module _ (chain : ChainLaw) (keys_open : OpeningKeys) (doubts_open : OpeningDoub
         superblock = superblock;
         kept = kept;
         keeps = keeps;
+        once = once;
         report = report;
-        reports = reports_by t o e kept (report_in out) promised (all_long workers t.stamp blanks ∙ places_are) shows refl report;
+        reports = reports_by t o e kept (report_in out) promised (stored_long T.taken t.stamp blanks ∙ places_are) shows refl report;
         promised = promised;
         done = λ not_memory. is_done (memory (with_memory not_memory)) promised;
         ceased = λ memory. ceased;

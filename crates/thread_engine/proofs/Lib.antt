@@ -20,6 +20,13 @@ mod CutOrders
 mod LastState
 mod KeptAnswers
 mod WindowAnswers
+mod WindowJob
+mod Passing
+mod WindowNumbers
+mod WindowNew
+mod WindowSteps
+mod Takings
+mod TakenKept
 mod Places
 mod Manning
 mod Mustering

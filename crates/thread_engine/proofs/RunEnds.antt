@@ -48,7 +48,11 @@ use Rattle.thread_engine.proofs.PieceStands.{piece_member}
 use Rattle.thread_engine.proofs.Deals.{dealt-append}
 use Rattle.thread_engine.proofs.Places.{get_at, get_front, get_behind, as_elem}
 use Rattle.thread_engine.proofs.CutOrders.{idle_trail}
-use Rattle.thread_engine.proofs.LastState.{CoreEnd, IsEnd}
+use Rattle.thread_engine.proofs.LastState.{CoreEnd, IsEnd, OpeningDoubts}
+use Rattle.thread_engine.specs.WindowJobs.{IsAtRest}
+use Rattle.thread_engine.specs.WorkLaws.{KeepsDoubts}
+use Rattle.core_worker.specs.declared.types.Answer.{Answer}
+use Rattle.thread_engine.proofs.WindowNew.{new_ended}
 
 -- the groups' states as the closed tables show them, and another one behind them
 pub shown_groups : (ts : List GroupTable) (tokens : List SeatToken) → AllEnded ts tokens → Group → ℕ → Group
@@ -173,8 +177,20 @@ module _ {P : Type 0} (state : P → State) (refused : Bool) (o : Origin) (r : R
     pub first_works : IsAtWork (seat_of t.own) (core_stands state p t w [])
     first_works = record { member = first_member; own = tt }
 
+    -- it has nothing to do yet
+    pub first_rest : OpeningDoubts → IsAtRest (seat_of t.own) (core_stands state p t w [])
+    first_rest doubts_open =
+        let N = new c w (starts c low).0 w_at (starts c low).1 in
+        record {
+          work = first_works;
+          ended = new_ended (core_stands state p t w []) (starts c low).0 r.layout N refl;
+          runs = N.works;
+          doubts = subst (λ (v : View). KeepsDoubts (seat_of t.own) v) (sym (view_is ∙ (λ i. view_of (opened (sym place_is i) o.found) (sym number_is i)))) (doubts_open (seat_of t.own) o.found);
+          none = N.answers.0;
+        }
+
     -- and at the end
-    module _ (s : State) (group : ℕ → Group) (b : P) (u : SeatToken) (y : Worker) (G : Went state refused p t w (dealt_from (length pieces) c 0 dealt) b u y) (joined : TakesPiece s (state b)) (shown : HasView (group (group_of l c)) (member_of l c) (view_at u.own))
+    module _ (s : State) (group : ℕ → Group) (b : P) (u : SeatToken) (y : Worker) (outs : List Answer) (G : Went state refused p t w (dealt_from (length pieces) c 0 dealt) outs b u y) (joined : TakesPiece s (state b)) (shown : HasView (group (group_of l c)) (member_of l c) (view_at u.own))
         (loads : LoadsLook (view_of (opened (place_at l (group_of l c)) o.found) (member_of l c)) (trail_at u.own)) (whole : y.winds_down ≡ false → rest ≡ []) where
       -- the requests of its keys
       pub all_dealt : {joined : List (ℕ × Request)} → joined ≡ dealt_from (length pieces) c 0 dealt → joined ++ dealt_from l.cores c (length dealt) rest ≡ requests_to l c given
@@ -191,6 +207,7 @@ module _ {P : Type 0} (state : P → State) (refused : Bool) (o : Origin) (r : R
           last = core_stands state b u y G.left;
           works = G.works.works;
           later = dealt_from l.cores c (length dealt) rest;
+          outs = outs;
         },
         record {
           place = place_is;
@@ -204,7 +221,8 @@ module _ {P : Type 0} (state : P → State) (refused : Bool) (o : Origin) (r : R
           queue = refl;
           dealt = all_dealt G.works.joins;
           whole = λ on. ap (dealt_from l.cores c (length dealt)) (whole on);
-          kept = G.works.gives;
+          handed = G.works.gives;
+          none = G.none;
           at_work = first_works;
           idle = idle_trail t.own.seat.me.0 (manned.idle (group_of l c) (member_of l c) table.0 t table.1 (member_low l is_layout c) t_there);
           loads = subst (λ (v : View). LoadsLook v (trail_at u.own)) (sym view_is) loads;

@@ -1,10 +1,12 @@
 -- What the jobs did, by what they were made of and what they gave back.
-use Rattle.std.proofs.Common.{◌≡◌, ℕ, zero, suc, ◌<◌, List, [], ◌∷◌, ◌++◌, length, take, Bool, Some, refl, sym, ◌∙◌, ap, subst, arith, slice_index_or}
+use Rattle.std.proofs.Common.{◌≡◌, ℕ, zero, suc, ◌<◌, List, [], ◌∷◌, ◌++◌, length, take, Bool, Option, Some, refl, sym, ◌∙◌, ap, subst, arith, slice_index_or}
 use Rattle.std.specs.List.{slice_get, AllByRecursion}
 use Rattle.fs_model.specs.declared.model.Request.{Request}
 use Rattle.pm_region.specs.State.{State}
 use Rattle.group_board.specs.Seats.{SeatAt}
 use Rattle.core_worker.specs.declared.worker.Worker.{Worker}
+use Rattle.core_worker.specs.Beginning.{answers_of}
+use Rattle.group_engine.specs.declared.types.Stamped.{Stamped}
 use Rattle.atomic_board.specs.declared.member_seat.MemberSeat.{MemberSeat}
 use Rattle.atomic_board.specs.declared.token.SeatToken.{SeatToken}
 use Rattle.atomic_board.specs.declared.token.CoreSeat.{CoreSeat}
@@ -15,8 +17,9 @@ use Rattle.thread_engine.specs.declared.core_job.CoreJob.{CoreJob}
 use Rattle.thread_engine.specs.declared.muster.Crew.{Crew}
 use Rattle.thread_engine.specs.declared.muster.Returned.{Returned}
 use Rattle.thread_engine.specs.WorkStates.{IsAtWork, WorksOn, HasEnded, stands_at, Sight}
-use Rattle.thread_engine.specs.Windows.{dealt_from, OwnsKeys, AreAtWork, WentOn, WorksThrough}
-use Rattle.thread_engine.specs.Returns.{AreMade, Gave, AllAtWork, AllWent, Went, core_stands}
+use Rattle.thread_engine.specs.Windows.{dealt_from, OwnsKeys, AreAtRest, WentOn, WorksThrough}
+use Rattle.thread_engine.specs.WindowJobs.{IsAtRest}
+use Rattle.thread_engine.specs.Returns.{AreMade, Gave, AllAtRest, AllWent, Went, core_stands}
 use Rattle.thread_engine.proofs.Doubts.{one_of}
 use Rattle.thread_engine.proofs.Places.{get_low, get_index, get_there, get_map, map_get, map_long}
 
@@ -60,28 +63,29 @@ module _ {P : Type 0} (state : P → State) (pieces : List P) (crew : Crew) (job
   pieces_long : length pieces ≡ length jobs
   pieces_long = ap length (sym M.pieces_are) ∙ map_long (λ (j : Job). j.piece) jobs
 
-  -- each job's core is at work
-  pub jobs_work : AllAtWork state pieces crew → AreAtWork seat_at sight_there state jobs
-  jobs_work A = record {
+  -- each job's core is at rest
+  pub jobs_rest : AllAtRest state pieces crew → AreAtRest seat_at sight_there state jobs
+  jobs_rest A = record {
     owns = λ c d low. (let O = one c d low in subst (λ n. OwnsKeys n c (seat_at (slice_index_or jobs c d).seat)) pieces_long (subst (λ (o : MemberSeat). OwnsKeys (length pieces) c (seat_of o)) (sym O.1) O.2.0));
-    work = λ c d low. (let O = one c d low in let x = slice_index_or jobs c d in
-        subst (λ q. IsAtWork (seat_at x.seat) (record (stands_at sight_there state x) { queue = q })) (sym (none_waits c x (get_there jobs c d low)))
-        (subst (λ (o : MemberSeat). IsAtWork (seat_of o) (record { region = state x.piece; view = view_at o; trail = trail_with (trail_at o) (committed_at (done_at o)); worker = x.worker; queue = [] })) (sym O.1) O.2.1));
+    rest = λ c d low. (let O = one c d low in let x = slice_index_or jobs c d in
+        subst (λ q. IsAtRest (seat_at x.seat) (record (stands_at sight_there state x) { queue = q })) (sym (none_waits c x (get_there jobs c d low)))
+        (subst (λ (o : MemberSeat). IsAtRest (seat_of o) (record { region = state x.piece; view = view_at o; trail = trail_with (trail_at o) (committed_at (done_at o)); worker = x.worker; queue = [] })) (sym O.1) O.2.1));
   } where
-    one : (c : ℕ) (d : Job) → c < length jobs → (t : SeatToken) × ((slice_index_or jobs c d).seat.own ≡ t.own) × (OwnsKeys (length pieces) c (seat_of t.own) × IsAtWork (seat_of t.own) (core_stands state (slice_index_or jobs c d).piece t (slice_index_or jobs c d).worker []))
+    one : (c : ℕ) (d : Job) → c < length jobs → (t : SeatToken) × ((slice_index_or jobs c d).seat.own ≡ t.own) × (OwnsKeys (length pieces) c (seat_of t.own) × IsAtRest (seat_of t.own) (core_stands state (slice_index_or jobs c d).piece t (slice_index_or jobs c d).worker []))
     one c d low =
         let x = slice_index_or jobs c d in
         let at = get_there jobs c d low in
         let t = token_at c x at in
         (t.0, t.2, A c x.piece t.0 x.worker (piece_at c x at) t.1 (worker_at c x at))
 
-  module _ (refused : Bool) (given : List Request) (all : Bool) (new : List (CoreJob CoreSeat P)) (W : WorksThrough seat_at sight_there state refused given all jobs new) (r : Returned P) (G : Gave new r) where
+  module _ (refused : Bool) (given : List Request) (all : Bool) (new : List (CoreJob CoreSeat P)) (kept kept' : List (Option Stamped)) (W : WorksThrough seat_at sight_there state refused given all jobs new kept kept') (r : Returned P) (G : Gave new r) where
     one_went : (c : ℕ) (p : P) (t : SeatToken) (w : Worker) (q : P) (u : SeatToken) (y : Worker)
         → slice_get pieces c ≡ Some p → slice_get crew.tokens.items c ≡ Some t → slice_get crew.workers.items c ≡ Some w
         → slice_get r.pieces.items c ≡ Some q → slice_get r.tokens.items c ≡ Some u → slice_get r.workers.items c ≡ Some y
-        → Went state refused p t w (dealt_from (length pieces) c 0 W.dealt) q u y
+        → Went state refused p t w (dealt_from (length pieces) c 0 W.dealt) (slice_index_or W.outs c []) q u y
     one_went c p t w q u y at_p at_t at_w at_q at_u at_y =
         let more = dealt_from (length pieces) c 0 W.dealt in
+        let outs = slice_index_or W.outs c [] in
         let X = map_get (λ (j : Job). j.piece) jobs c p (ap (λ l. slice_get l c) M.pieces_are ∙ at_p) in
         let x = X.0 in
         let Z = map_get (λ (j : Job). j.piece) new c q (ap (λ l. slice_get l c) (sym G.pieces) ∙ at_q) in
@@ -95,20 +99,22 @@ module _ {P : Type 0} (state : P → State) (pieces : List P) (crew : Crew) (job
         let low : c < length jobs = get_low jobs c x X.1 in
         let first : slice_index_or jobs c x ≡ x = get_index jobs c x x X.1 in
         let last : slice_index_or new c x ≡ z = get_index new c z x Z.1 in
-        let go : WentOn seat_at sight_there state refused more x z = subst (λ (n : ℕ). WentOn seat_at sight_there state refused (dealt_from n c 0 W.dealt) x z) (sym pieces_long)
-        (subst (λ (j : Job). WentOn seat_at sight_there state refused (dealt_from (length jobs) c 0 W.dealt) x j) last (subst (λ (j : Job). WentOn seat_at sight_there state refused (dealt_from (length jobs) c 0 W.dealt) j (slice_index_or new c x)) first (W.went.each c x low))) in
+        let go : WentOn seat_at sight_there state refused more outs x z = subst (λ (n : ℕ). WentOn seat_at sight_there state refused (dealt_from n c 0 W.dealt) outs x z) (sym pieces_long)
+        (subst (λ (j : Job). WentOn seat_at sight_there state refused (dealt_from (length jobs) c 0 W.dealt) outs x j) last (subst (λ (j : Job). WentOn seat_at sight_there state refused (dealt_from (length jobs) c 0 W.dealt) outs j (slice_index_or new c x)) first (W.went.each c x low))) in
         let end : HasEnded (stands_at sight_there state z) = subst (λ (j : Job). HasEnded (stands_at sight_there state j)) last (W.ended c x (get_low new c z Z.1)) in
+        let none : answers_of z.worker ≡ [] = subst (λ (j : Job). answers_of j.worker ≡ []) last (W.none c x (get_low new c z Z.1)) in
         let begins : stands_at sight_there state x ≡ core_stands state p t w [] = (λ i. record { region = state (sym X.2 i); view = view_at (own i); trail = trail_with (trail_at (own i)) (committed_at (done_at (own i))); worker = worker i; queue = queue i }) in
         let ends : stands_at sight_there state z ≡ core_stands state q u y z.queue.items = (λ i. record { region = state (sym Z.2 i); view = view_at (own' i); trail = trail_with (trail_at (own' i)) (committed_at (done_at (own' i))); worker = worker' i; queue = z.queue.items }) in
         record {
           seat = ap seat_of (sym own') ∙ go.seat_is ∙ ap seat_of own;
           left = z.queue.items;
           work = subst (IsAtWork (seat_of t.own)) ends (subst (λ (o : MemberSeat). IsAtWork (seat_of o) (stands_at sight_there state z)) own go.work);
-          works = subst (λ b. WorksOn (seat_of t.own) refused more (core_stands state p t w []) b) ends (subst (λ a. WorksOn (seat_of t.own) refused more a (stands_at sight_there state z)) begins (subst (λ (o : MemberSeat). WorksOn (seat_of o) refused more (stands_at sight_there state x) (stands_at sight_there state z)) own go.works));
+          works = subst (λ b. WorksOn (seat_of t.own) refused more outs (core_stands state p t w []) b) ends (subst (λ a. WorksOn (seat_of t.own) refused more outs a (stands_at sight_there state z)) begins (subst (λ (o : MemberSeat). WorksOn (seat_of o) refused more outs (stands_at sight_there state x) (stands_at sight_there state z)) own go.works));
           ended = subst HasEnded ends end;
+          none = ap answers_of (sym worker') ∙ none;
         }
 
-    pub all_went : AllWent state refused pieces crew given all r
+    pub all_went : AllWent state refused pieces crew given all r kept kept'
     all_went =
         let long = W.went.count in
         record {
@@ -122,6 +128,9 @@ module _ {P : Type 0} (state : P → State) (pieces : List P) (crew : Crew) (job
           wound = λ is c y at_y.
               let Z = map_get (λ (j : Job). j.worker) new c y (ap (λ l. slice_get l c) (sym G.workers) ∙ at_y) in
               ap (λ (v : Worker). v.winds_down) Z.2 ∙ sym (ap (λ (j : Job). j.worker.winds_down) (get_index new c Z.0 Z.0 Z.1)) ∙ W.wound is c Z.0 (get_low new c Z.0 Z.1);
+          outs = W.outs;
+          few = (let few = W.went.few in let n = pieces_long in omega (arith, few, n));
+          taken = W.taken;
           pieces_count = ap length G.pieces ∙ map_long (λ (j : Job). j.piece) new ∙ long ∙ sym pieces_long;
           tokens_count = sym (map_long (λ (s : SeatToken). s.own) r.tokens.items) ∙ ap length G.seats ∙ map_long (λ (j : Job). j.seat.own) new ∙ long ∙ sym pieces_long;
           workers_count = ap length G.workers ∙ map_long (λ (j : Job). j.worker) new ∙ long ∙ sym pieces_long;

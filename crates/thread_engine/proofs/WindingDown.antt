@@ -1,12 +1,14 @@
 -- When all workers are told to wind down.
-use Rattle.std.proofs.Common.{ℕ, ◌<◌, Bool, true, List, [], length, slice_index_or, refl, sym, ◌∙◌, ap, subst, append-nil, arith}
+use Rattle.std.proofs.Common.{ℕ, ◌<◌, Bool, true, List, [], ◌++◌, length, slice_index_or, refl, sym, ◌∙◌, ap, subst, append-nil, arith}
 use Rattle.fs_model.specs.declared.model.Request.{Request}
 use Rattle.pm_region.specs.State.{State}
 use Rattle.group_board.specs.Seats.{SeatAt}
+use Rattle.core_worker.specs.declared.types.Answer.{Answer}
+use Rattle.core_worker.specs.Beginning.{answers_of}
 use Rattle.thread_engine.specs.declared.core_job.CoreJob.{CoreJob}
 use Rattle.thread_engine.specs.WorkStates.{Sight, WorkState, HasEnded, stands_at}
 use Rattle.thread_engine.specs.WorkStates.Move.{winds_down}
-use Rattle.thread_engine.specs.Windows.{dealt_from, WentOn, AllWentOn, HaveEnded, EachChanges, WindDown, Winds}
+use Rattle.thread_engine.specs.Windows.{dealt_from, WentOn, AllWentOn, HaveEnded, HaveGiven, EachChanges, WindDown, Winds}
 use Rattle.thread_engine.proofs.WorkMoves.{on_one}
 use Rattle.thread_engine.proofs.WindowWork.{went_on}
 
@@ -22,15 +24,18 @@ module _ {B P : Type 0} (seat : B → SeatAt) (sight : B → Sight) (state : P �
 
   module _ (a b : List Job) (W : EachChanges (Winds seat sight state) a b) where
     -- they do nothing else
-    pub wound_went : (refused : Bool) (n : ℕ) (xs : List Request) (first : List Job) → AllWentOn seat sight state refused n xs first a → AllWentOn seat sight state refused n xs first b
-    wound_went refused n xs first G = record {
+    pub wound_went : (refused : Bool) (n : ℕ) (xs : List Request) (outs : List (List Answer)) (first : List Job) → AllWentOn seat sight state refused n xs outs first a → AllWentOn seat sight state refused n xs outs first b
+    wound_went refused n xs outs first G = record {
       count = W.count ∙ G.count;
+      few = G.few;
       each = λ c d low. (let same = G.count in
-          subst (λ q. WentOn seat sight state refused q (slice_index_or first c d) (slice_index_or b c d)) (append-nil (dealt_from (length first) c n xs))
-          (went_on seat sight state refused (dealt_from (length first) c n xs) [] (slice_index_or first c d) (slice_index_or a c d) (slice_index_or b c d) (G.each c d low)
-          (went (slice_index_or a c d) (slice_index_or b c d) (W.each c d (omega (arith, low, same))))));
+          let out = slice_index_or outs c [] in
+          subst (λ q. WentOn seat sight state refused q out (slice_index_or first c d) (slice_index_or b c d)) (append-nil (dealt_from (length first) c n xs))
+          (subst (λ os. WentOn seat sight state refused (dealt_from (length first) c n xs ++ []) os (slice_index_or first c d) (slice_index_or b c d)) (append-nil out)
+          (went_on seat sight state refused (dealt_from (length first) c n xs) [] out [] (slice_index_or first c d) (slice_index_or a c d) (slice_index_or b c d) (G.each c d low)
+          (went (slice_index_or a c d) (slice_index_or b c d) (W.each c d (omega (arith, low, same)))))));
     } where
-      went : (x y : Job) → Winds seat sight state x y → WentOn seat sight state refused [] x y
+      went : (x y : Job) → Winds seat sight state x y → WentOn seat sight state refused [] [] x y
       went x y V = record {
         seat_is = ap (λ (j : Job). seat j.seat) V.winds;
         work = V.work;
@@ -43,6 +48,10 @@ module _ {B P : Type 0} (seat : B → SeatAt) (sight : B → Sight) (state : P �
       where
         ended : (x : Job) → HasEnded (stands x) → HasEnded (stands (wound x))
         ended x E = record { leads = E.leads; posted = E.posted; pending = λ on. absurd (cc on); queue = λ on. absurd (cc on) }
+
+    pub wound_given : HaveGiven a → HaveGiven b
+    wound_given N c d low = (let same = W.count in let low' : c < length a = omega (arith, low, same) in
+        ap (λ (y : Job). answers_of y.worker) (W.each c d low').winds ∙ N c d low')
 
     pub wound_all : WindDown b
     wound_all c d low = (let same = W.count in ap (λ (y : Job). y.worker.winds_down) (W.each c d (omega (arith, low, same))).winds)

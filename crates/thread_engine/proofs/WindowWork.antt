@@ -9,11 +9,15 @@ use Rattle.pm_region.specs.State.{State}
 use Rattle.group_laws.specs.Places.{owner}
 use Rattle.group_board.specs.Seats.{SeatAt}
 use Rattle.engine_laws.proofs.Clients.{all_append}
+use Rattle.core_worker.specs.declared.types.Answer.{Answer}
 use Rattle.thread_engine.specs.declared.core_job.CoreJob.{CoreJob}
-use Rattle.thread_engine.specs.WorkStates.{Sight, WorkState, IsAtWork, WorksOn, GoesOn, stands_at, with_more}
-use Rattle.thread_engine.specs.Windows.{dealt_from, OwnsKeys, IsDealt, AreDealt, AreAtWork, WentOn, AllWentOn}
+use Rattle.thread_engine.specs.WorkStates.{Sight, WorkState, IsAtWork, WorksOn, stands_at, with_more}
+use Rattle.thread_engine.specs.Windows.{dealt_from, OwnsKeys, IsDealt, AreAtRest, WentOn, AllWentOn}
+use Rattle.thread_engine.specs.WindowJobs.{Worked}
+use Rattle.thread_engine.specs.Takings.{both_outs}
 use Rattle.thread_engine.proofs.WorkMoves.{on_more, on_none, on_joined}
 use Rattle.thread_engine.proofs.Deals.{dealt-append}
+use Rattle.thread_engine.proofs.Takings.{both_long, outs_at}
 
 -- what a filter keeps
 kept : {X : Type 0} (P : X → Type 0) (f : X → Bool) → ((x : X) → f x ≡ true → P x) → (xs : List X) → AllByRecursion P (filter f xs)
@@ -66,58 +70,47 @@ module _ {B P : Type 0} (seat : B → SeatAt) (sight : B → Sight) (state : P �
     pub dealt_works : IsAtWork (seat y.seat) (stands y)
     dealt_works = subst (λ s. IsAtWork s (stands y)) (ap seat (sym D.seat)) (subst (IsAtWork (seat x.seat)) there joined)
 
-    pub dealt_went : (z : Job) → GoesOn seat sight state refused y z → WentOn seat sight state refused more x z
-    dealt_went z G = record {
-      seat_is = G.seat_is ∙ ap seat D.seat;
-      work = subst (λ s. IsAtWork s (stands z)) (ap seat D.seat) G.work;
-      works = subst (λ q. WorksOn (seat x.seat) refused q (stands x) (stands z)) (append-nil more)
-          (on_more (seat x.seat) refused more [] (stands x) (stands y) (stands z)
-          (subst (WorksOn (seat x.seat) refused more (stands x)) there (on_joined (seat x.seat) refused more (stands x) joined))
-          (subst (λ s. WorksOn s refused [] (stands y) (stands z)) (ap seat D.seat) G.works));
+    pub dealt_joined : WorksOn (seat x.seat) refused more [] (stands x) (stands y)
+    dealt_joined = subst (WorksOn (seat x.seat) refused more [] (stands x)) there (on_joined (seat x.seat) refused more (stands x) joined)
+
+    -- and worked them off
+    pub dealt_went : (outs : List Answer) (z : Job) → Worked seat sight state refused outs y z → WentOn seat sight state refused more outs x z
+    dealt_went outs z W = record {
+      seat_is = W.seat_is ∙ ap seat D.seat;
+      work = subst (λ s. IsAtWork s (stands z)) (ap seat D.seat) W.work;
+      works = subst (λ q. WorksOn (seat x.seat) refused q outs (stands x) (stands z)) (append-nil more)
+          (on_more (seat x.seat) refused more [] [] outs (stands x) (stands y) (stands z)
+          dealt_joined
+          (subst (λ s. WorksOn s refused [] outs (stands y) (stands z)) (ap seat D.seat) W.works));
     }
 
-  pub went_on : (xs ys : List (ℕ × Request)) (x y z : Job) → WentOn seat sight state refused xs x y → WentOn seat sight state refused ys y z → WentOn seat sight state refused (xs ++ ys) x z
-  went_on xs ys x y z G H = record {
+  pub went_on : (xs ys : List (ℕ × Request)) (os ps : List Answer) (x y z : Job) → WentOn seat sight state refused xs os x y → WentOn seat sight state refused ys ps y z → WentOn seat sight state refused (xs ++ ys) (os ++ ps) x z
+  went_on xs ys os ps x y z G H = record {
     seat_is = H.seat_is ∙ G.seat_is;
     work = subst (λ s. IsAtWork s (stands z)) G.seat_is H.work;
-    works = on_more (seat x.seat) refused xs ys (stands x) (stands y) (stands z) G.works (subst (λ s. WorksOn s refused ys (stands y) (stands z)) G.seat_is H.works);
+    works = on_more (seat x.seat) refused xs ys os ps (stands x) (stands y) (stands z) G.works (subst (λ s. WorksOn s refused ys ps (stands y) (stands z)) G.seat_is H.works);
   }
 
-  pub none_went : (n : ℕ) (jobs : List Job) → AreAtWork seat sight state jobs → AllWentOn seat sight state refused n [] jobs jobs
-  none_went n jobs A = record { count = refl; each = λ c d low. record { seat_is = refl; work = A.work c d low; works = on_none (seat (slice_index_or jobs c d).seat) refused (stands (slice_index_or jobs c d)) } }
+  pub none_went : (n : ℕ) (jobs : List Job) → AreAtRest seat sight state jobs → AllWentOn seat sight state refused n [] [] jobs jobs
+  none_went n jobs A = record { count = refl; few = omega arith; each = λ c d low. record { seat_is = refl; work = (A.rest c d low).work; works = on_none (seat (slice_index_or jobs c d).seat) refused (stands (slice_index_or jobs c d)) } }
 
-  pub more_went : (n : ℕ) (xs ys : List Request) (a b e : List Job) → AllWentOn seat sight state refused n xs a b → AllWentOn seat sight state refused (n + length xs) ys b e → AllWentOn seat sight state refused n (xs ++ ys) a e
-  more_went n xs ys a b e D E = record {
+  pub more_went : (n : ℕ) (xs ys : List Request) (os ps : List (List Answer)) (a b e : List Job) → AllWentOn seat sight state refused n xs os a b → AllWentOn seat sight state refused (n + length xs) ys ps b e → AllWentOn seat sight state refused n (xs ++ ys) (both_outs os ps) a e
+  more_went n xs ys os ps a b e D E = record {
     count = E.count ∙ D.count;
+    few = both_long (length a) os ps D.few (let same = D.count in let more = E.few in omega (arith, more, same));
     each = λ c d low.
         let same = D.count in
-        let later = subst (λ m. WentOn seat sight state refused (dealt_from m c (n + length xs) ys) (slice_index_or b c d) (slice_index_or e c d)) same (E.each c d (omega (arith, low, same))) in
-        subst (λ q. WentOn seat sight state refused q (slice_index_or a c d) (slice_index_or e c d)) (sym (dealt-append (length a) c n xs ys))
-        (went_on (dealt_from (length a) c n xs) (dealt_from (length a) c (n + length xs) ys) (slice_index_or a c d) (slice_index_or b c d) (slice_index_or e c d) (D.each c d low) later);
+        let later = subst (λ m. WentOn seat sight state refused (dealt_from m c (n + length xs) ys) (slice_index_or ps c []) (slice_index_or b c d) (slice_index_or e c d)) same (E.each c d (omega (arith, low, same))) in
+        subst (λ q. WentOn seat sight state refused q (slice_index_or (both_outs os ps) c []) (slice_index_or a c d) (slice_index_or e c d)) (sym (dealt-append (length a) c n xs ys))
+        (subst (λ out. WentOn seat sight state refused (dealt_from (length a) c n xs ++ dealt_from (length a) c (n + length xs) ys) out (slice_index_or a c d) (slice_index_or e c d)) (sym (outs_at os ps c))
+        (went_on (dealt_from (length a) c n xs) (dealt_from (length a) c (n + length xs) ys) (slice_index_or os c []) (slice_index_or ps c []) (slice_index_or a c d) (slice_index_or b c d) (slice_index_or e c d) (D.each c d low) later));
   }
 
   -- a window more
-  pub window_more : (n : ℕ) (xs ys : List Request) (a b e : List Job) → length xs ≡ n → AllWentOn seat sight state refused 0 xs a b → AllWentOn seat sight state refused n ys b e → AllWentOn seat sight state refused 0 (xs ++ ys) a e
-  window_more n xs ys a b e long D E = more_went 0 xs ys a b e D (subst (λ m. AllWentOn seat sight state refused m ys b e) (let z : n ≡ 0 + length xs = omega (arith, long) in z) E)
+  pub window_more : (n : ℕ) (xs ys : List Request) (os ps : List (List Answer)) (a b e : List Job) → length xs ≡ n → AllWentOn seat sight state refused 0 xs os a b → AllWentOn seat sight state refused n ys ps b e → AllWentOn seat sight state refused 0 (xs ++ ys) (both_outs os ps) a e
+  window_more n xs ys os ps a b e long D E = more_went 0 xs ys os ps a b e D (subst (λ m. AllWentOn seat sight state refused m ys ps b e) (let z : n ≡ 0 + length xs = omega (arith, long) in z) E)
 
   -- so far they are at work
-  pub at_work_on : (n : ℕ) (xs : List Request) (a b : List Job) → AreAtWork seat sight state a → AllWentOn seat sight state refused n xs a b → AreAtWork seat sight state b
-  at_work_on n xs a b A G = record {
-    owns = λ c d low. (let same = G.count in let low' : c < length a = omega (arith, low, same) in
-        subst (λ m. OwnsKeys m c (seat (slice_index_or b c d).seat)) (sym same) (subst (OwnsKeys (length a) c) (sym (G.each c d low').seat_is) (A.owns c d low')));
-    work = λ c d low. (let same = G.count in let low' : c < length a = omega (arith, low, same) in
-        subst (λ s. IsAtWork s (stands (slice_index_or b c d))) (sym (G.each c d low').seat_is) (G.each c d low').work);
-  }
-
-  -- Some were dealt, and all cores worked.
-  module _ (n : ℕ) (xs : List Request) (a b e : List Job) (A : AreAtWork seat sight state a) (D : AreDealt n xs a b) where
-    pub all_dealt : (c : ℕ) (d : Job) → c < length b → IsAtWork (seat (slice_index_or b c d).seat) (stands (slice_index_or b c d))
-    all_dealt c d low = (let same = D.count in let low' : c < length a = omega (arith, low, same) in
-        dealt_works (length a) c n xs (slice_index_or a c d) (slice_index_or b c d) (A.owns c d low') (A.work c d low') (D.each c d low'))
-
-    pub all_went : length e ≡ length b → ((c : ℕ) (d : Job) → c < length b → GoesOn seat sight state refused (slice_index_or b c d) (slice_index_or e c d)) → AllWentOn seat sight state refused n xs a e
-    all_went count G = record {
-      count = count ∙ D.count;
-      each = λ c d low. (let same = D.count in
-          dealt_went (length a) c n xs (slice_index_or a c d) (slice_index_or b c d) (A.owns c d low) (A.work c d low) (D.each c d low) (slice_index_or e c d) (G c d (omega (arith, low, same))));
-    }
+  pub at_work_on : (n : ℕ) (xs : List Request) (os : List (List Answer)) (a b : List Job) → AllWentOn seat sight state refused n xs os a b → (c : ℕ) (d : Job) → c < length b → IsAtWork (seat (slice_index_or b c d).seat) (stands (slice_index_or b c d))
+  at_work_on n xs os a b G c d low = (let same = G.count in let low' : c < length a = omega (arith, low, same) in
+      subst (λ s. IsAtWork s (stands (slice_index_or b c d))) (sym (G.each c d low').seat_is) (G.each c d low').work)

@@ -4,11 +4,15 @@ use Rattle.std.proofs.Math.Path.{path_j, subst_refl}
 use Rattle.fs_model.specs.declared.model.Request.{Request}
 use Rattle.pm_region.specs.State.{State}
 use Rattle.group_board.specs.Seats.{SeatAt}
+use Rattle.std.specs.Global.{Global}
+use Rattle.std.specs.declared.collections.VecDeque.{VecDeque}
+use Rattle.core_worker.specs.declared.types.Answer.{Answer}
+use Rattle.core_worker.specs.Beginning.{answers_of}
 use Rattle.core_worker.specs.declared.worker.Worker.{Worker}
 use Rattle.core_worker.specs.Supplies.{HasKeptRoom}
 use Rattle.thread_engine.specs.declared.core_job.CoreJob.{CoreJob}
-use Rattle.thread_engine.specs.WorkStates.Move.{joins}
-use Rattle.thread_engine.specs.WorkStates.{Sight, WorkState, IsAtWork, Move, Leads, Works, joined_by, given_by, joined_along, given_along, OwnMove, WorksOn, with_more, GoesOn, stands_at}
+use Rattle.thread_engine.specs.WorkStates.Move.{joins, hands_over}
+use Rattle.thread_engine.specs.WorkStates.{Sight, WorkState, IsAtWork, Move, Leads, Works, joined_by, given_by, joined_along, given_along, OwnMove, WorksOn, with_more, with_answers, GoesOn, stands_at}
 
 pub leads_more : (seat : SeatAt) (refused : Bool) (a : WorkState) (xs : List WorkState) (b : WorkState) (ys : List WorkState) (c : WorkState) → Leads seat refused a xs b → Leads seat refused b ys c → Leads seat refused a (xs ++ ys) c
 leads_more seat refused a [] b ys c e more = subst (λ z. Leads seat refused z ys c) e more
@@ -44,19 +48,19 @@ unfolding leads_more
 given_more seat refused a [] b ys c e m = given_same seat refused a b ys c e m
 given_more seat refused a (x ∷ xs) b ys c l m = ap (λ q. given_by l.0 ++ q) (given_more seat refused x xs b ys c l.2 m) ∙ sym (append_assoc (given_by l.0) (given_along seat refused x xs b l.2) (given_along seat refused b ys c m))
 
-pub on_more : (seat : SeatAt) (refused : Bool) (xs ys : List (ℕ × Request)) (a b c : WorkState) → WorksOn seat refused xs a b → WorksOn seat refused ys b c → WorksOn seat refused (xs ++ ys) a c
+pub on_more : (seat : SeatAt) (refused : Bool) (xs ys : List (ℕ × Request)) (os ps : List Answer) (a b c : WorkState) → WorksOn seat refused xs os a b → WorksOn seat refused ys ps b c → WorksOn seat refused (xs ++ ys) (os ++ ps) a c
 unfolding works_more
-on_more seat refused xs ys a b c w v = record {
+on_more seat refused xs ys os ps a b c w v = record {
   works = works_more seat refused a b c w.works v.works;
   joins = joined_more seat refused a w.works.path b v.works.path c w.works.leads v.works.leads ∙ (λ i. w.joins i ++ v.joins i);
   gives = given_more seat refused a w.works.path b v.works.path c w.works.leads v.works.leads ∙ (λ i. w.gives i ++ v.gives i);
 }
 
-pub on_none : (seat : SeatAt) (refused : Bool) (a : WorkState) → WorksOn seat refused [] a a
+pub on_none : (seat : SeatAt) (refused : Bool) (a : WorkState) → WorksOn seat refused [] [] a a
 unfolding works_none
 on_none seat refused a = record { works = works_none seat refused a; joins = refl; gives = refl }
 
-pub on_one : (seat : SeatAt) (refused : Bool) (a b : WorkState) → OwnMove seat refused a b → IsAtWork seat b → WorksOn seat refused [] a b
+pub on_one : (seat : SeatAt) (refused : Bool) (a b : WorkState) → OwnMove seat refused a b → IsAtWork seat b → WorksOn seat refused [] [] a b
 unfolding works_one
 on_one seat refused a b m at = record {
   works = works_one seat refused a b m.move at;
@@ -65,20 +69,26 @@ on_one seat refused a b m at = record {
 }
 
 -- requests join
-pub on_joined : (seat : SeatAt) (refused : Bool) (more : List (ℕ × Request)) (a : WorkState) → IsAtWork seat (with_more more a) → WorksOn seat refused more a (with_more more a)
+pub on_joined : (seat : SeatAt) (refused : Bool) (more : List (ℕ × Request)) (a : WorkState) → IsAtWork seat (with_more more a) → WorksOn seat refused more [] a (with_more more a)
 unfolding works_one
 on_joined seat refused more a at = record { works = works_one seat refused a (with_more more a) (joins more refl) at; joins = append-nil more; gives = refl }
 
+-- answers are handed over
+pub on_handed : (seat : SeatAt) (refused : Bool) (none : VecDeque Answer Global) → none.items ≡ [] → (a : WorkState) → IsAtWork seat (with_answers none a) → WorksOn seat refused [] (answers_of a.worker) a (with_answers none a)
+unfolding works_one
+on_handed seat refused none empty a at = record { works = works_one seat refused a (with_answers none a) (hands_over none empty refl) at; joins = refl; gives = append-nil (answers_of a.worker) }
+
 module _ {B P : Type 0} (seat : B → SeatAt) (view : B → Sight) (state : P → State) (refused : Bool) where
   pub none_yet : (x : CoreJob B P) → IsAtWork (seat x.seat) (stands_at view state x) → GoesOn seat view state refused x x
-  none_yet x at = record { seat_is = refl; work = at; works = on_none (seat x.seat) refused (stands_at view state x) }
+  none_yet x at = record { seat_is = refl; work = at; pass_is = refl; works = on_none (seat x.seat) refused (stands_at view state x) }
 
   -- one more stretch of it
   pub goes_more : (x y z : CoreJob B P) → GoesOn seat view state refused x y → GoesOn seat view state refused y z → GoesOn seat view state refused x z
   goes_more x y z g h = record {
     seat_is = h.seat_is ∙ g.seat_is;
     work = subst (λ t. IsAtWork t (stands_at view state z)) g.seat_is h.work;
-    works = on_more (seat x.seat) refused [] [] (stands_at view state x) (stands_at view state y) (stands_at view state z) g.works (subst (λ t. WorksOn t refused [] (stands_at view state y) (stands_at view state z)) g.seat_is h.works);
+    pass_is = h.pass_is ∙ g.pass_is;
+    works = on_more (seat x.seat) refused [] [] [] [] (stands_at view state x) (stands_at view state y) (stands_at view state z) g.works (subst (λ t. WorksOn t refused [] [] (stands_at view state y) (stands_at view state z)) g.seat_is h.works);
   }
 
 -- until it stops, the room rule is kept

@@ -1,5 +1,5 @@
 -- What a run on threads comes to.
-use Rattle.std.specs.Prelude.{◌≡◌, ◌≢◌, ℕ, ◌<◌, ◌≤◌, List, length, Bool, true, false, Option, Some}
+use Rattle.std.specs.Prelude.{◌≡◌, ◌≢◌, ℕ, ◌<◌, ◌≤◌, List, [], length, slice_index_or, Bool, true, false, Option, Some, IsPermutation}
 use Rattle.fs_model.specs.declared.model.Request.{Request}
 use Rattle.pm_region.specs.State.{State, IsTelling, cell_now, counted, Rose}
 use Rattle.pm_region.specs.Split.{TellsFrom}
@@ -11,14 +11,17 @@ use Rattle.engine_laws.specs.Parts.{HasSuperblock, AllLicensed}
 use Rattle.engine_laws.specs.Promises.{HasStopped, Promised, IsDone}
 use Rattle.engine_laws.specs.Ceasing.{HasCeased}
 use Rattle.core_worker.specs.declared.types.Answer.{Answer}
+use Rattle.answer_queue.specs.Accounts.{numbers, AreDistinct}
+use Rattle.answer_cores.specs.Passes.{all_answers}
 use Rattle.group_engine.specs.declared.types.Stamped.{Stamped}
 use Rattle.group_engine.specs.declared.run_outcome.End.TheVariants as ends
 use Rattle.group_engine.specs.declared.run_outcome.Outcome.{Outcome}
-use Rattle.group_engine.specs.Answers.{kept_at}
+use Rattle.group_engine.specs.Answers.{kept_at, stored}
 use Rattle.group_engine.specs.Replayed.{BeginsAt, report_in}
 use Rattle.group_engine.specs.Reports.{IsReport, ReportsOn}
 use Rattle.thread_engine.specs.CoreRuns.{CoreRun, AllRan, gave_at}
 use Rattle.thread_engine.specs.Cuts.{HoldsInside}
+use Rattle.thread_engine.specs.Collected.{AreBlank}
 
 -- A region was split and joined, and between that only its pieces were used.
 pub record Rejoined (old new : State) : Type 0 where
@@ -50,6 +53,20 @@ pub record KeepsAnswers (o : Origin) (r : Recovered) (refused : Bool) (e : Engin
   pub only : (n : ℕ) (y : Stamped) → kept_at kept n ≡ Some y → (c : ℕ) × (low : c < e.layout.cores)
       × (a : Answer) × In a (gave_at (cores c low)) × (a.number ≡ n)
 
+-- The answers that the workers gave were put into their windows' queues and taken out, each once and no other, and are kept by number with the region's last stamp. No two have the same number.
+pub record TakesOnce (o : Origin) (r : Recovered) (refused : Bool) (e : Engine)
+    (cores : (c : ℕ) → c < e.layout.cores → CoreRun o r refused e c)
+    (kept : List (Option Stamped)) : Type 0 where
+  pub put : List (List Answer)
+  pub few : length put ≤ e.layout.cores
+  pub gave : (c : ℕ) (low : c < e.layout.cores) → gave_at (cores c low) ≡ slice_index_or put c []
+  pub taken : List Answer
+  pub all : IsPermutation (all_answers put) taken
+  pub distinct : AreDistinct (numbers taken)
+  pub blanks : List (Option Stamped)
+  pub blank : AreBlank blanks
+  pub stored_are : kept ≡ stored taken e.region.stamp blanks
+
 -- A run of requests on a region, one worker for each core and each in a thread of its own, led from the region's state and words to its state t, and this is the outcome. `refused` says whether the gate may hold posts back.
 pub record RanApart (s : State) (word : ℕ → ℕ) (refused : Bool) (r : Recovered) (asked : List Request)
     (t : State) (x : Outcome) : Type 0 where
@@ -74,6 +91,7 @@ pub record RanApart (s : State) (word : ℕ → ℕ) (refused : Bool) (r : Recov
   -- the outcome is made of what the workers answered
   pub kept : List (Option Stamped)
   pub keeps : KeepsAnswers origin r refused last ran.cores kept
+  pub once : TakesOnce origin r refused last ran.cores kept
   pub report : IsReport kept (report_in x)
   pub reports : ReportsOn t origin last (report_in x)
   -- whatever the end, the promises hold; the region tells its last moment alone

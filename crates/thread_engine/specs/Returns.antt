@@ -1,9 +1,13 @@
 -- What the cores of a run begin with, and what they give back.
-use Rattle.std.specs.Prelude.{◌≡◌, ℕ, ◌/◌, ◌<◌, ◌≤◌, List, [], ◌++◌, map, length, Bool, true, false, Some, vec_capacity}
+use Rattle.std.specs.Prelude.{◌≡◌, ℕ, ◌/◌, ◌<◌, ◌≤◌, List, [], ◌++◌, map, length, slice_index_or, Bool, true, false, Option, Some, vec_capacity}
 use Rattle.std.specs.List.{slice_get, AllByRecursion}
 use Rattle.fs_model.specs.declared.model.Request.{Request}
 use Rattle.pm_region.specs.State.{State}
+use Rattle.core_worker.specs.declared.types.Answer.{Answer}
 use Rattle.core_worker.specs.declared.worker.Worker.{Worker}
+use Rattle.core_worker.specs.Beginning.{answers_of}
+use Rattle.answer_queue.specs.declared.window_sizes.TheConstants.{PARTS}
+use Rattle.group_engine.specs.declared.types.Stamped.{Stamped}
 use Rattle.atomic_board.specs.declared.group_table.GroupTable.{GroupTable}
 use Rattle.atomic_board.specs.declared.token.SeatToken.{SeatToken}
 use Rattle.atomic_board.specs.declared.token.CoreSeat.{CoreSeat}
@@ -15,6 +19,8 @@ use Rattle.thread_engine.specs.declared.core_job.CoreJob.{CoreJob}
 use Rattle.thread_engine.specs.declared.muster.Crew.{Crew}
 use Rattle.thread_engine.specs.declared.muster.Returned.{Returned}
 use Rattle.thread_engine.specs.WorkStates.{WorkState, IsAtWork, WorksOn, HasEnded}
+use Rattle.thread_engine.specs.WindowJobs.{IsAtRest}
+use Rattle.thread_engine.specs.Takings.{TakenAs}
 use Rattle.thread_engine.specs.Windows.{dealt_from, OwnsKeys}
 
 -- A token and a worker for each of so many cores; each token is of a seat at the core's table.
@@ -22,6 +28,8 @@ pub record IsCrew (tables : List GroupTable) (group count : ℕ) (x : Crew) : Ty
   pub tokens : length x.tokens.items ≡ count
   pub workers : length x.workers.items ≡ count
   pub any : 0 < count
+  -- each may have a part of the right to know what all put
+  pub few : count < PARTS
   pub some_ : 0 < group
   pub within : (c : ℕ) → c < count → c / group < length tables
   pub seats : (c : ℕ) (t : SeatToken) (b : GroupTable) → slice_get x.tokens.items c ≡ Some t
@@ -58,27 +66,30 @@ core_stands state p t w q = record {
   queue = q;
 }
 
--- each core is at work, at the seat that owns its keys
-abbrev pub AllAtWork : {P : Type 0} → (P → State) → List P → Crew → Type 0
-AllAtWork {P} state pieces x = (c : ℕ) (p : P) (t : SeatToken) (w : Worker)
+-- each core is at rest, at the seat that owns its keys
+abbrev pub AllAtRest : {P : Type 0} → (P → State) → List P → Crew → Type 0
+AllAtRest {P} state pieces x = (c : ℕ) (p : P) (t : SeatToken) (w : Worker)
     → slice_get pieces c ≡ Some p → slice_get x.tokens.items c ≡ Some t
     → slice_get x.workers.items c ≡ Some w
     → OwnsKeys (length pieces) c (seat_of t.own)
-    × IsAtWork (seat_of t.own) (core_stands state p t w [])
+    × IsAtRest (seat_of t.own) (core_stands state p t w [])
 
--- These requests joined, and a core worked to its end.
+-- These requests joined, a core worked to its end, and it handed these answers over.
 pub record Went {P : Type 0} (state : P → State) (refused : Bool) (p : P) (t : SeatToken)
-    (w : Worker) (more : List (ℕ × Request)) (q : P) (u : SeatToken) (x : Worker) : Type 0 where
+    (w : Worker) (more : List (ℕ × Request)) (outs : List Answer) (q : P) (u : SeatToken)
+    (x : Worker) : Type 0 where
   pub seat : seat_of u.own ≡ seat_of t.own
   pub left : List (ℕ × Request)
   pub work : IsAtWork (seat_of t.own) (core_stands state q u x left)
-  pub works : WorksOn (seat_of t.own) refused more (core_stands state p t w [])
+  pub works : WorksOn (seat_of t.own) refused more outs (core_stands state p t w [])
       (core_stands state q u x left)
   pub ended : HasEnded (core_stands state q u x left)
+  pub none : answers_of x ≡ []
 
--- All did, and gave back what they have. The first of a run's requests were dealt to the owners of their keys; where there was memory, all of them, and else every worker winds down.
+-- All did, and gave back what they have. The first of a run's requests were dealt to the owners of their keys; where there was memory, all of them, and else every worker winds down. All answers were handed over and taken, each once and no other, and are kept by number.
 pub record AllWent {P : Type 0} (state : P → State) (refused : Bool) (pieces : List P) (crew : Crew)
-    (given : List Request) (all : Bool) (x : Returned P) : Type 0 where
+    (given : List Request) (all : Bool) (x : Returned P)
+    (kept kept' : List (Option Stamped)) : Type 0 where
   pub dealt : List Request
   pub rest : List Request
   pub split : given ≡ dealt ++ rest
@@ -87,6 +98,9 @@ pub record AllWent {P : Type 0} (state : P → State) (refused : Bool) (pieces :
       → y.winds_down ≡ false
   pub wound : all ≡ false → (c : ℕ) (y : Worker) → slice_get x.workers.items c ≡ Some y
       → y.winds_down ≡ true
+  pub outs : List (List Answer)
+  pub few : length outs ≤ length pieces
+  pub taken : TakenAs 0 0 (length given) outs kept kept'
   pub pieces_count : length x.pieces.items ≡ length pieces
   pub tokens_count : length x.tokens.items ≡ length pieces
   pub workers_count : length x.workers.items ≡ length pieces
@@ -95,4 +109,5 @@ pub record AllWent {P : Type 0} (state : P → State) (refused : Bool) (pieces :
       → slice_get crew.workers.items c ≡ Some w
       → slice_get x.pieces.items c ≡ Some q → slice_get x.tokens.items c ≡ Some u
       → slice_get x.workers.items c ≡ Some y
-      → Went state refused p t w (dealt_from (length pieces) c 0 dealt) q u y
+      → Went state refused p t w (dealt_from (length pieces) c 0 dealt) (slice_index_or outs c [])
+      q u y

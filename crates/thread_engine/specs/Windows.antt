@@ -1,5 +1,5 @@
 -- The requests of a run, dealt window by window to the cores that own their keys, and worked off.
-use Rattle.std.specs.Prelude.{◌≡◌, ℕ, ◌+◌, ◌%◌, ◌<◌, ◌==◌, List, [], ◌++◌, length, filter, slice_index_or, Bool, true, false}
+use Rattle.std.specs.Prelude.{◌≡◌, ℕ, ◌+◌, ◌%◌, ◌<◌, ◌≤◌, ◌==◌, List, [], ◌++◌, length, filter, slice_index_or, Bool, true, false, Option}
 use Rattle.std.specs.List.{enumerate_from}
 use Rattle.fs_model.specs.declared.model.Request.{Request}
 use Rattle.fs_model.specs.Cells.{key_of}
@@ -7,7 +7,12 @@ use Rattle.pm_region.specs.State.{State}
 use Rattle.group_laws.specs.Places.{owner}
 use Rattle.group_board.specs.Seats.{SeatAt}
 use Rattle.thread_engine.specs.declared.core_job.CoreJob.{CoreJob}
+use Rattle.core_worker.specs.declared.types.Answer.{Answer}
+use Rattle.core_worker.specs.Beginning.{answers_of}
+use Rattle.group_engine.specs.declared.types.Stamped.{Stamped}
 use Rattle.thread_engine.specs.WorkStates.{Sight, IsAtWork, WorksOn, HasEnded, stands_at}
+use Rattle.thread_engine.specs.WindowJobs.{IsAtRest}
+use Rattle.thread_engine.specs.Takings.{TakenAs}
 
 -- of some requests, which are numbered from n, those for one of so many cores
 abbrev pub dealt_from : ℕ → ℕ → ℕ → List Request → List (ℕ × Request)
@@ -32,12 +37,13 @@ pub record AreDealt {B P : Type 0} (n : ℕ) (xs : List Request)
   pub each : (c : ℕ) (d : CoreJob B P) → c < length old
       → IsDealt (dealt_from (length old) c n xs) (slice_index_or old c d) (slice_index_or new c d)
 
--- The first of the requests that were to come were dealt, numbered from n.
-pub record DealsSome {B P : Type 0} (n : ℕ) (left : List Request)
+-- The first of the requests that were to come were dealt, numbered from n, and none from number m on.
+pub record DealsSome {B P : Type 0} (n m : ℕ) (left : List Request)
     (old new : List (CoreJob B P)) : Type 0 where
   pub dealt : List Request
   pub rest : List Request
   pub split : left ≡ dealt ++ rest
+  pub within : n + length dealt ≤ m
   pub deals : AreDealt n dealt old new
 
 -- The requests before number m were, and the others are still to come.
@@ -52,35 +58,43 @@ pub record DealsTo {B P : Type 0} (n m : ℕ) (left more : List Request)
 abbrev pub OwnsKeys : ℕ → ℕ → SeatAt → Type 0
 OwnsKeys cores c seat = (k : ℕ) → (k % cores) ≡ c → owner seat.place k ≡ seat.number
 
--- each job is one of its core, which is at work
-pub record AreAtWork {B P : Type 0} (seat : B → SeatAt) (sight : B → Sight) (state : P → State)
+-- each job is one of its core, which is at rest
+pub record AreAtRest {B P : Type 0} (seat : B → SeatAt) (sight : B → Sight) (state : P → State)
     (jobs : List (CoreJob B P)) : Type 0 where
   pub owns : (c : ℕ) (d : CoreJob B P) → c < length jobs
       → OwnsKeys (length jobs) c (seat (slice_index_or jobs c d).seat)
-  pub work : (c : ℕ) (d : CoreJob B P) → c < length jobs
-      → IsAtWork (seat (slice_index_or jobs c d).seat)
+  pub rest : (c : ℕ) (d : CoreJob B P) → c < length jobs
+      → IsAtRest (seat (slice_index_or jobs c d).seat)
       (stands_at sight state (slice_index_or jobs c d))
 
--- A job so far: these requests joined, and its core is at work.
+-- A job so far: these requests joined, these answers were handed over, and its core is at work.
 pub record WentOn {B P : Type 0} (seat : B → SeatAt) (sight : B → Sight) (state : P → State)
-    (refused : Bool) (more : List (ℕ × Request)) (old new : CoreJob B P) : Type 0 where
+    (refused : Bool) (more : List (ℕ × Request)) (outs : List Answer)
+    (old new : CoreJob B P) : Type 0 where
   pub seat_is : seat new.seat ≡ seat old.seat
   pub work : IsAtWork (seat old.seat) (stands_at sight state new)
-  pub works : WorksOn (seat old.seat) refused more (stands_at sight state old)
+  pub works : WorksOn (seat old.seat) refused more outs (stands_at sight state old)
       (stands_at sight state new)
 
--- All jobs so far: each was dealt the requests of its core's keys among these, which are numbered from n.
+-- All jobs so far: each was dealt the requests of its core's keys among these, which are numbered from n, and handed its answers over.
 pub record AllWentOn {B P : Type 0} (seat : B → SeatAt) (sight : B → Sight) (state : P → State)
-    (refused : Bool) (n : ℕ) (xs : List Request) (old new : List (CoreJob B P)) : Type 0 where
+    (refused : Bool) (n : ℕ) (xs : List Request) (outs : List (List Answer))
+    (old new : List (CoreJob B P)) : Type 0 where
   pub count : length new ≡ length old
+  pub few : length outs ≤ length old
   pub each : (c : ℕ) (d : CoreJob B P) → c < length old
-      → WentOn seat sight state refused (dealt_from (length old) c n xs)
+      → WentOn seat sight state refused (dealt_from (length old) c n xs) (slice_index_or outs c [])
       (slice_index_or old c d) (slice_index_or new c d)
 
 -- all cores have ended
 abbrev pub HaveEnded : {B P : Type 0} → (B → Sight) → (P → State) → List (CoreJob B P) → Type 0
 HaveEnded {B} {P} sight state jobs = (c : ℕ) (d : CoreJob B P) → c < length jobs
     → HasEnded (stands_at sight state (slice_index_or jobs c d))
+
+-- no worker has an answer left
+abbrev pub HaveGiven : {B P : Type 0} → List (CoreJob B P) → Type 0
+HaveGiven {B} {P} jobs = (c : ℕ) (d : CoreJob B P) → c < length jobs
+    → answers_of (slice_index_or jobs c d).worker ≡ []
 
 -- no worker winds down
 abbrev pub HaveMemory : {B P : Type 0} → List (CoreJob B P) → Type 0
@@ -98,35 +112,43 @@ pub record Winds {B P : Type 0} (seat : B → SeatAt) (sight : B → Sight) (sta
   pub winds : new ≡ record old { worker = record old.worker { winds_down = true } }
   pub work : IsAtWork (seat old.seat) (stands_at sight state new)
 
--- The first of the requests that were to come were dealt, numbered from n, and worked off to the cores' ends.
+-- The first of the requests that were to come were dealt, numbered from n, and worked off to the cores' ends. All answers were handed over and taken, and are kept by number, each of a number below m.
 pub record WorksOffSome {B P : Type 0} (seat : B → SeatAt) (sight : B → Sight) (state : P → State)
-    (refused : Bool) (n : ℕ) (left : List Request) (old new : List (CoreJob B P)) : Type 0 where
+    (refused : Bool) (n m : ℕ) (left : List Request) (old new : List (CoreJob B P))
+    (kept kept' : List (Option Stamped)) : Type 0 where
   pub dealt : List Request
   pub rest : List Request
   pub split : left ≡ dealt ++ rest
-  pub went : AllWentOn seat sight state refused n dealt old new
+  pub outs : List (List Answer)
+  pub went : AllWentOn seat sight state refused n dealt outs old new
   pub ended : HaveEnded sight state new
+  pub none : HaveGiven new
+  pub taken : TakenAs 0 n m outs kept kept'
 
 -- Those before number m were, with memory, and the others are still to come.
 pub record WorksOffTo {B P : Type 0} (seat : B → SeatAt) (sight : B → Sight) (state : P → State)
-    (refused : Bool) (n m : ℕ) (left more : List Request)
-    (old new : List (CoreJob B P)) : Type 0 where
+    (refused : Bool) (n m : ℕ) (left more : List Request) (old new : List (CoreJob B P))
+    (kept kept' : List (Option Stamped)) : Type 0 where
   pub dealt : List Request
   pub split : left ≡ dealt ++ more
   pub end : n + length dealt ≡ m
-  pub went : AllWentOn seat sight state refused n dealt old new
-  pub ended : HaveEnded sight state new
-  pub memory : HaveMemory new
+  pub outs : List (List Answer)
+  pub went : AllWentOn seat sight state refused n dealt outs old new
+  pub rest : AreAtRest seat sight state new
+  pub taken : TakenAs 0 n m outs kept kept'
 
--- The first of a run's requests were dealt and worked off to the cores' ends; where there was memory, all of them, and else every worker winds down.
+-- The first of a run's requests were dealt and worked off to the cores' ends; where there was memory, all of them, and else every worker winds down. All answers were handed over and taken, each once and no other, and are kept by number.
 pub record WorksThrough {B P : Type 0} (seat : B → SeatAt) (sight : B → Sight) (state : P → State)
-    (refused : Bool) (given : List Request) (all : Bool)
-    (old new : List (CoreJob B P)) : Type 0 where
+    (refused : Bool) (given : List Request) (all : Bool) (old new : List (CoreJob B P))
+    (kept kept' : List (Option Stamped)) : Type 0 where
   pub dealt : List Request
   pub rest : List Request
   pub split : given ≡ dealt ++ rest
-  pub went : AllWentOn seat sight state refused 0 dealt old new
+  pub outs : List (List Answer)
+  pub went : AllWentOn seat sight state refused 0 dealt outs old new
   pub ended : HaveEnded sight state new
+  pub none : HaveGiven new
+  pub taken : TakenAs 0 0 (length given) outs kept kept'
   pub whole : all ≡ true → rest ≡ []
   pub memory : all ≡ true → HaveMemory new
   pub wound : all ≡ false → WindDown new

@@ -167,12 +167,12 @@ pub record OwnMove (seat : SeatAt) (refused : Bool) (a b : WorkState) : Type 0 w
   pub joins : joined_by move ≡ []
   pub gives : given_by move ≡ []
 
--- A chain in which these requests joined, and no answer was handed over.
+-- A chain in which these requests joined, and these answers were handed over.
 pub record WorksOn (seat : SeatAt) (refused : Bool) (more : List (ℕ × Request))
-    (a b : WorkState) : Type 0 where
+    (outs : List Answer) (a b : WorkState) : Type 0 where
   pub works : Works seat refused a b
   pub joins : joined_in seat refused a b works ≡ more
-  pub gives : given_in seat refused a b works ≡ []
+  pub gives : given_in seat refused a b works ≡ outs
 
 -- It leads nothing, and nothing of it is posted. Until it winds down each request that it was given is answered.
 pub record HasEnded (x : WorkState) : Type 0 where
@@ -186,5 +186,6 @@ pub record GoesOn {B P : Type 0} (seat : B → SeatAt) (sight : B → Sight) (st
     (refused : Bool) (old new : CoreJob B P) : Type 0 where
   pub seat_is : seat new.seat ≡ seat old.seat
   pub work : IsAtWork (seat old.seat) (stands_at sight state new)
-  pub works : WorksOn (seat old.seat) refused [] (stands_at sight state old)
+  pub pass_is : new.pass ≡ old.pass
+  pub works : WorksOn (seat old.seat) refused [] [] (stands_at sight state old)
       (stands_at sight state new)

@@ -1,32 +1,34 @@
-// What a run on threads comes to, by what its workers answered.
+// What a run on threads comes to, by the answers that were kept.
 ghost use Rattle.std.specs.Prelude.{◌≡◌, ℕ, ◌<◌, ◌≤◌, length, true, false, Some, map, IfOk};
 ghost use Rattle.std.specs.List.{slice_get, AllByRecursion};
 ghost use Rattle.core_worker.specs.declared.worker.Worker.{Worker};
 ghost use Rattle.group_engine.specs.Replayed.{report_in};
 ghost use Rattle.group_engine.specs.Reports.{IsReport, IsBlank, HasRoomFor};
-ghost use Rattle.thread_engine.specs.Collected.{AreBlank, HaveAllPlaces, stored_all, end_by, any_stopped};
+ghost use Rattle.thread_engine.specs.Collected.{AreBlank, with_stamp, restamped, end_by, any_stopped};
 
 use core_worker::Worker;
 use fs_errors::Memory;
-use group_engine::engine_step::collect;
 use group_engine::run_outcome::{End, Outcome};
 use group_engine::run_report::{Report, report_on};
 use group_engine::types::Stamped;
 use std::alloc::Global;
 
-// Keeps the answers of all workers.
-fn keep_all(
-    workers: Vec<Worker>,
-    mut kept: Vec<Option<Stamped>>,
-    stamp: u64,
-) -> Vec<Option<Stamped>>
-    requires { HaveAllPlaces (length kept.items) workers.items }
-    ensures { result.items ≡ stored_all workers.items stamp kept.items }
+// Sets the stamp of an answer that is kept.
+fn set_stamp(place: &mut Option<Stamped>, stamp: u64)
+    ensures { place.new ≡ with_stamp stamp place.old }
 {
-    for mut worker in workers {
-        collect(&mut worker, &mut kept, stamp);
+    if let Some(answer) = place {
+        answer.stamp = stamp;
     }
-    kept
+}
+
+// Sets the stamps of all.
+fn set_stamps(kept: &mut Vec<Option<Stamped>>, stamp: u64)
+    ensures { kept.new.items ≡ restamped stamp kept.old.items }
+{
+    for number in 0..kept.len() {
+        set_stamp(&mut kept[number], stamp);
+    }
 }
 
 // Whether a worker has stopped.
@@ -61,23 +63,22 @@ pub fn blank_answers(alloc: Global, count: usize) -> Result<Vec<Option<Stamped>>
     Ok(answers)
 }
 
-/// The outcome by the answers of all workers, each with this stamp, where there was memory for all or not. `kept` has a
+/// The outcome by the answers that were kept, each with this stamp, where there was memory for all or not. `kept` has a
 /// place for each request, and the report on them has room. It takes no memory.
 pub fn outcome_of(
     workers: Vec<Worker>,
-    kept: Vec<Option<Stamped>>,
+    mut kept: Vec<Option<Stamped>>,
     report: Report,
     stamp: u64,
     all: bool,
 ) -> Outcome
-    requires places { HaveAllPlaces (length kept.items) workers.items }
     requires blank { IsBlank report }
     requires room { HasRoomFor (length kept.items) report }
-    ensures report { IsReport (stored_all workers.items stamp kept.items) (report_in result) }
+    ensures report { IsReport (restamped stamp kept.items) (report_in result) }
     ensures end { result.end ≡ end_by all (any_stopped workers.items) }
 {
     let end = end_of(all, has_stopped(&workers));
-    let kept = keep_all(workers, kept, stamp);
+    set_stamps(&mut kept, stamp);
     let report = report_on(kept, report);
     Outcome {
         replies: report.replies,

@@ -4,8 +4,13 @@ ghost use Rattle.std.specs.VecDeque.{deque_len, deque_capacity};
 ghost use Rattle.fs_model.specs.Cells.{key_of};
 ghost use Rattle.group_laws.specs.Places.{owner};
 ghost use Rattle.thread_engine.specs.declared.core_job.CoreJob as data_of;
+ghost use Rattle.answer_cores.specs.Handing.{HandsOver};
+ghost use Rattle.thread_engine.specs.WindowJobs.{IsReady, MayHandOver, HandedOver, WorksWindow};
 ghost use Rattle.thread_engine.specs.WorkStates.{IsAtWork, Accepts, MakesTurn, OwnMove, WorksOn, GoesOn, HasEnded, takes, sight_by, stands_at, with_next};
 
+use crate::work_rules;
+use answer_cores::hand_over;
+use answer_queue::{AnswerPass, AnswerQueue};
 use core_worker::{Gate, Turn, Worker};
 use fs_errors::Memory;
 use fs_model::Request;
@@ -30,6 +35,8 @@ pub struct CoreJob<B, P> {
     pub worker: Worker,
     /// The next one in front.
     pub queue: VecDeque<(u64, Request)>,
+    /// Of the window's queue of answers, while the core works in a window.
+    pub pass: Option<AnswerPass>,
 }
 
 // Whether a worker is handed a request.
@@ -57,6 +64,7 @@ impl<B: Board, P: Region> CoreJob<B, P> {
         requires open { takes self.old.worker ≡ true }
         requires room { deque_len self.old.queue < deque_capacity self.old.queue }
         ensures seat { B.seat self.new.seat ≡ B.seat self.old.seat }
+        ensures pass { self.new.pass ≡ self.old.pass }
         ensures work { IsAtWork (B.seat self.old.seat)
             (stands_at (sight_by B.view B.trail B.at) P.state self.new) }
         ensures accepts { Accepts (B.seat self.old.seat)
@@ -77,6 +85,7 @@ impl<B: Board, P: Region> CoreJob<B, P> {
         requires { IsAtWork (B.seat self.old.seat)
             (stands_at (sight_by B.view B.trail B.at) P.state self.old) }
         ensures seat { B.seat self.new.seat ≡ B.seat self.old.seat }
+        ensures pass { self.new.pass ≡ self.old.pass }
         ensures work { IsAtWork (B.seat self.old.seat)
             (stands_at (sight_by B.view B.trail B.at) P.state self.new) }
         ensures queue { self.new.queue ≡ self.old.queue }
@@ -94,6 +103,7 @@ impl<B: Board, P: Region> CoreJob<B, P> {
         requires { IsAtWork (B.seat self.old.seat)
             (stands_at (sight_by B.view B.trail B.at) P.state self.old) }
         ensures seat { B.seat self.new.seat ≡ B.seat self.old.seat }
+        ensures pass { self.new.pass ≡ self.old.pass }
         ensures work { IsAtWork (B.seat self.old.seat)
             (stands_at (sight_by B.view B.trail B.at) P.state self.new) }
         ensures moves { OwnMove (B.seat self.old.seat) (G.may_refuse gate.now)
@@ -116,9 +126,10 @@ impl<B: Board, P: Region> CoreJob<B, P> {
         ensures winds { self.new
             ≡ record self.old { worker = record self.old.worker { winds_down = true } } }
         ensures seat { self.new.seat ≡ self.old.seat }
+        ensures pass { self.new.pass ≡ self.old.pass }
         ensures work { IsAtWork (B.seat self.old.seat)
             (stands_at (sight_by B.view B.trail B.at) P.state self.new) }
-        ensures works { (refused : Bool) → WorksOn (B.seat self.old.seat) refused []
+        ensures works { (refused : Bool) → WorksOn (B.seat self.old.seat) refused [] []
             (stands_at (sight_by B.view B.trail B.at) P.state self.old)
             (stands_at (sight_by B.view B.trail B.at) P.state self.new) }
     {
@@ -130,9 +141,10 @@ impl<B: Board, P: Region> CoreJob<B, P> {
         requires { IsAtWork (B.seat self.old.seat)
             (stands_at (sight_by B.view B.trail B.at) P.state self.old) }
         ensures seat { self.new.seat ≡ self.old.seat }
+        ensures pass { self.new.pass ≡ self.old.pass }
         ensures work { IsAtWork (B.seat self.old.seat)
             (stands_at (sight_by B.view B.trail B.at) P.state self.new) }
-        ensures works { (refused : Bool) → WorksOn (B.seat self.old.seat) refused []
+        ensures works { (refused : Bool) → WorksOn (B.seat self.old.seat) refused [] []
             (stands_at (sight_by B.view B.trail B.at) P.state self.old)
             (stands_at (sight_by B.view B.trail B.at) P.state self.new) }
     {
@@ -146,9 +158,10 @@ impl<B: Board, P: Region> CoreJob<B, P> {
         requires { IsAtWork (B.seat self.old.seat)
             (stands_at (sight_by B.view B.trail B.at) P.state self.old) }
         ensures seat { B.seat self.new.seat ≡ B.seat self.old.seat }
+        ensures pass { self.new.pass ≡ self.old.pass }
         ensures work { IsAtWork (B.seat self.old.seat)
             (stands_at (sight_by B.view B.trail B.at) P.state self.new) }
-        ensures works { WorksOn (B.seat self.old.seat) (G.may_refuse gate.now) []
+        ensures works { WorksOn (B.seat self.old.seat) (G.may_refuse gate.now) [] []
             (stands_at (sight_by B.view B.trail B.at) P.state self.old)
             (stands_at (sight_by B.view B.trail B.at) P.state self.new) }
     {
@@ -182,6 +195,38 @@ impl<B: Board, P: Region> CoreJob<B, P> {
         !Worker::leading(&self.worker)
             && !self.worker.has_posted()
             && (self.worker.winding_down() || (!self.worker.pending() && self.queue.is_empty()))
+    }
+
+    // Hands the worker's answers over.
+    fn give_answers(&mut self, rt: &impl Wait, answers: &AnswerQueue)
+        requires { MayHandOver answers.now self.old }
+        ensures rest { self.new
+            ≡ record self.old { worker = self.new.worker; pass = self.new.pass } }
+        ensures worker { HandsOver self.old.worker self.new.worker }
+        ensures put { HandedOver answers.now self.old self.new }
+    {
+        let Some(pass) = &mut self.pass else {
+            unreachable!()
+        };
+        hand_over(rt, answers, pass, &mut self.worker);
+    }
+
+    /// Works the requests of a window off, and hands the answers over.
+    pub fn work_window<G: Gate>(
+        &mut self,
+        rt: &impl Wait,
+        alloc: Global,
+        gate: &G,
+        short: &AtomicBool,
+        answers: &AnswerQueue,
+    )
+        requires { IsReady B.seat (sight_by B.view B.trail B.at) P.state answers.now self.old }
+        ensures { WorksWindow B.seat (sight_by B.view B.trail B.at) P.state (G.may_refuse gate.now)
+            answers.now self.old self.new }
+    {
+        work_rules::every_chain();
+        self.work(rt, alloc, gate, short);
+        self.give_answers(rt, answers);
     }
 
     /// Works the requests off, until all are answered and the worker leads nothing. It waits for nobody: where there is

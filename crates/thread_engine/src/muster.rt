@@ -1,6 +1,6 @@
 // The jobs of all cores are made, done, and taken apart again.
 ghost use Rattle.std.specs.Prelude.{◌≡◌, ◌≤◌, [], length, vec_capacity, IfOk};
-ghost use Rattle.thread_engine.specs.Returns.{IsCrew, HasRoomOf, Gave, AreMade, AllAtWork, AllWent};
+ghost use Rattle.thread_engine.specs.Returns.{IsCrew, HasRoomOf, Gave, AreMade, AllAtRest, AllWent};
 
 use crate::core_job::CoreJob;
 use crate::requests::Requests;
@@ -8,6 +8,7 @@ use crate::windows::work_windows;
 use atomic_board::{CoreSeat, GroupTable, SeatToken};
 use core_worker::{Gate, Worker};
 use fs_errors::Memory;
+use group_engine::types::Stamped;
 use pm_region::Region;
 use std::alloc::Global;
 use std::collections::VecDeque;
@@ -30,7 +31,7 @@ pub struct Returned<P> {
     pub pieces: Vec<P>,
     /// For closing the tables.
     pub tokens: Vec<SeatToken>,
-    /// With the answers that they fixed.
+    /// They have handed over the answers that they fixed.
     pub workers: Vec<Worker>,
 }
 
@@ -80,6 +81,7 @@ fn make_jobs<'a, P: Region + Drop>(
             piece,
             worker,
             queue: VecDeque::new(alloc),
+            pass: None,
         });
     }
     jobs
@@ -99,6 +101,7 @@ fn dismiss<P: Region + Drop>(
             piece,
             worker,
             queue: _,
+            pass: _,
         } = job;
         room.pieces.push_reserved(piece);
         room.tokens.push_reserved(seat.leave());
@@ -107,8 +110,9 @@ fn dismiss<P: Region + Drop>(
     room
 }
 
-/// Lets all cores work on their pieces, each in a thread of its own, until all requests are answered, window by window.
-/// Gives back what they have then, and whether there was memory for all of it.
+/// Lets all cores work on their pieces, each in a thread of its own, until all requests are answered, window by window,
+/// and keeps the answers by their numbers. Gives back what the cores have then, and whether there was memory for all of
+/// it.
 pub fn work_apart<
     'a,
     T: Threads + Wait + Sync,
@@ -126,15 +130,17 @@ pub fn work_apart<
     room: Returned<P>,
     requests: &mut Q,
     gate: &G,
+    kept: &mut Vec<Option<Stamped>>,
 ) -> (Returned<P>, bool)
     requires crew { IsCrew tables.now.items group (length pieces.items) crew }
-    requires work { AllAtWork P.state pieces.items crew }
+    requires rest { AllAtRest P.state pieces.items crew }
+    requires places { length (Q.left requests.old) ≡ length kept.old.items }
     requires room { (jobs.items ≡ []) × (length pieces.items ≤ vec_capacity jobs)
         × HasRoomOf (length pieces.items) room }
     ensures { AllWent P.state (G.may_refuse gate.now) pieces.items crew (Q.left requests.old)
-        result.1 result.0 }
+        result.1 result.0 kept.old.items kept.new.items }
 {
     let mut jobs = make_jobs(alloc, tables, group, pieces, crew, jobs);
-    let all = work_windows(rt, alloc, requests, &mut jobs, gate);
+    let all = work_windows(rt, alloc, requests, &mut jobs, gate, kept);
     (dismiss(jobs, room), all)
 }

@@ -125,7 +125,7 @@ fn run_supplied<T: Threads + Wait + Sync, R: SplitRegion + ReadRegion, G: Gate +
         layout,
         tables,
         crew,
-        answers,
+        mut answers,
         report,
         hands,
         cuts,
@@ -150,6 +150,7 @@ fn run_supplied<T: Threads + Wait + Sync, R: SplitRegion + ReadRegion, G: Gate +
         room,
         requests,
         gate,
+        &mut answers,
     );
     close_tables(tables, layout.group, back.tokens, hands);
     region.join(back.pieces);

@@ -1,18 +1,20 @@
 // The requests of a run, dealt window by window to the cores that own their keys, and worked off.
 ghost use Rattle.std.specs.Prelude.{◌≡◌, ℕ, ◌+◌, ◌<◌, ◌≤◌, ◌∷◌, [], length, slice_index_or, true, OnOk, OnErr};
 ghost use Rattle.std.specs.List.{list_any};
+ghost use Rattle.answer_queue.specs.declared.window_sizes.TheConstants.{PARTS};
 ghost use Rattle.thread_engine.specs.declared.core_job.CoreJob as data_of;
 ghost use Rattle.thread_engine.specs.WorkStates.{IsAtWork, sight_by, stands_at};
-ghost use Rattle.thread_engine.specs.Windows.{AreDealt, DealsSome, DealsTo, AreAtWork, EachChanges, Winds, WorksOffSome, WorksOffTo, WorksThrough};
+ghost use Rattle.thread_engine.specs.Windows.{AreDealt, DealsSome, DealsTo, AreAtRest, EachChanges, Winds, WorksOffSome, WorksOffTo, WorksThrough};
 
 use crate::core_job::CoreJob;
-use crate::crew::work_all;
+use crate::desk::{Desk, keep_taken, work_at_desk};
 use crate::requests::Requests;
 use core_worker::Gate;
 use fs_errors::Memory;
 use fs_model::Request;
 use group_board::Board;
 use group_engine::backlog::append;
+use group_engine::types::Stamped;
 use pm_region::Region;
 use std::alloc::Global;
 use std::sync::Wait;
@@ -43,7 +45,7 @@ fn deal_window<B, P, Q: Requests>(
     requires some { 0 < length jobs.old }
     requires order { from ≤ to }
     requires within { to ≤ from + length (Q.left requests.old) }
-    ensures some_ { DealsSome from (Q.left requests.old) jobs.old jobs.new }
+    ensures some_ { DealsSome from to (Q.left requests.old) jobs.old jobs.new }
     ensures all { OnOk result (DealsTo from to (Q.left requests.old) (Q.left requests.new)
         jobs.old jobs.new) }
 {
@@ -76,8 +78,8 @@ fn wind_all_down<B: Board, P: Region>(jobs: &mut [CoreJob<B, P>])
     }
 }
 
-// Deals the requests of a window, which are those before number `to`, and lets all cores work them off. Answers whether
-// there was memory for all.
+// Deals the requests of a window, which are those before number `to`, lets all cores work them off, and keeps the
+// answers by number. Answers whether there was memory for all.
 fn work_window<
     T: Threads + Wait + Sync,
     B: Board + Send,
@@ -90,22 +92,30 @@ fn work_window<
     requests: &mut Q,
     jobs: &mut [CoreJob<B, P>],
     gate: &G,
+    kept: &mut Vec<Option<Stamped>>,
     from: u64,
     to: u64,
 ) -> bool
     requires some { 0 < length jobs.old }
-    requires work { AreAtWork B.seat (sight_by B.view B.trail B.at) P.state jobs.old }
+    requires parts { length jobs.old < PARTS }
+    requires rest { AreAtRest B.seat (sight_by B.view B.trail B.at) P.state jobs.old }
     requires order { from ≤ to }
     requires few { to ≤ from + WINDOW }
     requires within { to ≤ from + length (Q.left requests.old) }
+    requires places { to ≤ length kept.old.items }
     ensures some_ { WorksOffSome B.seat (sight_by B.view B.trail B.at) P.state
-        (G.may_refuse gate.now) from (Q.left requests.old) jobs.old jobs.new }
+        (G.may_refuse gate.now) from to (Q.left requests.old) jobs.old jobs.new
+        kept.old.items kept.new.items }
     ensures all { result ≡ true → WorksOffTo B.seat (sight_by B.view B.trail B.at) P.state
         (G.may_refuse gate.now) from to (Q.left requests.old) (Q.left requests.new)
-        jobs.old jobs.new }
+        jobs.old jobs.new kept.old.items kept.new.items }
 {
+    let Ok(desk) = Desk::open(alloc, from, to) else {
+        return false;
+    };
     let dealt = deal_window(alloc, requests, jobs, from, to).is_ok();
-    work_all(rt, alloc, jobs, gate, !dealt);
+    let taken = work_at_desk(rt, alloc, jobs, gate, !dealt, desk);
+    keep_taken(taken, kept);
     dealt && !is_short(jobs)
 }
 
@@ -124,25 +134,35 @@ fn window_end(from: u64, count: u64) -> u64
     }
 }
 
-/// Lets all cores work the requests off, window by window. Answers whether there was memory for all of them. Where
-/// there was not, what was posted or taken is finished, nothing more is begun, and every worker winds down.
+/// Lets all cores work the requests off, window by window, and keeps the answers by their numbers. Answers whether
+/// there was memory for all of them. Where there was not, what was posted or taken is finished, nothing more is begun,
+/// and every worker winds down.
 pub fn work_windows<
     T: Threads + Wait + Sync,
     B: Board + Send,
     P: Region + Send,
     G: Gate + Sync,
     Q: Requests,
->(rt: &T, alloc: Global, requests: &mut Q, jobs: &mut [CoreJob<B, P>], gate: &G) -> bool
+>(
+    rt: &T,
+    alloc: Global,
+    requests: &mut Q,
+    jobs: &mut [CoreJob<B, P>],
+    gate: &G,
+    kept: &mut Vec<Option<Stamped>>,
+) -> bool
     requires some { 0 < length jobs.old }
-    requires work { AreAtWork B.seat (sight_by B.view B.trail B.at) P.state jobs.old }
+    requires parts { length jobs.old < PARTS }
+    requires rest { AreAtRest B.seat (sight_by B.view B.trail B.at) P.state jobs.old }
+    requires places { length (Q.left requests.old) ≡ length kept.old.items }
     ensures { WorksThrough B.seat (sight_by B.view B.trail B.at) P.state (G.may_refuse gate.now)
-        (Q.left requests.old) result jobs.old jobs.new }
+        (Q.left requests.old) result jobs.old jobs.new kept.old.items kept.new.items }
 {
     let count = requests.count() as u64;
     let mut from = 0;
     for _ in rt.forever() {
         let to = window_end(from, count);
-        if !work_window(rt, alloc, requests, jobs, gate, from, to) {
+        if !work_window(rt, alloc, requests, jobs, gate, kept, from, to) {
             wind_all_down(jobs);
             return false;
         }

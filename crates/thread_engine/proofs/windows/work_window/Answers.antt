@@ -1,43 +1,121 @@
-use Rattle.std.proofs.Common.{◌≡◌, length, sym, ◌∙◌, arith}
-use Rattle.thread_engine.proofs.WindowWork.{all_dealt, all_went, none_any, ok_then, not_so}
+use Rattle.std.proofs.Common.{◌-◌, [], length, refl, sym, ◌∙◌, subst, arith}
+use Rattle.answer_queue.specs.Accounts.{AreAmong}
+use Rattle.answer_cores.specs.Passes.{all_numbers}
 use Rattle.thread_engine.specs.WorkStates.{sight_by}
+use Rattle.thread_engine.specs.WindowJobs.{waiting_for}
+use Rattle.thread_engine.proofs.Takings.{nothing_taken}
+use Rattle.thread_engine.proofs.WindowNumbers.{row_among}
+use Rattle.thread_engine.proofs.WindowWork.{none_went, none_any, ok_then, not_so}
+use Rattle.thread_engine.proofs.WindowSteps.{all_awaits, all_waiting, all_went, all_ended, all_given, all_rest, all_taken, all_places}
 use Rattle.thread_engine.proofs.windows.work_window.Goals as goal
 
-pub work_all-requires-after_bounds : goal.work_all-requires-after_bounds
-work_all-requires-after_bounds g c κs within =
+pub work_at_desk-taken-requires-clause-awaits : goal.work_at_desk-taken-requires-clause-awaits
+work_at_desk-taken-requires-clause-awaits g c κs within =
     let D = c.deal_window.ensures.some_ in
-    all_dealt g.B.Board.seat (sight_by g.B.Board.view g.B.Board.trail g.B.Board.at) g.P.Region.state (g.G.Gate.may_refuse c.args.gate.now) c.args.from D.dealt c.args.jobs.now c.deal_window.new.jobs c.deal_window.new.jobs c.requires.work D.deals
+    all_awaits g.B.Board.seat (sight_by g.B.Board.view g.B.Board.trail g.B.Board.at) g.P.Region.state (g.G.Gate.may_refuse c.args.gate.now) c.in-Ok.desk.queue c.args.from D.dealt c.args.jobs.now c.deal_window.new.jobs c.requires.rest D.deals
+
+pub work_at_desk-taken-requires-clause-parts : goal.work_at_desk-taken-requires-clause-parts
+work_at_desk-taken-requires-clause-parts g c =
+    let same = c.deal_window.ensures.some_.deals.count in
+    let few = c.requires.parts in
+    omega (arith, same, few)
+
+pub work_at_desk-taken-requires-clause-may : goal.work_at_desk-taken-requires-clause-may
+work_at_desk-taken-requires-clause-may g c κs within =
+    let D = c.deal_window.ensures.some_ in
+    subst (AreAmong (all_numbers (waiting_for c.deal_window.new.jobs))) (sym c.in-Ok.ensures.may) (λ n.
+    let waits = all_waiting g.B.Board.seat (sight_by g.B.Board.view g.B.Board.trail g.B.Board.at) g.P.Region.state (g.G.Gate.may_refuse c.args.gate.now) c.in-Ok.desk.queue c.args.from D.dealt c.args.jobs.now c.deal_window.new.jobs c.requires.rest D.deals n in
+    let less = D.within in
+    let row = row_among c.args.from (length D.dealt) (c.args.to - c.args.from) (omega (arith, less)) n in
+    omega (arith, waits, row))
+
+pub keep_taken-requires : goal.keep_taken-requires
+keep_taken-requires g c =
+    let D = c.deal_window.ensures.some_ in
+    all_places g.B.Board.seat (sight_by g.B.Board.view g.B.Board.trail g.B.Board.at) g.P.Region.state (g.G.Gate.may_refuse c.args.gate.now) c.in-Ok.desk.queue c.args.from D.dealt c.args.jobs.now c.deal_window.new.jobs c.requires.rest D.deals
+    c.work_at_desk-taken.new.jobs c.work_at_desk-taken.result.items c.work_at_desk-taken.ensures c.args.to D.within (length c.args.kept.now.items) c.requires.places
 
 pub returns-then-dealt-clause-some_ : goal.returns-then-dealt-clause-some_
 returns-then-dealt-clause-some_ g c =
+    let seat = g.B.Board.seat in
+    let sight = sight_by g.B.Board.view g.B.Board.trail g.B.Board.at in
+    let state = g.P.Region.state in
+    let refused = g.G.Gate.may_refuse c.args.gate.now in
+    let q = c.in-Ok.desk.queue in
     let D = c.deal_window.ensures.some_ in
-    let long : length c.work_all.new.jobs ≡ length c.deal_window.new.jobs = c.work_all.auto.jobs in record {
+    let a = c.args.jobs.now in
+    let b = c.deal_window.new.jobs in
+    let e = c.work_at_desk-taken.new.jobs in
+    let taken = c.work_at_desk-taken.result.items in
+    let W = c.work_at_desk-taken.ensures in
+    record {
       dealt = D.dealt;
       rest = D.rest;
       split = D.split;
-      went = all_went g.B.Board.seat (sight_by g.B.Board.view g.B.Board.trail g.B.Board.at) g.P.Region.state (g.G.Gate.may_refuse c.args.gate.now) c.args.from D.dealt c.args.jobs.now c.deal_window.new.jobs c.work_all.new.jobs c.requires.work D.deals long c.work_all.ensures.worked;
-      ended = λ i d low. c.work_all.ensures.ended i d (omega (arith, low, long));
+      outs = W.outs;
+      went = all_went seat sight state refused q c.args.from D.dealt a b c.requires.rest D.deals e taken W;
+      ended = all_ended seat sight state refused q c.args.from D.dealt a b c.requires.rest D.deals e taken W;
+      none = all_given seat sight state refused q c.args.from D.dealt a b c.requires.rest D.deals e taken W;
+      taken = all_taken seat sight state refused q c.args.from D.dealt a b c.requires.rest D.deals e taken W c.args.to D.within c.args.kept.now.items c.keep_taken.new.kept.items c.keep_taken.ensures;
     }
 
 pub returns-then-dealt-clause-all : goal.returns-then-dealt-clause-all
 returns-then-dealt-clause-all g c calm =
+    let seat = g.B.Board.seat in
+    let sight = sight_by g.B.Board.view g.B.Board.trail g.B.Board.at in
+    let state = g.P.Region.state in
+    let refused = g.G.Gate.may_refuse c.args.gate.now in
+    let q = c.in-Ok.desk.queue in
     let D = ok_then c.deal_window.result _ (sym c.if-dealt.true ∙ c.is_ok-dealt.ensures.value) c.deal_window.ensures.all in
-    let long : length c.work_all.new.jobs ≡ length c.deal_window.new.jobs = c.work_all.auto.jobs in record {
+    let a = c.args.jobs.now in
+    let b = c.deal_window.new.jobs in
+    let e = c.work_at_desk-taken.new.jobs in
+    let taken = c.work_at_desk-taken.result.items in
+    let W = c.work_at_desk-taken.ensures in
+    let end = D.end in
+    record {
       dealt = D.dealt;
       split = D.split;
       end = D.end;
-      went = all_went g.B.Board.seat (sight_by g.B.Board.view g.B.Board.trail g.B.Board.at) g.P.Region.state (g.G.Gate.may_refuse c.args.gate.now) c.args.from D.dealt c.args.jobs.now c.deal_window.new.jobs c.work_all.new.jobs c.requires.work D.deals long c.work_all.ensures.worked;
-      ended = λ i d low. c.work_all.ensures.ended i d (omega (arith, low, long));
-      memory = λ i d low. none_any _ c.work_all.new.jobs (sym c.is_short.ensures ∙ not_so c.is_short.result calm) i d low;
+      outs = W.outs;
+      went = all_went seat sight state refused q c.args.from D.dealt a b c.requires.rest D.deals e taken W;
+      rest = all_rest seat sight state refused q c.args.from D.dealt a b c.requires.rest D.deals e taken W
+          (λ i d low. none_any _ e (sym c.is_short.ensures ∙ not_so c.is_short.result calm) i d low);
+      taken = all_taken seat sight state refused q c.args.from D.dealt a b c.requires.rest D.deals e taken W c.args.to (omega (arith, end)) c.args.kept.now.items c.keep_taken.new.kept.items c.keep_taken.ensures;
     }
 
 pub returns-else-dealt-clause-some_ : goal.returns-else-dealt-clause-some_
 returns-else-dealt-clause-some_ g c =
+    let seat = g.B.Board.seat in
+    let sight = sight_by g.B.Board.view g.B.Board.trail g.B.Board.at in
+    let state = g.P.Region.state in
+    let refused = g.G.Gate.may_refuse c.args.gate.now in
+    let q = c.in-Ok.desk.queue in
     let D = c.deal_window.ensures.some_ in
-    let long : length c.work_all.new.jobs ≡ length c.deal_window.new.jobs = c.work_all.auto.jobs in record {
+    let a = c.args.jobs.now in
+    let b = c.deal_window.new.jobs in
+    let e = c.work_at_desk-taken.new.jobs in
+    let taken = c.work_at_desk-taken.result.items in
+    let W = c.work_at_desk-taken.ensures in
+    record {
       dealt = D.dealt;
       rest = D.rest;
       split = D.split;
-      went = all_went g.B.Board.seat (sight_by g.B.Board.view g.B.Board.trail g.B.Board.at) g.P.Region.state (g.G.Gate.may_refuse c.args.gate.now) c.args.from D.dealt c.args.jobs.now c.deal_window.new.jobs c.work_all.new.jobs c.requires.work D.deals long c.work_all.ensures.worked;
-      ended = λ i d low. c.work_all.ensures.ended i d (omega (arith, low, long));
+      outs = W.outs;
+      went = all_went seat sight state refused q c.args.from D.dealt a b c.requires.rest D.deals e taken W;
+      ended = all_ended seat sight state refused q c.args.from D.dealt a b c.requires.rest D.deals e taken W;
+      none = all_given seat sight state refused q c.args.from D.dealt a b c.requires.rest D.deals e taken W;
+      taken = all_taken seat sight state refused q c.args.from D.dealt a b c.requires.rest D.deals e taken W c.args.to D.within c.args.kept.now.items c.keep_taken.new.kept.items c.keep_taken.ensures;
     }
+
+pub returns-in_default-clause-some_ : goal.returns-in_default-clause-some_
+returns-in_default-clause-some_ g c = record {
+  dealt = [];
+  rest = g.Q.Requests.left c.args.requests.now;
+  split = refl;
+  outs = [];
+  went = none_went g.B.Board.seat (sight_by g.B.Board.view g.B.Board.trail g.B.Board.at) g.P.Region.state (g.G.Gate.may_refuse c.args.gate.now) c.args.from c.args.jobs.now c.requires.rest;
+  ended = λ i d low. (c.requires.rest.rest i d low).ended;
+  none = λ i d low. (c.requires.rest.rest i d low).none;
+  taken = nothing_taken 0 c.args.from c.args.to c.args.kept.now.items;
+}

@@ -1,6 +1,8 @@
 use Rattle.std.proofs.Common.{◌≡◌, ◌+◌, List, ◌++◌, length}
 use Rattle.fs_model.specs.declared.model.Request.{Request}
-use Rattle.thread_engine.specs.Windows.{AllWentOn}
+use Rattle.core_worker.specs.declared.types.Answer.{Answer}
+use Rattle.thread_engine.specs.Takings.{TakenAs}
+use Rattle.thread_engine.specs.Windows.{AreAtRest, AllWentOn}
 use Rattle.thread_engine.specs.WorkStates.{sight_by}
 use Rattle.thread_engine.proofs.windows.work_windows.Given as goal
 
@@ -9,8 +11,13 @@ invariant-loop g l = (goal.iterator-loop g).can_next l.iterator'
     × (goal.iterator-loop g).is_finite l.iterator'
     × record {
       dealt : List Request;
+      outs : List (List Answer);
       split : g.Q.Requests.left l.fn.requests ≡ dealt ++ g.Q.Requests.left l.requests;
       number : length dealt ≡ l.from;
       count : l.from + length (g.Q.Requests.left l.requests) ≡ l.count;
-      went : AllWentOn g.B.Board.seat (sight_by g.B.Board.view g.B.Board.trail g.B.Board.at) g.P.Region.state (g.G.Gate.may_refuse l.gate) 0 dealt l.fn.jobs l.jobs;
+      all : l.count ≡ length (g.Q.Requests.left l.fn.requests);
+      places : length l.kept.items ≡ l.count;
+      went : AllWentOn g.B.Board.seat (sight_by g.B.Board.view g.B.Board.trail g.B.Board.at) g.P.Region.state (g.G.Gate.may_refuse l.gate) 0 dealt outs l.fn.jobs l.jobs;
+      rest : AreAtRest g.B.Board.seat (sight_by g.B.Board.view g.B.Board.trail g.B.Board.at) g.P.Region.state l.jobs;
+      taken : TakenAs 0 0 l.from outs l.fn.kept.items l.kept.items;
     }

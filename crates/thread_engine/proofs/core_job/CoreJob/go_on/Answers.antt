@@ -17,5 +17,5 @@ returns-in-Err-clause-works g c =
     let a = stands_at (sight_by g.B.Board.view g.B.Board.trail g.B.Board.at) g.P.Region.state c.args.self.now in
     let b = stands_at (sight_by g.B.Board.view g.B.Board.trail g.B.Board.at) g.P.Region.state c.step.new.self in
     let d = stands_at (sight_by g.B.Board.view g.B.Board.trail g.B.Board.at) g.P.Region.state c.wind_down.new.self in
-    on_more seat refused [] [] a b d (on_one seat refused a b c.step.ensures.moves c.step.ensures.work)
-    (subst (λ z. WorksOn z refused [] b d) c.step.ensures.seat (c.wind_down.ensures.works refused))
+    on_more seat refused [] [] [] [] a b d (on_one seat refused a b c.step.ensures.moves c.step.ensures.work)
+    (subst (λ z. WorksOn z refused [] [] b d) c.step.ensures.seat (c.wind_down.ensures.works refused))

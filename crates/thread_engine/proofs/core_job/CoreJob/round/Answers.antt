@@ -15,5 +15,5 @@ returns g c first so_far =
     let new = c.go_on.new.self in
     let here = ap seat c.heed.ensures.seat in
     goes_more seat view state refused first mid new
-    (goes_more seat view state refused first old mid so_far (record { seat_is = here; work = c.heed.ensures.work; works = c.heed.ensures.works refused }))
-    (record { seat_is = c.go_on.ensures.seat; work = c.go_on.ensures.work; works = c.go_on.ensures.works })
+    (goes_more seat view state refused first old mid so_far (record { seat_is = here; pass_is = c.heed.ensures.pass; work = c.heed.ensures.work; works = c.heed.ensures.works refused }))
+    (record { seat_is = c.go_on.ensures.seat; pass_is = c.go_on.ensures.pass; work = c.go_on.ensures.work; works = c.go_on.ensures.works })
