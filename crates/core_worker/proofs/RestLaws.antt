@@ -26,18 +26,18 @@ module _ (s : State) (p : Place) (m : ℕ) (v : View) (w : Worker) (H : Holds p 
       let R = raw p m v w H victim first way in
       let is : victim ≡ no_more_than (Some T.tally.left) R.victim = R.lowered ∙ ap (λ (o : Option TallyState). no_more_than (option_map (λ (t : TallyState). t.left) o) R.victim) T.is in
       let entries : victim.entries ≡ length (left_to_copy w.standing (entries_in s w.log victim.chunk)) =
-            let at = ap (λ (x : Victim). x.entries) is in
-            let few = min-le_right R.victim.entries T.tally.left.entries in
-            let all = C.bounds.entries in
-            let same = T.of.entries in
-            omega (arith, at, few, all, same)
+      let at = ap (λ (x : Victim). x.entries) is in
+      let few = min-le_right R.victim.entries T.tally.left.entries in
+      let all = C.bounds.entries in
+      let same = T.of.entries in
+      omega (arith, at, few, all, same)
       in
       let words : victim.words ≡ words_sum (left_to_copy w.standing (entries_in s w.log victim.chunk)) =
-            let at = ap (λ (x : Victim). x.words) is in
-            let few = min-le_right R.victim.words T.tally.left.words in
-            let all = C.bounds.words in
-            let same = T.of.words in
-            omega (arith, at, few, all, same)
+      let at = ap (λ (x : Victim). x.words) is in
+      let few = min-le_right R.victim.words T.tally.left.words in
+      let all = C.bounds.words in
+      let same = T.of.words in
+      omega (arith, at, few, all, same)
       in
       (λ i. record { chunk = victim.chunk; entries = entries i; words = words i })
     where
