@@ -4,7 +4,8 @@ docs/FORMAT.md describes it, by `plain_reader.py`; it shares no code with the pr
 The requests of one key go in order, whatever the cores do. So each reply is that of the map, or a refusal that has its cause:
 
 - `too long`: exactly where the value has more bytes than a block takes;
-- `versions spent`: exactly where the key's last change before the put has the last version that a put may have;
+- `versions spent`: exactly where the key's last change before the put has the last version that a put may have; where that
+  change was a delete, the put may also be stored, since a deleted key is forgotten once no log has an entry of it;
 - `full`: only where the part of the key's owner has so few free chunks that the trace may need them all;
 - `stopped`: only of a core that may stop, and then for every later request of the key.
 
@@ -123,6 +124,8 @@ class PlainMap:
         if request.key in self.stopped:
             return "an earlier request of the key was stopped"
         cause = self.cause_of(request, room)
+        if cause == b"versions spent" and reply == b"stored" and request.key not in self.cells:
+            cause, self.versions[request.key] = None, 0
         if reply == (cause or b"full") and (cause or self.may_be_full(request, room)):
             self.refused[reply] += 1
             return None

@@ -32,6 +32,12 @@ pub counted : (a : _) (c : Cleaning) (st now : StandingState) (es : List (ℕ ×
 unfolding clears_left
 counted a c st now es out same = omega (arith, same)
 
+-- and by how many wait, and not by which
+pub same_left : (a : _) (c : Cleaning) (st now : StandingState) (es : List (ℕ × slots.Place)) (out after : List ToSend) → length now.entries ≡ length st.entries → box_left after ≡ box_left out
+    → clears_left a c now es after ≡ clears_left a c st es out
+unfolding clears_left
+same_left a c st now es out after same waits = omega (arith, same, waits)
+
 pub leaves : (a first : _) (st : StandingState) (es : List (ℕ × slots.Place)) (out : List ToSend) (v : Victim)
     → clears_left a Nothing st es out < clears_left a (Copying v first) st es out
 unfolding clears_left

@@ -41,6 +41,7 @@ use Rattle.core_worker.specs.Readying.{PassesSending, TakesDead}
 use Rattle.core_worker.proofs.SentTurns.{passes_takes}
 use Rattle.log_cleaner.specs.Clearing.{ClearingState}
 use Rattle.core_worker.specs.DoomsNames.{DoomsIn}
+use Rattle.core_worker.specs.BeginsCleaning.{BeginsNone}
 use Rattle.core_worker.specs.EndsCleaning.{EndsIn}
 use Rattle.core_worker.specs.GoneNames.{is_forgotten}
 use Rattle.core_worker.proofs.EndedKeys.{key_restarted}
@@ -419,6 +420,10 @@ just_copies t p m a b refused C J =
     let R = just_passed p m a.worker C.ready C.before.looked.looks C.sending J in
     ⊎_elim (λ K. subst HasJustRoom (sym K.0.same) R) (λ rest. ⊎_elim (λ L. subst HasJustRoom (sym L.0.same) R) (λ M. subst HasJustRoom (sym M.0.same) (subst HasJustRoom (sym M.0.copies.same) R)) rest) C.copies
 
+-- nor does a search
+just_searched : (s : State) (w y : Worker) → BeginsNone s w y → HasJustRoom w → HasJustRoom y
+just_searched s w y B J = subst HasJustRoom (sym B.same) J
+
 just_did : (s t : State) (refused : Bool) (before : Option Group) (seat : SeatAt) (a b : Moment) → AreApart a.worker.places.items → Did s t refused before seat a b → HasJustRoom a.worker → HasJustRoom b.worker
 just_did s t refused before seat a b apart (Did.goes_round calm (inl C)) J = same_leading a.worker b.worker C.same J
 just_did s t refused before seat a b apart (Did.goes_round calm (inr R)) J = same_leading a.worker b.worker R.same J
@@ -438,11 +443,12 @@ just_did s t refused before seat a b apart (Did.copies C) J = just_copies t seat
 just_did s t refused before seat a b apart (Did.loses_copies L) J = just_stopped b.worker (ap (λ (y : Worker). y.stopped) L.lost.same)
 just_did s t refused before seat a b apart (Did.clears C) J = just_ends seat.place seat.number C.mid b.view C.ready b.worker C.clearing C.ends (just_passed seat.place seat.number a.worker C.ready C.before.looked.looks C.sending J)
 just_did s t refused before seat a b apart (Did.loses_clearing L) J = just_stopped b.worker (ap (λ (y : Worker). y.stopped) L.same)
-just_did s t refused before seat a b apart (Did.locks calm L) J = same_leading L.ready b.worker L.same (just_passed seat.place seat.number a.worker L.ready L.before.looked.looks L.sending J)
+just_did s t refused before seat a b apart (Did.begins calm B) J = subst HasJustRoom (sym B.begins.same) (just_passed seat.place seat.number a.worker B.ready B.before.looked.looks B.sending J)
+just_did s t refused before seat a b apart (Did.locks calm L) J = same_leading L.looked b.worker L.same (just_searched s L.ready L.looked L.begins (just_passed seat.place seat.number a.worker L.ready L.before.looked.looks L.sending J))
 
 pub just_turned : (r : Result Turn Memory) (s t : State) (refused : Bool) (before : Option Group) (seat : SeatAt) (a b : Moment) → AreApart a.worker.places.items → TurnedTo r s t refused before seat a b → HasJustRoom a.worker → HasJustRoom b.worker
 just_turned (Ok Moved) s t refused before seat a b apart D J = just_did s t refused before seat a b apart D J
-just_turned (Ok Idle) s t refused before seat a b apart I J = (let L = I.1 in same_leading L.ready b.worker L.same (just_passed seat.place seat.number a.worker L.ready L.before.looked.looks L.sending J))
+just_turned (Ok Idle) s t refused before seat a b apart I J = (let L = I.1 in same_leading L.looked b.worker L.same (just_searched s L.ready L.looked L.begins (just_passed seat.place seat.number a.worker L.ready L.before.looked.looks L.sending J)))
 just_turned (Err memory) s t refused before seat a b apart D J = just_did s t refused before seat a b apart D J
 
 -- A new worker has no room, where its start had none.

@@ -77,14 +77,14 @@ posts_starts m a b P = starts_still a.worker b.worker (ap (λ (x : Worker). x.le
 pub loses_starts : (m : ℕ) (a b : Moment) → LosesBlock m a b → StartsFirst b.worker
 loses_starts m a b P = starts_still a.worker b.worker (ap (λ (x : Worker). x.leading) P.same) P.before.free
 
-pub locks_starts : (refused : Bool) (p : groups.Place) (m : ℕ) (a b : Moment) → Locks refused p m a b → StartsFirst b.worker
-locks_starts refused p m a b L runs c is none =
+pub locks_starts : (s : State) (refused : Bool) (p : groups.Place) (m : ℕ) (a b : Moment) → Locks s refused p m a b → StartsFirst b.worker
+locks_starts s refused p m a b L runs c is none =
     let same : leads.Collecting L.leads_now.0 ≡ leads.Collecting c = sym L.leads_now.1 ∙ is in
     let here : L.leads_now.0 ≡ c = cc same in
     ap (λ (x : Collecting). x.at) (sym here) ∙ L.leads_now.2
 
-pub idles_starts : (refused : Bool) (p : groups.Place) (m : ℕ) (a b : Moment) → Idles refused p m a b → StartsFirst b.worker
-idles_starts refused p m a b I = starts_nothing b.worker I.free
+pub idles_starts : (s : State) (refused : Bool) (p : groups.Place) (m : ℕ) (a b : Moment) → Idles s refused p m a b → StartsFirst b.worker
+idles_starts s refused p m a b I = starts_nothing b.worker I.free
 
 settled_leads : (home : Option ℕ) (p : groups.Place) (w x : Worker) (e : Entry) → MatchOption home (x ≡ record w { stopped = true }) (λ h. Settles w x e (groups.core_of p h)) → x.leading ≡ w.leading
 settled_leads None p w x e stops = ap (λ (y : Worker). y.leading) stops

@@ -136,3 +136,7 @@ mod EndedItem
 mod JustRooms
 mod CountedFaults
 mod SendingLaws
+mod WiderBoxes
+mod BegunLaws
+mod BegunHolds
+mod BegunTurns

@@ -1,5 +1,5 @@
 -- An idle turn leaves its core at rest.
-use Rattle.std.proofs.Common.{◌≡◌, ◌⊎◌, inl, inr, ⊎_elim, ℕ, ◌<◌, Bool, true, false, not, List, [], ◌∷◌, ◌++◌, Option, Some, None, Result, Ok, Err, refl, sym, ◌∙◌, ap, subst, arith}
+use Rattle.std.proofs.Common.{◌≡◌, ◌⊎◌, inl, inr, ⊎_elim, ℕ, ◌<◌, ◌≤◌, Bool, true, false, not, List, [], ◌∷◌, ◌++◌, Option, Some, None, Result, Ok, Err, refl, sym, ◌∙◌, ap, subst, arith}
 use Rattle.std.specs.Prelude.{IfSome}
 use Rattle.std.proofs.lemmas.Bool.{and_from}
 use Rattle.log_entry.specs.declared.entry.Entry.{Entry}
@@ -26,16 +26,18 @@ use Rattle.core_worker.specs.Turns.{Moment, FindsPosted, PassesItems, PassesPost
 use Rattle.core_worker.specs.Loads.{LooksMade}
 use Rattle.core_worker.specs.WorkerMoves.{hands_of}
 use Rattle.core_worker.specs.Resting.{IsWithOthers, IsResting, HoldsSame, HasNoMore, OpenFor, LoadsOnly, AtRest, IfIdle, TriedIf, TriedAfter}
+use Rattle.log_standing.specs.NameCounts.{StandingState}
 use Rattle.group_laws.specs.declared.types.Seen.{Seen}
 use Rattle.group_laws.specs.declared.types.Seen.TheVariants.{Holder}
-use Rattle.core_worker.specs.Left.{NotMore}
+use Rattle.core_worker.specs.Left.{NotMore, left}
+use Rattle.core_worker.proofs.BegunHolds.{none_left}
 use Rattle.core_worker.proofs.LeftWorkers.{leading_way}
 use Rattle.core_worker.proofs.LeftLocks.{looked_not_more, not_more_still, busy_not_more, nothing_left}
 use Rattle.core_worker.proofs.LeftOwn.{own_view}
 use Rattle.core_worker.proofs.QuietMoves.{for_same}
 use Rattle.core_worker.proofs.MailTurns.{passes_more, looks_join}
 use Rattle.core_worker.proofs.ReadyLaws.{takes_low}
-use Rattle.core_worker.proofs.SentTurns.{not_more_ready, passes_led, passes_takes}
+use Rattle.core_worker.proofs.SentTurns.{not_more_ready, passes_is, passes_takes}
 use Rattle.core_worker.proofs.RestingLoads.{looks_only, looks_and_try}
 use Rattle.core_worker.proofs.RestingSlots.{busy_slot, with_others}
 use Rattle.core_worker.proofs.RestingPlaces.{slot_of, posted_of, none_waits, room_for_one}
@@ -54,7 +56,7 @@ abbrev slot_or : Option Pending → Option ℕ
 slot_or None = None
 slot_or (Some d) = d.slot
 
-module _ (p : Place) (refused : Bool) (m : ℕ) (a b : Moment) (seen : View) (P : PassesItems m a 8 seen) (post : PassesPost refused a.worker) (free : LeadsNothing b.worker) (y : Worker) (same_worker : b.worker ≡ record a.worker { index = y.index; notices = y.notices; leading = b.worker.leading }) (H : Holds p m b.view b.worker) where
+module _ (p : Place) (refused : Bool) (m : ℕ) (a b : Moment) (seen : View) (P : PassesItems m a 8 seen) (post : PassesPost refused a.worker) (free : LeadsNothing b.worker) (y : Worker) (st : StandingState) (same_worker : b.worker ≡ record a.worker { index = y.index; notices = y.notices; standing = st; leading = b.worker.leading }) (H : Holds p m b.view b.worker) where
   pub leads_nothing : (b.view.holds ≡ false) × ((s t : ℕ) → b.view.taken s t ≡ None)
   leads_nothing = (let led = subst (λ (l : Leading). LeadsAt H.leads.seat b.view l) free.1 H.leads.at in (led.0, led.1))
 
@@ -118,47 +120,55 @@ module _ (p : Place) (refused : Bool) (m : ℕ) (a b : Moment) (seen : View) (P 
 pub holds_same : (p : Place) (m : ℕ) (v u : View) (w x : Worker) → u.pending ≡ v.pending → u.blocks ≡ v.blocks → x.places ≡ w.places → x.queue ≡ w.queue → x.in_hand ≡ w.in_hand → HoldsSame p m (hands_of v w) (hands_of u x)
 holds_same p m v u w x pending blocks same queue hand k own = (for_same v u x.places.items k pending blocks ∙ ap (λ ps. (hands_of v (record w { places = ps })).place k) same, (λ i. (hands_of u (record x { queue = queue i; in_hand = hand i })).waits k))
 
-idle_view : {X : Type 0} (f : View → X) (refused : Bool) (p : Place) (m : ℕ) (a b : Moment) (I : Idles refused p m a b) → ((v : View) (xs : List Seen) → f (record v { looked = xs }) ≡ f v) → f b.view ≡ f a.view
-idle_view f refused p m a b I same =
+idle_view : {X : Type 0} (f : View → X) (s : State) (refused : Bool) (p : Place) (m : ℕ) (a b : Moment) (I : Idles s refused p m a b) → ((v : View) (xs : List Seen) → f (record v { looked = xs }) ≡ f v) → f b.view ≡ f a.view
+idle_view f s refused p m a b I same =
     ⊎_elim (λ no. ap f no.1) (λ busy. ap f busy.1.2 ∙ same I.mid (I.mid.looked ++ Holder busy.1.0 ∷ [])) I.lock
     ∙ ap f I.before.looked.view ∙ same a.view (a.view.looked ++ I.before.looked.looks)
 
--- nothing but what it leads, its index and what it has to tell differs
-idle_is : (p : Place) (refused : Bool) (m : ℕ) (a b : Moment) (I : Idles refused p m a b) → b.worker ≡ record a.worker { index = I.ready.index; notices = I.ready.notices; leading = b.worker.leading }
-idle_is p refused m a b I = passes_led p m a.worker I.ready b.worker I.before.looked.looks I.sending I.same
+-- what a search leaves of the names that stand
+abbrev searched : (s : State) (refused : Bool) (p : Place) (m : ℕ) (a b : Moment) → Idles s refused p m a b → StandingState
+searched s refused p m a b I = record a.worker.standing { fewest = I.looked.standing.fewest }
 
-pub idle_same : (p : Place) (refused : Bool) (m : ℕ) (a b : Moment) → Idles refused p m a b → HoldsSame p m (hands_of a.view a.worker) (hands_of b.view b.worker)
-idle_same p refused m a b I =
-    let is = idle_is p refused m a b I in
+-- nothing but what it leads, its index, what it has to tell and the number that a search noted differs
+idle_is : (s : State) (p : Place) (refused : Bool) (m : ℕ) (a b : Moment) (I : Idles s refused p m a b) → b.worker ≡ record a.worker { index = I.ready.index; notices = I.ready.notices; standing = searched s refused p m a b I; leading = b.worker.leading }
+idle_is s p refused m a b I = I.same
+    ∙ ap (λ (z : Worker). record z { leading = b.worker.leading }) I.begins.same
+    ∙ ap (λ (z : Worker). record z { standing = record z.standing { fewest = I.looked.standing.fewest }; leading = b.worker.leading }) (passes_is p m a.worker I.ready I.before.looked.looks I.sending)
+
+pub idle_same : (s : State) (p : Place) (refused : Bool) (m : ℕ) (a b : Moment) → Idles s refused p m a b → HoldsSame p m (hands_of a.view a.worker) (hands_of b.view b.worker)
+idle_same s p refused m a b I =
+    let is = idle_is s p refused m a b I in
     holds_same p m a.view b.view a.worker b.worker
-    (idle_view (λ (v : View). v.pending) refused p m a b I (λ v xs. refl)) (idle_view (λ (v : View). v.blocks) refused p m a b I (λ v xs. refl))
+    (idle_view (λ (v : View). v.pending) s refused p m a b I (λ v xs. refl)) (idle_view (λ (v : View). v.blocks) s refused p m a b I (λ v xs. refl))
     (ap (λ (w : Worker). w.places) is) (ap (λ (w : Worker). w.queue) is) (ap (λ (w : Worker). w.in_hand) is)
 
 -- There is no more to do than before.
-pub idles_not_more : (refused : Bool) (p : Place) (m : ℕ) (a b : Moment) (I : Idles refused p m a b) (before mid after : Option Group) → LooksMade before mid m I.mid → (after ≡ mid) ⊎ Makes mid m Kind.Lock after b.view → b.view.holds ≡ false → NotMore before after a.worker b.worker
-idles_not_more refused p m a b I before mid after looks tried free =
+pub idles_not_more : (s : State) (refused : Bool) (p : Place) (m : ℕ) (a b : Moment) (I : Idles s refused p m a b) (before mid after : Option Group) → LooksMade before mid m I.mid → (after ≡ mid) ⊎ Makes mid m Kind.Lock after b.view → b.view.holds ≡ false → NotMore before after a.worker b.worker
+idles_not_more s refused p m a b I before mid after looks tried free =
     let T = passes_takes p m a.worker I.ready I.before.looked.looks I.sending in
-    let nothing : LeadsNothing I.ready = (I.before.free.0, ap (λ (w : Worker). w.leading) T.0.same ∙ I.before.free.1) in
+    let led : I.looked.leading ≡ a.worker.leading = ap (λ (w : Worker). w.leading) I.begins.same ∙ ap (λ (w : Worker). w.leading) T.0.same in
+    let nothing : LeadsNothing I.looked = (I.before.free.0, led ∙ I.before.free.1) in
+    let low : left I.looked ≤ left a.worker = (let fewer = takes_low p a.worker I.ready T.0 T.1 in let same = none_left s I.ready I.looked I.begins in omega (arith, fewer, same)) in
     looked_not_more before mid after m looks.0 I.mid a.worker b.worker looks.1
-    (not_more_ready mid after a.worker I.ready b.worker (takes_low p a.worker I.ready T.0 T.1)
-    (⊎_elim (λ no. subst (λ (o : Option Group). NotMore mid o I.ready b.worker) (sym no) (not_more_still mid I.ready b.worker
-    (let same = leading_way I.ready b.worker I.same in let was = nothing_left I.ready nothing in let now = nothing_left b.worker I.free in omega (arith, same, was, now))))
-    (λ try. busy_not_more mid after m b.view I.ready b.worker try free nothing I.free I.same)
+    (not_more_ready mid after a.worker I.looked b.worker low
+    (⊎_elim (λ no. subst (λ (o : Option Group). NotMore mid o I.looked b.worker) (sym no) (not_more_still mid I.looked b.worker
+    (let same = leading_way I.looked b.worker I.same in let was = nothing_left I.looked nothing in let now = nothing_left b.worker I.free in omega (arith, same, was, now))))
+    (λ try. busy_not_more mid after m b.view I.looked b.worker try free nothing I.free I.same)
     tried))
 
 -- By what a turn answers.
-at_rest : (refused : Bool) (seat : SeatAt) (a b : Moment) (seen : View) (P : PassesItems seat.number a 8 seen) (posted : Bool) → MatchBool posted (FindsPosted a.worker.places.items P.looked.found 8) (FindsPosted a.worker.places.items P.looked.found 8 → ⊥) → (before mid after : Option Group) → LooksMade before mid seat.number seen → TriedIf posted seat.number mid after b.view
-    → Idles refused seat.place seat.number a b → Holds seat.place seat.number b.view b.worker → (b.worker.winds_down ≡ false → b.worker.in_hand ≡ None) → Agrees seat.place seat.number a.view before → Agrees seat.place seat.number b.view after → IfSome after (λ w. ∥ Lawful w ∥₁)
+at_rest : (s : State) (refused : Bool) (seat : SeatAt) (a b : Moment) (seen : View) (P : PassesItems seat.number a 8 seen) (posted : Bool) → MatchBool posted (FindsPosted a.worker.places.items P.looked.found 8) (FindsPosted a.worker.places.items P.looked.found 8 → ⊥) → (before mid after : Option Group) → LooksMade before mid seat.number seen → TriedIf posted seat.number mid after b.view
+    → Idles s refused seat.place seat.number a b → Holds seat.place seat.number b.view b.worker → (b.worker.winds_down ≡ false → b.worker.in_hand ≡ None) → Agrees seat.place seat.number a.view before → Agrees seat.place seat.number b.view after → IfSome after (λ w. ∥ Lawful w ∥₁)
     → AtRest refused seat before after a.view b.view a.worker b.worker
-at_rest refused seat a b seen P posted found before mid after looks tried I H hand entered left lawful =
+at_rest s refused seat a b seen P posted found before mid after looks tried I H hand entered left lawful =
     let p = seat.place in
     let m = seat.number in
     let try = tried_as posted found tried in
     record {
-      loads = loads p refused m a b seen P I.post I.free I.ready (idle_is p refused m a b I) H before mid after looks try;
-      same = idle_same p refused m a b I;
-      rests = rests p refused m a b seen P I.post I.free I.ready (idle_is p refused m a b I) H before mid after looks try entered left lawful;
-      no_more = λ asks works. no_more p refused m a b seen P I.post I.free I.ready (idle_is p refused m a b I) H asks works (hand (ap (λ (w : Worker). w.winds_down) (idle_is p refused m a b I) ∙ works));
+      loads = loads p refused m a b seen P I.post I.free I.ready (searched s refused p m a b I) (idle_is s p refused m a b I) H before mid after looks try;
+      same = idle_same s p refused m a b I;
+      rests = rests p refused m a b seen P I.post I.free I.ready (searched s refused p m a b I) (idle_is s p refused m a b I) H before mid after looks try entered left lawful;
+      no_more = λ asks works. no_more p refused m a b seen P I.post I.free I.ready (searched s refused p m a b I) (idle_is s p refused m a b I) H asks works (hand (ap (λ (w : Worker). w.winds_down) (idle_is s p refused m a b I) ∙ works));
     } where
       tried_as : (x : Bool) → MatchBool x (FindsPosted a.worker.places.items P.looked.found 8) (FindsPosted a.worker.places.items P.looked.found 8 → ⊥) → TriedIf x seat.number mid after b.view
           → ((FindsPosted a.worker.places.items P.looked.found 8 → ⊥) × (after ≡ mid)) ⊎ Makes mid seat.number Kind.Lock after b.view
@@ -171,4 +181,4 @@ pub rests_by : (r : Result Turn Memory) (s t : State) (refused : Bool) (seat : S
 rests_by (Ok Moved) s t refused seat a b seen P posted found before mid after looks tried turned H hand entered left lawful = tt
 rests_by (Err memory) s t refused seat a b seen P posted found before mid after looks tried turned H hand entered left lawful = tt
 rests_by (Ok Idle) s t refused seat a b seen P posted found before mid after looks T turned H hand entered left lawful =
-    at_rest refused seat a b T.mid (passes_more seat.number a 8 seen T.mid T.looks T.view P) posted found before T.between after (looks_join before mid T.between seat.number seen T.mid looks T.made) T.tried turned.1 H hand entered left lawful
+    at_rest s refused seat a b T.mid (passes_more seat.number a 8 seen T.mid T.looks T.view P) posted found before T.between after (looks_join before mid T.between seat.number seen T.mid looks T.made) T.tried turned.1 H hand entered left lawful

@@ -1,5 +1,5 @@
 -- A turn that sends, or finds nothing to send and goes on.
-use Rattle.std.proofs.Common.{◌≡◌, ◌⊎◌, inl, inr, ⊎_elim, ℕ, ◌+◌, ◌<◌, ◌≤◌, Bool, true, false, List, ◌++◌, Option, Some, None, Result, Ok, Err, refl, sym, ◌∙◌, ap, subst, arith, append_assoc}
+use Rattle.std.proofs.Common.{◌≡◌, ◌⊎◌, inl, inr, ⊎_elim, ℕ, ◌+◌, ◌<◌, ◌≤◌, Bool, true, false, List, ◌++◌, Option, Some, None, Result, Ok, Err, OnOk, refl, sym, ◌∙◌, ap, subst, arith, append_assoc}
 use Rattle.fs_errors.specs.declared.Memory.{Memory}
 use Rattle.pm_region.specs.State.{State}
 use Rattle.group_laws.specs.declared.types.Seen.{Seen}
@@ -95,10 +95,6 @@ sends_low p m before after v u w x N =
 pub short_low : (p : Place) (m : ℕ) (before after : Option Group) (v u : View) (w x : Worker) → w.winds_down ≡ false → SendsShort p m before after v u w x → Lowers before after w x
 short_low p m before after v u w x works N = lowers_looked before after after m N.found.loads u w x N.found.made (lowers_still after w x (winds_low p w x N.takes works N.winds))
 
-pub none_low : (p : Place) (m upto : ℕ) (turn : Turn) (posted : Bool) (before mid after : Option Group) (v u : View) (w y x : Worker) → SendsNone p m upto before mid v u w y → (posted ≡ true → HasOffer before m) → ((posted ≡ true → HasOffer mid m) → MeasuresTurn turn mid after y x) → MeasuresTurn turn before after w x
-none_low p m upto turn posted before mid after v u w y x N offer less =
-    measures_passed turn posted before mid after m N.found.loads u w x N.found.made offer (λ has. measures_ready turn mid after w y x (takes_low p w y N.readies.takes N.readies.works) (less has))
-
 -- The lock is tried after loads of mailboxes.
 pub tried_looked : (posted : Bool) (m : ℕ) (before mid after : Option Group) (v u t : View) (looks : List Seen) → LooksOn m before mid v u looks → TriedIf posted m mid after t → TriedAfter posted m before after v t
 tried_looked posted m before mid after v u t looks L tried = record { mid = u; between = mid; looks = looks; view = L.view; made = (L.loads, L.made); tried = tried }
@@ -146,3 +142,16 @@ if_idle_to (Err memory) A B f x = tt
 pub measures_by : (r : Result Turn Memory) (posted : Bool) (before mid after : Option Group) (m : ℕ) (loads : List Load) (v : View) (w x : Worker) → MakesAll before (looks_at m loads) mid m v → (posted ≡ true → HasOffer before m) → ((posted ≡ true → HasOffer mid m) → Measures r mid after w x) → Measures r before after w x
 measures_by (Ok turn) posted before mid after m loads v w x made offer less = measures_passed turn posted before mid after m loads v w x made offer less
 measures_by (Err memory) posted before mid after m loads v w x made offer less = measures_passed Moved posted before mid after m loads v w x made offer less
+
+-- What was made ready for a message that isn't sent counts no more.
+pub measures_readied : (r : Result Turn Memory) (before after : Option Group) (w y x : Worker) → left y ≤ left w → Measures r before after y x → Measures r before after w x
+measures_readied (Ok turn) before after w y x low less = measures_ready turn before after w y x low less
+measures_readied (Err memory) before after w y x low less = lowers_ready before after w y x low less
+
+pub none_low : (p : Place) (m upto : ℕ) (r : Result Turn Memory) (posted : Bool) (before mid after : Option Group) (v u : View) (w y x : Worker) → SendsNone p m upto before mid v u w y → (posted ≡ true → HasOffer before m) → ((posted ≡ true → HasOffer mid m) → Measures r mid after y x) → Measures r before after w x
+none_low p m upto r posted before mid after v u w y x N offer less =
+    measures_by r posted before mid after m N.found.loads u w x N.found.made offer (λ has. measures_readied r mid after w y x (takes_low p w y N.readies.takes N.readies.works) (less has))
+
+pub works_on : (r : Result Turn Memory) (b c d : Bool) → c ≡ d → OnOk r (b ≡ c) → OnOk r (b ≡ d)
+works_on (Ok turn) b c d same works = works ∙ same
+works_on (Err memory) b c d same works = tt

@@ -8,6 +8,7 @@ pub mod TakenChunks
 pub mod CopyTurns
 pub mod StandingTies
 pub mod KeepsCleaning
+pub mod BeginsCleaning
 pub mod Ties
 pub mod Order
 pub mod Refusals

@@ -20,7 +20,7 @@ use Rattle.core_worker.specs.declared.types.Turn.TheVariants.{Moved, Idle}
 use Rattle.core_worker.specs.declared.choose_item.Choice.{Choice}
 use Rattle.core_worker.specs.declared.choose_item.Choice.TheVariants.{Pass, Drop, Post}
 use Rattle.core_worker.specs.OwnPlaces.{is_staged, IsLowest}
-use Rattle.core_worker.specs.Turns.{Moment, InOrderAt, GoesRound, PersistsOrLoses, Marks, Fails, Finishes, Posts, LosesBlock, Receives, Sends, WindsDown, Locks, Idles, PassesItems, PassesPost, FindsPosted, Dooms, Copies, LosesBatchOfCopies, Clears, LosesClearing}
+use Rattle.core_worker.specs.Turns.{BeginsToClean, Moment, InOrderAt, GoesRound, PersistsOrLoses, Marks, Fails, Finishes, Posts, LosesBlock, Receives, Sends, WindsDown, Locks, Idles, PassesItems, PassesPost, FindsPosted, Dooms, Copies, LosesBatchOfCopies, Clears, LosesClearing}
 use Rattle.core_worker.specs.Posting.{PointsNowhere}
 use Rattle.core_worker.specs.Stopping.{Drops, WithdrawsOrUnlocks}
 use Rattle.core_worker.specs.WorkerMoves.{Fixed, hands_of, WorkerMoves}
@@ -91,13 +91,15 @@ pub data Did (s t : State) (refused : Bool) (before : Option Group) (seat : Seat
       → Did s t refused before seat a b
   clears : Clears refused seat.place seat.number a b → Did s t refused before seat a b
   loses_clearing : LosesClearing refused seat.place seat.number a b → Did s t refused before seat a b
-  locks : t ≡ s → Locks refused seat.place seat.number a b → Did s t refused before seat a b
+  begins : t ≡ s → BeginsToClean s refused seat.place seat.number a b
+      → Did s t refused before seat a b
+  locks : t ≡ s → Locks s refused seat.place seat.number a b → Did s t refused before seat a b
 
 -- By what a turn answers, it did one of these, or nothing applied.
 abbrev pub Turned : Turn → State → State → Bool → Option Group → SeatAt → Moment → Moment → Type 0
 Turned Moved s t refused before seat a b = Did s t refused before seat a b
 Turned Idle s t refused before seat a b = (t ≡ s)
-    × Idles refused seat.place seat.number a b
+    × Idles s refused seat.place seat.number a b
 
 -- the same where it may find no memory
 abbrev pub TurnedTo : Result Turn Memory → State → State → Bool → Option Group → SeatAt → Moment

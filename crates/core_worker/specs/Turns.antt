@@ -38,6 +38,7 @@ use Rattle.core_worker.specs.declared.types.Place.{Place as WorkerPlace}
 use Rattle.core_worker.specs.declared.types.Place.TheVariants.{Free, Staged, Posted}
 use Rattle.core_worker.specs.declared.worker.Worker.{Worker}
 use Rattle.core_worker.specs.OwnPlaces.{place_at, is_staged, is_posted, IsLowest, HasNone, Replaces}
+use Rattle.core_worker.specs.BeginsCleaning.{BeginsNone, BeginsOne}
 use Rattle.core_worker.specs.CopyItems.{CopiesOn, LeavesCopies, LosesCopies, MisreadsCopies}
 use Rattle.core_worker.specs.DoomsNames.{DoomsIn}
 use Rattle.core_worker.specs.EndsCleaning.{EndsIn}
@@ -304,7 +305,7 @@ pub record Sends (refused : Bool) (p : Place) (m : ℕ) (a b : Moment) : Type 0 
   pub some : 0 < notices_left (notices_of box.old)
   pub view : b.view ≡ after_send to (notices_of box.old) mid
 
--- Item 6 without memory for what is to be sent: the core winds down. What awaited may wait to be sent now.
+-- Item 6 without memory for what is to be sent, or for a cleaning: the core winds down. What awaited may wait to be sent now.
 pub record WindsDown (refused : Bool) (p : Place) (m : ℕ) (a b : Moment) : Type 0 where
   pub mid : View
   pub before : PassesItems m a SLOTS mid
@@ -382,8 +383,9 @@ pub record LosesBatchOfCopies (refused : Bool) (p : Place) (m : ℕ) (a b : Mome
   pub view : b.view ≡ mid
   pub lost : LosesCopies first ready b.worker
 
--- Item 7: no cleaning is under way, an own slot was found Posted, and the lock is tried and had.
-pub record Locks (refused : Bool) (p : Place) (m : ℕ) (a b : Moment) : Type 0 where
+-- Item 6, the beginning: no cleaning is under way, and one of the next victim begins.
+pub record BeginsToClean (s : State) (refused : Bool) (p : Place) (m : ℕ) (a b : Moment) :
+    Type 0 where
   pub mid : View
   pub before : PassesItems m a SLOTS mid
   pub post : PassesPost refused a.worker
@@ -391,13 +393,27 @@ pub record Locks (refused : Bool) (p : Place) (m : ℕ) (a b : Moment) : Type 0 
   pub ready : Worker
   pub sending : PassesSending p m a.worker ready before.looked.looks
   pub clean : under_way ready ≡ Nothing
+  pub begins : BeginsOne s ready b.worker
+  pub view : b.view ≡ mid
+
+-- Item 7: no cleaning is under way and none begins, an own slot was found Posted, and the lock is tried and had.
+pub record Locks (s : State) (refused : Bool) (p : Place) (m : ℕ) (a b : Moment) : Type 0 where
+  pub mid : View
+  pub before : PassesItems m a SLOTS mid
+  pub post : PassesPost refused a.worker
+  pub mail : PassesMail p m a.worker before.looked.looks
+  pub ready : Worker
+  pub sending : PassesSending p m a.worker ready before.looked.looks
+  pub clean : under_way ready ≡ Nothing
+  pub looked : Worker
+  pub begins : BeginsNone s ready looked
   pub posted : FindsPosted a.worker.places.items before.looked.found SLOTS
   pub view : b.view ≡ after_lock mid
   pub leads_now : (c : Collecting) × (b.worker.leading ≡ leads.Collecting c) × (c.at ≡ 0)
-  pub same : SameButLeading ready b.worker
+  pub same : SameButLeading looked b.worker
 
--- Item 8: nothing applied. No cleaning is under way, and no own slot was found Posted, or the try found a holder.
-pub record Idles (refused : Bool) (p : Place) (m : ℕ) (a b : Moment) : Type 0 where
+-- Item 8: nothing applied. No cleaning is under way and none begins, and no own slot was found Posted, or the try found a holder.
+pub record Idles (s : State) (refused : Bool) (p : Place) (m : ℕ) (a b : Moment) : Type 0 where
   pub mid : View
   pub before : PassesItems m a SLOTS mid
   pub post : PassesPost refused a.worker
@@ -405,11 +421,13 @@ pub record Idles (refused : Bool) (p : Place) (m : ℕ) (a b : Moment) : Type 0 
   pub ready : Worker
   pub sending : PassesSending p m a.worker ready before.looked.looks
   pub clean : under_way ready ≡ Nothing
+  pub looked : Worker
+  pub begins : BeginsNone s ready looked
   pub lock : ((FindsPosted a.worker.places.items before.looked.found SLOTS → ⊥) × (b.view ≡ mid))
       ⊎ (FindsPosted a.worker.places.items before.looked.found SLOTS
       × ((h : ℕ) × (h ≢ m) × (b.view ≡ after_find (Holder h) mid)))
   pub free : LeadsNothing b.worker
-  pub same : SameButLeading ready b.worker
+  pub same : SameButLeading looked b.worker
 
 -- item 2 was done, or failed and stopped the core
 abbrev pub PersistsOrLoses : Bool → ℕ → Moment → Moment → Type 0

@@ -1,5 +1,5 @@
 // The turn that begins a cleaning.
-ghost use Rattle.std.specs.Prelude.{◌≡◌, ℕ, ◌≤◌, true, Option, Some, None, IfOk, IfNone, IfSome, OnErr, length, option_map};
+ghost use Rattle.std.specs.Prelude.{◌≡◌, ℕ, ◌≤◌, true, Option, Some, None, IfOk, IfNone, IfSome, IsSome, OnErr, length, option_map};
 ghost use Rattle.pm_region.specs.State.{IsTelling};
 ghost use Rattle.chunk_map.specs.Layouts.{payload_lines};
 ghost use Rattle.core_log.specs.Log.{StandsIn};
@@ -10,7 +10,7 @@ ghost use Rattle.lazy_alloc.specs.Sets.{free_chunk_count};
 ghost use Rattle.log_cleaner.specs.Choosing.{IsChosen, IsVictim, fits};
 ghost use Rattle.log_cleaner.specs.Clearing.{IsFresh};
 ghost use Rattle.log_cleaner.specs.Copying.{IsUpToDate};
-ghost use Rattle.log_cleaner.specs.Tallied.{HasFewest, IsTallied};
+ghost use Rattle.log_cleaner.specs.Tallied.{HasFewest, IsTallyOf};
 ghost use Rattle.log_cleaner.specs.declared.types.Victim.{Victim as Chosen};
 ghost use Rattle.core_worker.specs.declared.worker.Worker.{Worker};
 ghost use Rattle.core_worker.specs.Supplies.{rest, room_for, supply_of, under_way};
@@ -18,19 +18,20 @@ ghost use Rattle.core_worker.specs.Supplies.{rest, room_for, supply_of, under_wa
 use core_log::{CoreLog, Room};
 use fs_errors::Memory;
 use log_cleaner::{Clearing, Victim, tally_of, victim};
-use log_standing::Standing;
+use log_standing::{Standing, Tally};
 use pm_region::Region;
 use std::alloc::Global;
 
-// A cleaning that was begun.
+// A chunk that is to be cleaned, with the memory for its names, and what is left of it.
 #[derive(Drop)]
 pub(crate) struct Begun {
     pub(crate) victim: Victim,
     pub(crate) clearing: Clearing,
+    pub(crate) tally: Tally,
 }
 
-// Chooses the next victim, takes the memory for its names, and counts what is left of it from then on. None exactly where
-// there is no chunk to be cleaned: then the fewest lines that one has to copy are noted.
+// Chooses the next victim, and takes the memory for its names. None exactly where there is no chunk to be cleaned: then
+// the fewest lines that one has to copy are noted.
 pub(crate) fn begin_cleaning<R: Region>(
     alloc: Global,
     region: &R,
@@ -50,15 +51,12 @@ pub(crate) fn begin_cleaning<R: Region>(
     ensures room { IfOk result (λ found. IfSome found (λ x. IsTelling (R.state region.now)
         → length (entries_in (R.state region.now) log.now x.victim.chunk) ≤ x.clearing.room)) }
     ensures counts { IfOk result (λ found. IfSome found (λ x. IsTelling (R.state region.now)
-        → IsTallied standing.new (entries_in (R.state region.now) log.now x.victim.chunk))) }
-    ensures few { IfOk result (λ found. IfSome found (λ x. standing.new.fewest ≡ 0)) }
-    ensures none { IfOk result (λ found. IfNone found ((standing.new.tally ≡ standing.old.tally)
-        × (IsTelling (R.state region.now)
-        → HasFewest (R.state region.now) log.now standing.new))) }
-    ensures same { standing.new ≡ record standing.old {
-      tally = standing.new.tally;
-      fewest = standing.new.fewest;
-    } }
+        → IsTallyOf x.tally standing.old
+        (entries_in (R.state region.now) log.now x.victim.chunk))) }
+    ensures few { IfOk result (λ found. IsTelling (R.state region.now)
+        → IfNone found (HasFewest (R.state region.now) log.now standing.new)) }
+    ensures found { IfOk result (λ found. IsSome found → standing.new ≡ standing.old) }
+    ensures same { standing.new ≡ record standing.old { fewest = standing.new.fewest } }
     ensures memory { OnErr result (standing.new ≡ standing.old) }
 {
     match victim(alloc, region, log, standing, after, room)? {
@@ -68,9 +66,11 @@ pub(crate) fn begin_cleaning<R: Region>(
         Some(victim) => {
             let clearing = Clearing::begin(alloc, region, log, &victim)?;
             let tally = tally_of(alloc, region, log, &victim)?;
-            standing.count(Some(tally));
-            standing.note_fewest(0);
-            return Ok(Some(Begun { victim, clearing }));
+            return Ok(Some(Begun {
+                victim,
+                clearing,
+                tally,
+            }));
         }
     }
 }

@@ -1,18 +1,18 @@
 // What a turn does for a cleaning under way.
-ghost use Rattle.std.specs.Prelude.{◌≡◌, ◌≢◌, ℕ, Bool, true, Option};
+ghost use Rattle.std.specs.Prelude.{◌≡◌, ◌≢◌, ℕ, Bool, true, false, Option, OnErr, OnOk};
 ghost use Rattle.group_laws.specs.declared.group_sizes.TheConstants.{SLOTS};
 ghost use Rattle.group_laws.specs.State.{Group};
 ghost use Rattle.group_laws.specs.MemberViews.{View};
 ghost use Rattle.batch_leader.specs.TurnSteps.{TurnSteps, trail_with};
-ghost use Rattle.core_worker.specs.declared.types.Cleaning.TheVariants.{Copying, Doomed};
-ghost use Rattle.core_worker.specs.Left.{HasOffer, Lowers, MeasuresTurn, StartsFirst};
+ghost use Rattle.core_worker.specs.declared.types.Cleaning.TheVariants.{Nothing, Copying, Doomed};
+ghost use Rattle.core_worker.specs.Left.{HasOffer, Lowers, Measures, StartsFirst};
 ghost use Rattle.core_worker.specs.Mails.{PassesMail};
 ghost use Rattle.core_worker.specs.Readying.{PassesSending};
 ghost use Rattle.core_worker.specs.declared.worker.Worker.{Worker};
-ghost use Rattle.core_worker.specs.Resting.{IfIdleTurn, TriedIf};
+ghost use Rattle.core_worker.specs.Resting.{IfIdle, TriedIf};
 ghost use Rattle.core_worker.specs.Supplies.{under_way};
 ghost use Rattle.core_worker.specs.Ties.{HoldsAt, StandsAt, LeadsNothing};
-ghost use Rattle.core_worker.specs.Turning.{KeepsTurn, Did, Turned, Tells, at_entry};
+ghost use Rattle.core_worker.specs.Turning.{KeepsTurn, Did, TurnedTo, Tells, at_entry};
 ghost use Rattle.core_worker.specs.Turns.{InOrderAt, PassesItems, PassesPost};
 
 use crate::clear_turn::end_cleaning;
@@ -20,8 +20,10 @@ use crate::doom_turn::doom_chunk;
 use crate::gone_mail::file_gone;
 use crate::types::{Cleaning, Turn, Victim};
 use crate::worker::Worker;
+use fs_errors::Memory;
 use group_board::Board;
 use pm_region::Region;
+use std::alloc::Global;
 use std::mem;
 
 impl Worker {
@@ -134,13 +136,68 @@ impl Worker {
         }
     }
 
-    // Goes on with a cleaning under way, or tries the lock, where an own change was found that nobody had taken.
+    // Begins a cleaning, or tries the lock, as a core that cleans nothing. Without memory for a cleaning it winds down.
+    fn serve_begin<R: Region, B: Board>(
+        &mut self,
+        alloc: Global,
+        region: &R,
+        board: &mut B,
+        posted: bool,
+    ) -> Result<Turn, Memory>
+        requires holds { HoldsAt (B.seat board.old) (B.view board.old) self.old }
+        requires stands { StandsAt (R.state region.now) (B.seat board.old)
+            (B.view board.old) self.old }
+        requires order { InOrderAt (B.seat board.old) (B.view board.old) self.old }
+        requires nothing { LeadsNothing self.old }
+        requires clean { under_way self.old ≡ Nothing }
+        ensures seat { B.seat board.new ≡ B.seat board.old }
+        ensures keeps { KeepsTurn (B.seat board.old) (R.state region.now) (R.state region.now)
+            (B.whole board.old) (B.whole board.new) (B.view board.old) (B.view board.new)
+            self.old self.new }
+        ensures turned { (refused : Bool) (before : Option Group) (v : View) (w : Worker)
+            → PassesPost refused w
+            → (tells : Tells posted (B.seat board.old).number w v (B.view board.old))
+            → PassesMail (B.seat board.old).place (B.seat board.old).number w tells.0.looked.looks
+            → PassesSending (B.seat board.old).place (B.seat board.old).number w self.old
+            tells.0.looked.looks
+            → TurnedTo result (R.state region.now) (R.state region.now) refused before
+            (B.seat board.old) (at_entry w v) (at_entry self.new (B.view board.new)) }
+        ensures memory { OnErr result (self.new.winds_down ≡ true) }
+        ensures awake { OnErr result (self.old.winds_down ≡ false) }
+        ensures less { (posted ≡ true → HasOffer (B.whole board.old) (B.seat board.old).number)
+            → Measures result (B.whole board.old) (B.whole board.new) self.old self.new }
+        ensures starts { StartsFirst self.new }
+        ensures tries { IfIdle result (TriedIf posted (B.seat board.old).number
+            (B.whole board.old) (B.whole board.new) (B.view board.new)) }
+        ensures works { OnOk result (self.new.winds_down ≡ self.old.winds_down) }
+        ensures steps { (passes : Bool) → TurnSteps passes (R.state region.now) (R.state region.now)
+            (B.view board.old) (B.view board.new)
+            (trail_with (B.trail board.old) (B.at board.old))
+            (trail_with (B.trail board.new) (B.at board.new)) }
+    {
+        match self.begin_next(alloc, region) {
+            Ok(begun) => {
+                if begun {
+                    return Ok(Turn::Moved);
+                }
+                let turn = self.serve_lock(board, posted);
+                return Ok(turn);
+            }
+            Err(memory) => {
+                return Err(memory);
+            }
+        }
+    }
+
+    // Goes on with a cleaning under way, begins one, or tries the lock, where an own change was found that nobody had
+    // taken.
     pub(crate) fn serve_cleaning<R: Region, B: Board>(
         &mut self,
+        alloc: Global,
         region: &mut R,
         board: &mut B,
         posted: bool,
-    ) -> Turn
+    ) -> Result<Turn, Memory>
         requires holds { HoldsAt (B.seat board.old) (B.view board.old) self.old }
         requires stands { StandsAt (R.state region.old) (B.seat board.old)
             (B.view board.old) self.old }
@@ -156,14 +213,16 @@ impl Worker {
             → PassesMail (B.seat board.old).place (B.seat board.old).number w tells.0.looked.looks
             → PassesSending (B.seat board.old).place (B.seat board.old).number w self.old
             tells.0.looked.looks
-            → Turned result (R.state region.old) (R.state region.new) refused before
+            → TurnedTo result (R.state region.old) (R.state region.new) refused before
             (B.seat board.old) (at_entry w v) (at_entry self.new (B.view board.new)) }
+        ensures memory { OnErr result (self.new.winds_down ≡ true) }
+        ensures awake { OnErr result (self.old.winds_down ≡ false) }
         ensures less { (posted ≡ true → HasOffer (B.whole board.old) (B.seat board.old).number)
-            → MeasuresTurn result (B.whole board.old) (B.whole board.new) self.old self.new }
+            → Measures result (B.whole board.old) (B.whole board.new) self.old self.new }
         ensures starts { StartsFirst self.new }
-        ensures tries { IfIdleTurn result (TriedIf posted (B.seat board.old).number
+        ensures tries { IfIdle result (TriedIf posted (B.seat board.old).number
             (B.whole board.old) (B.whole board.new) (B.view board.new)) }
-        ensures works { self.new.winds_down ≡ self.old.winds_down }
+        ensures works { OnOk result (self.new.winds_down ≡ self.old.winds_down) }
         ensures steps { (passes : Bool) → TurnSteps passes (R.state region.old) (R.state region.new)
             (B.view board.old) (B.view board.new)
             (trail_with (B.trail board.old) (B.at board.old))
@@ -171,19 +230,19 @@ impl Worker {
     {
         match self.under_way() {
             Cleaning::Nothing => {
-                return self.serve_lock(board, posted);
+                return self.serve_begin(alloc, &*region, board, posted);
             }
             Cleaning::Copying { victim, first } => {
                 if victim.entries == 0 {
                     self.doom(&*region, board, &victim);
-                    return Turn::Moved;
+                    return Ok(Turn::Moved);
                 }
                 self.copy(region, board, victim, first);
-                return Turn::Moved;
+                return Ok(Turn::Moved);
             }
             Cleaning::Doomed { .. } => {
                 self.end_clean(region, board);
-                return Turn::Moved;
+                return Ok(Turn::Moved);
             }
         }
     }

@@ -4,6 +4,7 @@
 mod accepting;
 mod batch_names;
 mod begin_cleaning;
+mod begin_items;
 mod begin_request;
 mod begin_waiting;
 mod choose_item;

@@ -134,8 +134,7 @@ impl Worker {
                 if sent {
                     return Ok(Turn::Moved);
                 }
-                let turn = self.serve_cleaning(region, board, posted);
-                return Ok(turn);
+                return self.serve_cleaning(alloc, region, board, posted);
             }
             Err(memory) => {
                 return Err(memory);
@@ -180,8 +179,7 @@ impl Worker {
             (trail_with (B.trail board.new) (B.at board.new)) }
     {
         if self.stopped || self.winds_down {
-            let turn = self.serve_cleaning(region, board, posted);
-            return Ok(turn);
+            return self.serve_cleaning(alloc, region, board, posted);
         }
         if self.receive_first(board) {
             return Ok(Turn::Moved);

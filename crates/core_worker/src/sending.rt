@@ -36,13 +36,15 @@ pub fn every_taking()
 const MOST_MORE: u64 = 1_048_576;
 
 // The same names, with room for so many more.
-fn roomier(alloc: Global, names: &Names, more: u64) -> Result<Names, Memory>
-    requires { more ≤ 2 ^ 32 }
+pub(crate) fn roomier(alloc: Global, names: &Names, more: u64) -> Result<Names, Memory>
     ensures names { IfOk result (λ n. n.names ≡ names.now.names) }
     ensures room { IfOk result (λ n. n.room ≡ length names.now.names + more) }
 {
     let old = names.names();
-    let mut new = Names::with_room(alloc, old.len() as u64 + more)?;
+    let Some(room) = (old.len() as u64).checked_add(more) else {
+        return Err(Memory);
+    };
+    let mut new = Names::with_room(alloc, room)?;
     for name in old {
         new.push(*name);
     }

@@ -18,6 +18,7 @@ ghost use Rattle.core_worker.specs.Turns.{InOrderAt, PassesPost, PersistsOrLoses
 ghost use Rattle.core_worker.specs.Turning.{HasBatch, KeepsTurn, TurnMoves, Did, Turned, TurnedTo, Tells, at_entry};
 ghost use Rattle.core_worker.specs.IndexRoom.{HasJustRoom};
 ghost use Rattle.core_worker.specs.Left.{HasOffer, Lowers, Measures, MeasuresTurn, StartsFirst};
+ghost use Rattle.core_worker.specs.BeginsCleaning.{BeginsNone};
 ghost use Rattle.core_worker.specs.Mails.{PassesMail};
 ghost use Rattle.core_worker.specs.Readying.{PassesSending};
 ghost use Rattle.core_worker.specs.declared.worker.Worker.{Worker};
@@ -131,11 +132,12 @@ impl Worker {
             → KeepsTurn (B.seat board.old) s s (B.whole board.old) (B.whole board.new)
             (B.view board.old) (B.view board.new) self.old self.new }
         ensures turned { (s : State) (refused : Bool) (before : Option Group) (v : View)
-            (w : Worker) → PassesPost refused w
+            (w y : Worker) → PassesPost refused w
             → (tells : Tells posted (B.seat board.old).number w v (B.view board.old))
             → PassesMail (B.seat board.old).place (B.seat board.old).number w tells.0.looked.looks
-            → PassesSending (B.seat board.old).place (B.seat board.old).number w self.old
+            → PassesSending (B.seat board.old).place (B.seat board.old).number w y
             tells.0.looked.looks
+            → BeginsNone s y self.old
             → Turned result s s refused before (B.seat board.old) (at_entry w v)
             (at_entry self.new (B.view board.new)) }
         ensures less { (posted ≡ true → HasOffer (B.whole board.old) (B.seat board.old).number)
@@ -263,7 +265,7 @@ impl Worker {
     }
 
     // What it tells a leader of its room.
-    fn room(&self) -> Room
+    pub(crate) fn room(&self) -> Room
         requires measured { IsMeasured self.now }
         requires layout { self.now.log.layout ≡ self.now.layout }
         ensures { result ≡ room_for self.now }

@@ -194,6 +194,13 @@ impl Clearing {
         self.note_all(region, log, standing, chunk);
     }
 
+    /// For how many names of the chunk there is room.
+    pub fn room(&self) -> u64
+        ensures { result ≡ self.now.room }
+    {
+        self.seen.room()
+    }
+
     /// The names that vanish with the chunk.
     pub fn doomed_of(&self) -> &[EntryName]
         ensures { result.now ≡ self.now.doomed }

@@ -24,7 +24,7 @@ use Rattle.core_worker.specs.OwnPlaces.{place_at}
 use Rattle.core_worker.specs.KeyTies.{IsPlaced, Offers}
 use Rattle.core_worker.specs.Ties.{Holds}
 use Rattle.core_worker.specs.Turning.{Did, TurnedTo, at_entry}
-use Rattle.core_worker.specs.Turning.Did.{goes_round, withdraws, writes, marks, fails, finishes, posts, loses_block, drops, receives, sends, winds, locks, dooms, copies, loses_copies, clears, loses_clearing}
+use Rattle.core_worker.specs.Turning.Did.{begins, goes_round, withdraws, writes, marks, fails, finishes, posts, loses_block, drops, receives, sends, winds, locks, dooms, copies, loses_copies, clears, loses_clearing}
 use Rattle.core_worker.specs.Turns.{PersistsOrLoses}
 use Rattle.thread_engine.specs.WorkLaws.{in_doubt}
 
@@ -144,6 +144,7 @@ module _ (p : Place) (m : ℕ) (s t : State) (refused : Bool) (before : Option G
   did_keeps (loses_copies L) = ap (λ (z : View). z.blocks q) L.view ∙ ap (λ (z : View). z.blocks q) L.before.looked.view
   did_keeps (clears C) = ap (λ (z : View). z.blocks q) C.ends.tidied.4 ∙ ap (λ (z : View). z.blocks q) C.before.looked.view
   did_keeps (loses_clearing L) = ap (λ (z : View). z.blocks q) L.view ∙ ap (λ (z : View). z.blocks q) L.before.looked.view
+  did_keeps (begins quiet B) = ap (λ (z : View). z.blocks q) B.view ∙ ap (λ (z : View). z.blocks q) B.before.looked.view
   did_keeps (locks quiet L) = ap (λ (z : View). z.blocks q) L.view ∙ ap (λ (z : View). z.blocks q) L.before.looked.view
 
   pub turn_keeps : (r : Result Turn Memory) → TurnedTo r s t refused before seat (at_entry w v) (at_entry x u) → u.blocks q ≡ v.blocks q

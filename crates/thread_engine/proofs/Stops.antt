@@ -23,7 +23,7 @@ use Rattle.core_worker.specs.Order.{InOrder, MayLeadStopped}
 use Rattle.core_worker.specs.Ties.{Holds, LeadsAt, LeadsNothing}
 use Rattle.core_worker.specs.Turning.{Did, TurnedTo, at_entry}
 use Rattle.core_worker.proofs.Clients.{passes_is}
-use Rattle.core_worker.specs.Turning.Did.{goes_round, withdraws, writes, marks, fails, finishes, posts, loses_block, drops, receives, sends, winds, locks, dooms, copies, loses_copies, clears, loses_clearing}
+use Rattle.core_worker.specs.Turning.Did.{begins, goes_round, withdraws, writes, marks, fails, finishes, posts, loses_block, drops, receives, sends, winds, locks, dooms, copies, loses_copies, clears, loses_clearing}
 use Rattle.core_worker.specs.Turns.{PersistsOrLoses}
 use Rattle.thread_engine.specs.WorkStates.{WorkState, IsAtWork, Accepts, MakesTurn, Move, Leads, Works, HasEnded}
 use Rattle.thread_engine.specs.WorkStates.Move.{accepts, turns, winds_down, joins, hands_over}
@@ -110,6 +110,7 @@ module _ (p : Place) (m : ℕ) (v u : View) (w x : Worker) (H : Holds p m v w) (
     stopped_stays stop (loses_copies L) = absurd (clash w.stopped stop (sym (ap (λ (z : Worker). z.stopped) (passes_is seat.place seat.number w L.ready L.before.looked.looks L.sending)) ∙ L.runs))
     stopped_stays stop (clears C) = absurd (clash w.stopped stop (sym (ap (λ (z : Worker). z.stopped) (passes_is seat.place seat.number w C.ready C.before.looked.looks C.sending)) ∙ C.ends.runs))
     stopped_stays stop (loses_clearing L) = absurd (clash w.stopped stop (sym (ap (λ (z : Worker). z.stopped) (passes_is seat.place seat.number w L.ready L.before.looked.looks L.sending)) ∙ L.runs))
+    stopped_stays stop (begins quiet B) = absurd (clash w.stopped stop (sym (ap (λ (z : Worker). z.stopped) (passes_is seat.place seat.number w B.ready B.before.looked.looks B.sending)) ∙ B.begins.runs.0))
     stopped_stays stop (locks quiet L) = (
       λ k d is. ap (λ (z : View). z.pending k) L.view ∙ ap (λ (z : View). z.pending k) L.before.looked.view ∙ is,
       ap (λ (z : View). z.flying) L.view ∙ ap (λ (z : View). z.flying) L.before.looked.view,
@@ -150,7 +151,8 @@ module _ (p : Place) (m : ℕ) (v u : View) (w x : Worker) (H : Holds p m v w) (
     now_rests runs stop D (loses_copies L) = absurd (no_doubt runs (doubted_in _ (L.view ∙ L.before.looked.view) refl D))
     now_rests runs stop D (clears C) = absurd (still (ap (λ (z : Worker). z.stopped) C.ends.same ∙ ap (λ (z : Worker). z.stopped) (passes_is seat.place seat.number w C.ready C.before.looked.looks C.sending)) runs stop)
     now_rests runs stop D (loses_clearing L) = absurd (no_doubt runs (doubted_in _ (L.view ∙ L.before.looked.view) refl D))
-    now_rests runs stop D (locks quiet L) = absurd (still (ap (λ (z : Worker). z.stopped) L.same ∙ ap (λ (z : Worker). z.stopped) (passes_is seat.place seat.number w L.ready L.before.looked.looks L.sending)) runs stop)
+    now_rests runs stop D (begins quiet B) = absurd (still (ap (λ (z : Worker). z.stopped) B.begins.same ∙ ap (λ (z : Worker). z.stopped) (passes_is seat.place seat.number w B.ready B.before.looked.looks B.sending)) runs stop)
+    now_rests runs stop D (locks quiet L) = absurd (still (ap (λ (z : Worker). z.stopped) L.same ∙ ap (λ (z : Worker). z.stopped) L.begins.same ∙ ap (λ (z : Worker). z.stopped) (passes_is seat.place seat.number w L.ready L.before.looked.looks L.sending)) runs stop)
 
     turn_stays : (r : Result Turn Memory) → w.stopped ≡ true → TurnedTo r s t refused before seat (at_entry w v) (at_entry x u) → Stays
     turn_stays (Ok Moved) stop T = stopped_stays stop T
@@ -166,7 +168,7 @@ module _ (p : Place) (m : ℕ) (v u : View) (w x : Worker) (H : Holds p m v w) (
     turn_rests : (r : Result Turn Memory) → w.stopped ≡ false → x.stopped ≡ true → HasDoubt p m u → TurnedTo r s t refused before seat (at_entry w v) (at_entry x u) → u.flying ≡ []
     turn_rests (Ok Moved) runs stop D T = now_rests runs stop D T
     turn_rests (Err e) runs stop D T = now_rests runs stop D T
-    turn_rests (Ok Idle) runs stop D T = absurd (still (ap (λ (z : Worker). z.stopped) T.1.same ∙ ap (λ (z : Worker). z.stopped) (passes_is seat.place seat.number w T.1.ready T.1.before.looked.looks T.1.sending)) runs stop)
+    turn_rests (Ok Idle) runs stop D T = absurd (still (ap (λ (z : Worker). z.stopped) T.1.same ∙ ap (λ (z : Worker). z.stopped) T.1.begins.same ∙ ap (λ (z : Worker). z.stopped) (passes_is seat.place seat.number w T.1.ready T.1.before.looked.looks T.1.sending)) runs stop)
 
 module _ (seat : SeatAt) (refused : Bool) where
   -- a core that has stopped for no call of its own

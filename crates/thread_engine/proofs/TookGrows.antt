@@ -19,7 +19,7 @@ use Rattle.core_worker.specs.declared.types.Turn.{Turn}
 use Rattle.core_worker.specs.declared.types.Turn.TheVariants.{Moved, Idle}
 use Rattle.core_worker.specs.declared.worker.Worker.{Worker}
 use Rattle.core_worker.specs.Turning.{Did, TurnedTo, at_entry}
-use Rattle.core_worker.specs.Turning.Did.{goes_round, withdraws, writes, marks, fails, finishes, posts, loses_block, drops, receives, sends, winds, locks, dooms, copies, loses_copies, clears, loses_clearing}
+use Rattle.core_worker.specs.Turning.Did.{begins, goes_round, withdraws, writes, marks, fails, finishes, posts, loses_block, drops, receives, sends, winds, locks, dooms, copies, loses_copies, clears, loses_clearing}
 use Rattle.core_worker.specs.Turns.{PersistsOrLoses}
 
 module _ (s t : State) (refused : Bool) (before : Option Group) (seat : SeatAt) (v u : View) (w x : Worker) where
@@ -58,6 +58,7 @@ module _ (s t : State) (refused : Bool) (before : Option Group) (seat : SeatAt) 
   did_grows (loses_copies L) = same L.mid L.view (ap (λ (z : View). lines_in z.took) L.before.looked.view)
   did_grows (clears C) = let at = ap (λ (z : View). lines_in z.took) C.ends.tidied.4 in let was = ap (λ (z : View). lines_in z.took) C.before.looked.view in omega (arith, at, was)
   did_grows (loses_clearing L) = same L.mid L.view (ap (λ (z : View). lines_in z.took) L.before.looked.view)
+  did_grows (begins quiet B) = let at = ap (λ (z : View). lines_in z.took) B.view in let was = ap (λ (z : View). lines_in z.took) B.before.looked.view in omega (arith, at, was)
   did_grows (locks quiet L) = let at = ap (λ (z : View). lines_in z.took) L.view in let was = ap (λ (z : View). lines_in z.took) L.before.looked.view in omega (arith, at, was)
 
   pub turn_grows : (r : Result Turn Memory) → TurnedTo r s t refused before seat (at_entry w v) (at_entry x u) → lines_in v.took ≤ lines_in u.took

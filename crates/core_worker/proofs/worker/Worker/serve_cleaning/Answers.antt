@@ -2,8 +2,8 @@
 use Rattle.std.proofs.Common.{sym, ◌∙◌}
 use Rattle.core_worker.proofs.worker.Worker.serve_cleaning.Goals as goal
 
-pub serve_lock-requires-clause-clean : goal.serve_lock-requires-clause-clean
-serve_lock-requires-clause-clean g c = sym c.under_way.ensures ∙ c.in-Nothing.is
+pub serve_begin-requires-clause-clean : goal.serve_begin-requires-clause-clean
+serve_begin-requires-clause-clean g c = sym c.under_way.ensures ∙ c.in-Nothing.is
 
 pub doom-requires-clause-copied : goal.doom-requires-clause-copied
 doom-requires-clause-copied g c = (_, sym c.under_way.ensures ∙ c.in-Copying.is, c.if-victim-eq0.true)
@@ -11,14 +11,8 @@ doom-requires-clause-copied g c = (_, sym c.under_way.ensures ∙ c.in-Copying.i
 pub end_clean-requires-clause-dooms : goal.end_clean-requires-clause-dooms
 end_clean-requires-clause-dooms g c = (_, sym c.under_way.ensures ∙ c.in-Doomed.is)
 
-pub returns-in-Nothing-clause-keeps : goal.returns-in-Nothing-clause-keeps
-returns-in-Nothing-clause-keeps g c = c.serve_lock.ensures.keeps (g.R.Region.state c.args.region.now) c.requires.stands
-
 pub returns-in-Nothing-clause-turned : goal.returns-in-Nothing-clause-turned
-returns-in-Nothing-clause-turned g c refused before v w passed tells mail sending = c.serve_lock.ensures.turned (g.R.Region.state c.args.region.now) refused before v w passed tells mail sending
-
-pub returns-in-Nothing-clause-steps : goal.returns-in-Nothing-clause-steps
-returns-in-Nothing-clause-steps g c passes = c.serve_lock.ensures.steps passes (g.R.Region.state c.args.region.now)
+returns-in-Nothing-clause-turned g c refused before v w passed tells mail sending = c.serve_begin.ensures.turned refused before v w passed tells mail sending
 
 pub returns-in-Doomed-clause-turned : goal.returns-in-Doomed-clause-turned
 returns-in-Doomed-clause-turned g c refused before v w passed tells mail sending = c.end_clean.ensures.did refused before v w passed tells.0 mail sending

@@ -1,5 +1,6 @@
 -- The lock is tried, or nothing applies.
-use Rattle.std.proofs.Common.{inl, inr, Bool, [], ◌∷◌, refl, sym, subst}
+use Rattle.std.proofs.Common.{inl, inr, Bool, [], ◌∷◌, refl, sym, ◌∙◌, subst}
+use Rattle.core_worker.proofs.BegunHolds.{none_way}
 use Rattle.group_laws.specs.Runs as runs
 use Rattle.batch_leader.specs.TakenChanges.{MatchBool}
 use Rattle.core_worker.specs.Turns.{TriesLock, FindsPosted}
@@ -17,15 +18,17 @@ pub returns-then-not-posted-clause-keeps : goal.returns-then-not-posted-clause-k
 returns-then-not-posted-clause-keeps g c s S = keeps_same (g.B.Board.seat c.args.board.now) s (g.B.Board.whole c.args.board.now) (g.B.Board.view c.args.board.now) c.args.self.now c.requires.holds S c.requires.order (g.met.B.Board.agrees c.args.board.now)
 
 pub returns-then-not-posted-clause-turned : goal.returns-then-not-posted-clause-turned
-returns-then-not-posted-clause-turned g c s refused before v w post tells mail sending = (
+returns-then-not-posted-clause-turned g c s refused before v w y post tells mail sending none = (
   refl,
   record {
     mid = g.B.Board.view c.args.board.now;
     before = tells.0;
     post = post;
-    clean = c.requires.clean;
+    clean = sym (none_way s y c.args.self.now none) ∙ c.requires.clean;
     mail = mail;
-    ready = c.args.self.now;
+    ready = y;
+    looked = c.args.self.now;
+    begins = none;
     sending = sending;
     lock = inl (subst (λ (b : Bool). MatchBool b (FindsPosted w.places.items tells.0.looked.found 8) (FindsPosted w.places.items tells.0.looked.found 8 → ⊥)) c.if-not-posted.true tells.1, refl);
     free = c.requires.nothing;
@@ -45,16 +48,18 @@ returns-then-try_lead-clause-keeps g c s S =
     (lock_filled c.try_lead.result seat (g.B.Board.view c.args.board.now) (g.B.Board.view c.try_lead.new.board) c.args.self.now c.try_lead.new.self e.holds e.tried)
 
 pub returns-then-try_lead-clause-turned : goal.returns-then-try_lead-clause-turned
-returns-then-try_lead-clause-turned g c s refused before v w post tells mail sending =
+returns-then-try_lead-clause-turned g c s refused before v w y post tells mail sending none =
     let seat = g.B.Board.seat c.args.board.now in
     let had = subst (λ (b : Bool). TriesLock b seat.number (g.B.Board.view c.args.board.now) (g.B.Board.view c.try_lead.new.board) c.args.self.now c.try_lead.new.self) c.if-try_lead.true c.try_lead.ensures.tried in
     locks refl (record {
       mid = g.B.Board.view c.args.board.now;
       before = tells.0;
       post = post;
-      clean = c.requires.clean;
+      clean = sym (none_way s y c.args.self.now none) ∙ c.requires.clean;
       mail = mail;
-      ready = c.args.self.now;
+      ready = y;
+      looked = c.args.self.now;
+      begins = none;
       sending = sending;
       posted = subst (λ (b : Bool). MatchBool b (FindsPosted w.places.items tells.0.looked.found 8) (FindsPosted w.places.items tells.0.looked.found 8 → ⊥)) c.if-not-posted.false tells.1;
       view = had.0;
@@ -74,7 +79,7 @@ returns-clause-keeps g c s S =
     (lock_filled c.try_lead.result seat (g.B.Board.view c.args.board.now) (g.B.Board.view c.try_lead.new.board) c.args.self.now c.try_lead.new.self e.holds e.tried)
 
 pub returns-clause-turned : goal.returns-clause-turned
-returns-clause-turned g c s refused before v w post tells mail sending =
+returns-clause-turned g c s refused before v w y post tells mail sending none =
     let seat = g.B.Board.seat c.args.board.now in
     let had = subst (λ (b : Bool). TriesLock b seat.number (g.B.Board.view c.args.board.now) (g.B.Board.view c.try_lead.new.board) c.args.self.now c.try_lead.new.self) c.if-try_lead.false c.try_lead.ensures.tried in (
       refl,
@@ -82,9 +87,11 @@ returns-clause-turned g c s refused before v w post tells mail sending =
         mid = g.B.Board.view c.args.board.now;
         before = tells.0;
         post = post;
-        clean = c.requires.clean;
+        clean = sym (none_way s y c.args.self.now none) ∙ c.requires.clean;
         mail = mail;
-        ready = c.args.self.now;
+        ready = y;
+        looked = c.args.self.now;
+        begins = none;
         sending = sending;
         lock = inr (subst (λ (b : Bool). MatchBool b (FindsPosted w.places.items tells.0.looked.found 8) (FindsPosted w.places.items tells.0.looked.found 8 → ⊥)) c.if-not-posted.false tells.1, had.0);
         free = had.1;

@@ -15,14 +15,14 @@ use Rattle.core_worker.specs.Turns.{InOrderAt, PassesPost}
 use Rattle.core_worker.proofs.HeardMoves.{keeps_heard, heard_low}
 use Rattle.core_worker.proofs.LeftLocks.{lowers_looked}
 use Rattle.core_worker.proofs.LeftMails.{receives_lower}
-use Rattle.core_worker.proofs.MailTurns.{passes_more, both_steps, if_idle, tried_at_once}
+use Rattle.core_worker.proofs.MailTurns.{passes_more, both_steps, tried_at_once}
 use Rattle.core_worker.proofs.SentTurns.{if_idle_to, measures_by, tried_later}
 use Rattle.core_worker.proofs.TurnLaws.{keeps_looked, looked_holds, looked_stands, looked_order}
 use Rattle.core_worker.proofs.worker.Worker.serve_mail.Goals as goal
 use Rattle.core_worker.proofs.worker.Worker.serve_mail.Goals.{then-self-via-then-self, then-self-via-else-self+then-self-2}
 
 pub returns-then-self-clause-turned : goal.returns-then-self-clause-turned
-returns-then-self-clause-turned g c refused before v post tells = c.serve_cleaning-turn.ensures.turned refused before v c.args.self.now post tells (elim c.then-self.branch [
+returns-then-self-clause-turned g c refused before v post tells = c.serve_cleaning.ensures.turned refused before v c.args.self.now post tells (elim c.then-self.branch [
   | then-self-via-then-self w ↦ inl w.if-self.true
   | then-self-via-else-self+then-self-2 w ↦ inr (inl w.if-self-2.true)
 ]) (inl (
@@ -37,12 +37,12 @@ pub returns-then-self-clause-tries : goal.returns-then-self-clause-tries
 returns-then-self-clause-tries g c =
     let seat = g.B.Board.seat c.args.board.now in
     let w0 = g.B.Board.whole c.args.board.now in
-    let w2 = g.B.Board.whole c.serve_cleaning-turn.new.board in
+    let w2 = g.B.Board.whole c.serve_cleaning.new.board in
     let v0 = g.B.Board.view c.args.board.now in
-    let v2 = g.B.Board.view c.serve_cleaning-turn.new.board in
-    if_idle c.serve_cleaning-turn.result (TriedIf c.args.posted seat.number w0 w2 v2) (TriedAfter c.args.posted seat.number w0 w2 v0 v2)
+    let v2 = g.B.Board.view c.serve_cleaning.new.board in
+    if_idle_to c.serve_cleaning.result (TriedIf c.args.posted seat.number w0 w2 v2) (TriedAfter c.args.posted seat.number w0 w2 v0 v2)
     (λ t. tried_at_once c.args.posted seat.number w0 w2 seat.place v0 v2 (g.met.B.Board.agrees c.args.board.now) t)
-    c.serve_cleaning-turn.ensures.tries
+    c.serve_cleaning.ensures.tries
 
 pub returns-then-receive_first-clause-keeps : goal.returns-then-receive_first-clause-keeps
 returns-then-receive_first-clause-keeps g c =

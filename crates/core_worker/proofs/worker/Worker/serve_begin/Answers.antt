@@ -1,0 +1,162 @@
+-- A cleaning begins, or the lock is tried.
+use Rattle.std.proofs.Common.{◌≡◌, [], refl, sym, ◌∙◌, ap, arith}
+use Rattle.batch_leader.proofs.Clients.{no_loads, no_steps, turn_of_loads}
+use Rattle.core_worker.specs.declared.worker.Worker.{Worker}
+use Rattle.core_worker.specs.Turning.Did.{begins}
+use Rattle.core_worker.proofs.BegunHolds.{begun_less, keeps_begun, keeps_searched, none_holds, none_left, none_order, none_stands, none_way}
+use Rattle.core_worker.proofs.BegunTurns.{keeps_wound, short_begun, was_begun, was_none_begun, wound_did}
+use Rattle.core_worker.proofs.CopiedItem.{measured_there}
+use Rattle.core_worker.proofs.LeftFair.{starts_nothing}
+use Rattle.core_worker.proofs.LeftItems.{lowers_still}
+use Rattle.core_worker.proofs.SentTurns.{measures_ready, short_low, short_starts}
+use Rattle.core_worker.proofs.worker.Worker.serve_begin.Goals as goal
+
+pub begin_next-requires-clause-measured : goal.begin_next-requires-clause-measured
+begin_next-requires-clause-measured g c = let seat = g.B.Board.seat c.args.board.now in measured_there seat.place seat.number (g.B.Board.view c.args.board.now) c.args.self.now c.requires.holds
+
+pub begin_next-requires-clause-layout : goal.begin_next-requires-clause-layout
+begin_next-requires-clause-layout g c = c.requires.holds.log_layout ∙ sym c.requires.holds.layout
+
+pub begin_next-requires-clause-stands : goal.begin_next-requires-clause-stands
+begin_next-requires-clause-stands g c = c.requires.stands.log
+
+pub begin_next-requires-clause-counted : goal.begin_next-requires-clause-counted
+begin_next-requires-clause-counted g c runs works telling = (c.requires.stands.names runs works telling).counted
+
+pub begin_next-requires-clause-fewest : goal.begin_next-requires-clause-fewest
+begin_next-requires-clause-fewest g c runs works telling = (c.requires.stands.names runs works telling).fewest
+
+pub returns-then-begun-clause-keeps : goal.returns-then-begun-clause-keeps
+returns-then-begun-clause-keeps g c =
+    let seat = g.B.Board.seat c.args.board.now in
+    let s = g.R.Region.state c.args.region.now in
+    let v = g.B.Board.view c.args.board.now in
+    let before = g.B.Board.whole c.args.board.now in
+    let B = was_begun c.in-Ok.begun s c.args.self.now c.begin_next.new.self c.if-begun.true c.in-Ok.ensures in
+    keeps_begun seat s before v c.args.self.now c.begin_next.new.self c.requires.holds c.requires.stands c.requires.order c.requires.nothing c.requires.clean B ([], no_steps before seat.number seat.place v (g.met.B.Board.agrees c.args.board.now))
+
+pub returns-then-begun-clause-turned : goal.returns-then-begun-clause-turned
+returns-then-begun-clause-turned g c refused start from w post tells mail sending =
+    let s = g.R.Region.state c.args.region.now in
+    let B = was_begun c.in-Ok.begun s c.args.self.now c.begin_next.new.self c.if-begun.true c.in-Ok.ensures in
+    begins refl (record {
+      mid = g.B.Board.view c.args.board.now;
+      before = tells.0;
+      post = post;
+      mail = mail;
+      ready = c.args.self.now;
+      sending = sending;
+      clean = c.requires.clean;
+      begins = B;
+      view = refl;
+    })
+
+pub returns-then-begun-clause-less : goal.returns-then-begun-clause-less
+returns-then-begun-clause-less g c offer =
+    let seat = g.B.Board.seat c.args.board.now in
+    let s = g.R.Region.state c.args.region.now in
+    let v = g.B.Board.view c.args.board.now in
+    let before = g.B.Board.whole c.args.board.now in
+    let B = was_begun c.in-Ok.begun s c.args.self.now c.begin_next.new.self c.if-begun.true c.in-Ok.ensures in
+    lowers_still before before c.args.self.now c.begin_next.new.self refl (begun_less s seat.place seat.number v c.args.self.now c.begin_next.new.self c.requires.holds c.requires.stands c.requires.order c.requires.nothing c.requires.clean B)
+
+pub returns-then-begun-clause-starts : goal.returns-then-begun-clause-starts
+returns-then-begun-clause-starts g c =
+    let s = g.R.Region.state c.args.region.now in
+    let B = was_begun c.in-Ok.begun s c.args.self.now c.begin_next.new.self c.if-begun.true c.in-Ok.ensures in
+    starts_nothing c.begin_next.new.self (c.requires.nothing.0, ap (λ (y : Worker). y.leading) B.same ∙ c.requires.nothing.1)
+
+pub returns-then-begun-clause-works : goal.returns-then-begun-clause-works
+returns-then-begun-clause-works g c =
+    let s = g.R.Region.state c.args.region.now in
+    let B = was_begun c.in-Ok.begun s c.args.self.now c.begin_next.new.self c.if-begun.true c.in-Ok.ensures in
+    ap (λ (y : Worker). y.winds_down) B.same
+
+pub returns-then-begun-clause-steps : goal.returns-then-begun-clause-steps
+returns-then-begun-clause-steps g c passes = (let s = g.R.Region.state c.args.region.now in turn_of_loads passes s s _ _ _ _ _ _ (no_loads (g.B.Board.view c.args.board.now) (g.B.Board.trail c.args.board.now)))
+
+pub serve_lock-turn-requires-clause-holds : goal.serve_lock-turn-requires-clause-holds
+serve_lock-turn-requires-clause-holds g c =
+    let seat = g.B.Board.seat c.args.board.now in
+    let s = g.R.Region.state c.args.region.now in
+    let N = was_none_begun c.in-Ok.begun s c.args.self.now c.begin_next.new.self c.if-begun.false c.in-Ok.ensures in
+    none_holds s seat.place seat.number (g.B.Board.view c.args.board.now) c.args.self.now c.begin_next.new.self c.requires.holds c.requires.nothing N
+
+pub serve_lock-turn-requires-clause-order : goal.serve_lock-turn-requires-clause-order
+serve_lock-turn-requires-clause-order g c =
+    let seat = g.B.Board.seat c.args.board.now in
+    let s = g.R.Region.state c.args.region.now in
+    let N = was_none_begun c.in-Ok.begun s c.args.self.now c.begin_next.new.self c.if-begun.false c.in-Ok.ensures in
+    none_order s seat.place seat.number (g.B.Board.view c.args.board.now) c.args.self.now c.begin_next.new.self c.requires.holds c.requires.nothing N c.requires.order
+
+pub serve_lock-turn-requires-clause-nothing : goal.serve_lock-turn-requires-clause-nothing
+serve_lock-turn-requires-clause-nothing g c =
+    let s = g.R.Region.state c.args.region.now in
+    let N = was_none_begun c.in-Ok.begun s c.args.self.now c.begin_next.new.self c.if-begun.false c.in-Ok.ensures in
+    (c.requires.nothing.0, ap (λ (y : Worker). y.leading) N.same ∙ c.requires.nothing.1)
+
+pub serve_lock-turn-requires-clause-clean : goal.serve_lock-turn-requires-clause-clean
+serve_lock-turn-requires-clause-clean g c =
+    let s = g.R.Region.state c.args.region.now in
+    let N = was_none_begun c.in-Ok.begun s c.args.self.now c.begin_next.new.self c.if-begun.false c.in-Ok.ensures in
+    none_way s c.args.self.now c.begin_next.new.self N ∙ c.requires.clean
+
+pub returns-in-Ok-clause-keeps : goal.returns-in-Ok-clause-keeps
+returns-in-Ok-clause-keeps g c =
+    let seat = g.B.Board.seat c.args.board.now in
+    let s = g.R.Region.state c.args.region.now in
+    let v = g.B.Board.view c.args.board.now in
+    let w = c.args.self.now in
+    let y = c.begin_next.new.self in
+    let N = was_none_begun c.in-Ok.begun s c.args.self.now c.begin_next.new.self c.if-begun.false c.in-Ok.ensures in
+    keeps_searched seat s s (g.B.Board.whole c.args.board.now) (g.B.Board.whole c.serve_lock-turn.new.board) v (g.B.Board.view c.serve_lock-turn.new.board) w y c.serve_lock-turn.new.self c.requires.holds c.requires.nothing N
+    (c.serve_lock-turn.ensures.keeps s (none_stands s seat.place seat.number v w y c.requires.holds c.requires.nothing N c.requires.stands c.requires.clean))
+
+pub returns-in-Ok-clause-turned : goal.returns-in-Ok-clause-turned
+returns-in-Ok-clause-turned g c refused start from w post tells mail sending =
+    let s = g.R.Region.state c.args.region.now in
+    let N = was_none_begun c.in-Ok.begun s c.args.self.now c.begin_next.new.self c.if-begun.false c.in-Ok.ensures in
+    c.serve_lock-turn.ensures.turned s refused start from w c.args.self.now post tells mail sending N
+
+pub returns-in-Ok-clause-less : goal.returns-in-Ok-clause-less
+returns-in-Ok-clause-less g c offer =
+    let seat = g.B.Board.seat c.args.board.now in
+    let s = g.R.Region.state c.args.region.now in
+    let N = was_none_begun c.in-Ok.begun s c.args.self.now c.begin_next.new.self c.if-begun.false c.in-Ok.ensures in
+    let same = none_left s c.args.self.now c.begin_next.new.self N in
+    measures_ready c.serve_lock-turn.result (g.B.Board.whole c.args.board.now) (g.B.Board.whole c.serve_lock-turn.new.board) c.args.self.now c.begin_next.new.self c.serve_lock-turn.new.self (omega (arith, same)) (c.serve_lock-turn.ensures.less offer)
+
+pub returns-in-Ok-clause-works : goal.returns-in-Ok-clause-works
+returns-in-Ok-clause-works g c =
+    let s = g.R.Region.state c.args.region.now in
+    let N = was_none_begun c.in-Ok.begun s c.args.self.now c.begin_next.new.self c.if-begun.false c.in-Ok.ensures in
+    c.serve_lock-turn.ensures.works ∙ ap (λ (y : Worker). y.winds_down) N.same
+
+pub returns-in-Ok-clause-steps : goal.returns-in-Ok-clause-steps
+returns-in-Ok-clause-steps g c passes = c.serve_lock-turn.ensures.steps passes (g.R.Region.state c.args.region.now)
+
+pub returns-in-Err-clause-keeps : goal.returns-in-Err-clause-keeps
+returns-in-Err-clause-keeps g c =
+    let seat = g.B.Board.seat c.args.board.now in
+    keeps_wound seat (g.R.Region.state c.args.region.now) (g.B.Board.whole c.args.board.now) (g.B.Board.view c.args.board.now) c.args.self.now c.begin_next.new.self (g.met.B.Board.agrees c.args.board.now) c.requires.holds c.requires.stands c.requires.order c.in-Err.ensures.2
+
+pub returns-in-Err-clause-turned : goal.returns-in-Err-clause-turned
+returns-in-Err-clause-turned g c refused start from w post tells mail sending =
+    wound_did (g.R.Region.state c.args.region.now) refused start (g.B.Board.whole c.args.board.now) (g.B.Board.seat c.args.board.now) from (g.B.Board.view c.args.board.now) w c.args.self.now c.begin_next.new.self (g.met.B.Board.agrees c.args.board.now) c.in-Err.ensures.0 c.in-Err.ensures.1 post tells.0 mail sending c.in-Err.ensures.2
+
+pub returns-in-Err-clause-less : goal.returns-in-Err-clause-less
+returns-in-Err-clause-less g c offer =
+    let seat = g.B.Board.seat c.args.board.now in
+    let v = g.B.Board.view c.args.board.now in
+    let before = g.B.Board.whole c.args.board.now in
+    short_low seat.place seat.number before before v v c.args.self.now c.begin_next.new.self c.in-Err.ensures.1 (short_begun seat.place seat.number before v c.args.self.now c.begin_next.new.self (g.met.B.Board.agrees c.args.board.now) c.in-Err.ensures.2)
+
+pub returns-in-Err-clause-starts : goal.returns-in-Err-clause-starts
+returns-in-Err-clause-starts g c =
+    let seat = g.B.Board.seat c.args.board.now in
+    let v = g.B.Board.view c.args.board.now in
+    let before = g.B.Board.whole c.args.board.now in
+    short_starts seat.place seat.number before before v v c.args.self.now c.begin_next.new.self c.requires.nothing (short_begun seat.place seat.number before v c.args.self.now c.begin_next.new.self (g.met.B.Board.agrees c.args.board.now) c.in-Err.ensures.2)
+
+pub returns-in-Err-clause-steps : goal.returns-in-Err-clause-steps
+returns-in-Err-clause-steps g c passes = (let s = g.R.Region.state c.args.region.now in turn_of_loads passes s s _ _ _ _ _ _ (no_loads (g.B.Board.view c.args.board.now) (g.B.Board.trail c.args.board.now)))

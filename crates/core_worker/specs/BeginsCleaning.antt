@@ -1,0 +1,98 @@
+-- A worker begins a cleaning, or finds why it begins none.
+use Rattle.std.specs.Prelude.{◌≡◌, ◌⊎◌, ℕ, ◌≤◌, ◌<◌, Bool, true, false, List, map, length, Option, Some, None, Result, Ok, Err, vec_capacity}
+use Rattle.std.specs.List.{AllByRecursion}
+use Rattle.pm_region.specs.State.{State, IsTelling}
+use Rattle.log_entry.specs.declared.entry.EntryName.{EntryName}
+use Rattle.core_log.specs.Walking.{entries_in}
+use Rattle.lazy_alloc.specs.Sets.{free_chunk_count}
+use Rattle.crash_core.specs.declared.names.Notices.{Notices}
+use Rattle.fs_errors.specs.declared.Memory.{Memory}
+use Rattle.log_standing.specs.NameCounts.{StandingState}
+use Rattle.log_cleaner.specs.Choosing.{IsChosen, IsVictim}
+use Rattle.log_cleaner.specs.Clearing.{ClearingState, IsFresh}
+use Rattle.log_cleaner.specs.Tallied.{HasFewest, IsTallied}
+use Rattle.log_cleaner.specs.declared.types.Victim.{Victim}
+use Rattle.core_worker.specs.declared.begin_cleaning.Begun.{Begun}
+use Rattle.core_worker.specs.declared.types.Cleaning.TheVariants.{Copying}
+use Rattle.core_worker.specs.declared.worker.Worker.{Worker}
+use Rattle.core_worker.specs.GoneMail.{HasPlacesFor}
+use Rattle.core_worker.specs.Outbox.{HasSpare}
+use Rattle.core_worker.specs.Supplies.{room_for}
+
+-- the names that wait for a member: dead ones and gone ones
+abbrev pub waiting_of : Notices → List EntryName × List EntryName
+waiting_of n = (n.dead.names, n.gone.names)
+
+-- The same waits for each member, with a place for one dead name more, and places for so many gone ones.
+pub record MakesPlaces (most : ℕ) (old new : List Notices) : Type 0 where
+  pub waits : map waiting_of new ≡ map waiting_of old
+  pub spare : AllByRecursion HasSpare new
+  pub places : HasPlacesFor most new
+
+-- Of the names that stand nothing but what is counted for a cleaning is another one.
+abbrev pub SameButCounts : StandingState → StandingState → Type 0
+SameButCounts old new = new ≡ record old { tally = new.tally; fewest = new.fewest }
+
+-- Why no cleaning begins: the core has stopped or winds down, more than one chunk is free, no request was accepted since the last one began, or no chunk is to be cleaned, where the region tells.
+abbrev pub MayNotBegin : State → Worker → Type 0
+MayNotBegin s w = (w.stopped ≡ true) ⊎ ((w.winds_down ≡ true)
+    ⊎ ((1 < free_chunk_count w.allocator) ⊎ ((w.accepted ≡ false) ⊎ (IsTelling s
+    → IsVictim s w.log w.standing w.last_victim (room_for w) None))))
+
+-- None begins. Nothing but the number that a search notes is another one.
+pub record BeginsNone (s : State) (w x : Worker) : Type 0 where
+  pub why : MayNotBegin s w
+  pub same : x ≡ record w { standing = record w.standing { fewest = x.standing.fewest } }
+  pub fewest : (IsTelling s → HasFewest s w.log w.standing) → IsTelling s
+      → HasFewest s w.log x.standing
+
+-- A cleaning of the next victim begins: a request was accepted since the last one began, and no more than one chunk is free. There are places for all names that may be gone with the chunk, and what is left of it is counted from then on.
+pub record BeginsOne (s : State) (w x : Worker) : Type 0 where
+  pub runs : (w.stopped ≡ false) × (w.winds_down ≡ false)
+  pub accepted : w.accepted ≡ true
+  pub scarce : free_chunk_count w.allocator ≤ 1
+  pub victim : Victim
+  pub chosen : IsChosen w.log (room_for w) victim
+  pub next : IsTelling s → IsVictim s w.log w.standing w.last_victim (room_for w) (Some victim)
+  pub now : ClearingState
+  pub is : x.clearing ≡ Some now
+  pub chunk : now.chunk ≡ victim.chunk
+  pub fresh : IsFresh now
+  pub room : IsTelling s → length (entries_in s w.log victim.chunk) ≤ now.room
+  pub standing : SameButCounts w.standing x.standing
+  pub counts : IsTelling s → IsTallied x.standing (entries_in s w.log victim.chunk)
+  pub few : x.standing.fewest ≡ 0
+  pub own_gone : now.room ≤ vec_capacity x.own_gone
+  pub waiting : MakesPlaces now.room w.notices.items x.notices.items
+  pub same : x ≡ record w {
+    standing = x.standing;
+    notices = x.notices;
+    own_gone = x.own_gone;
+    cleaning = Copying victim true;
+    clearing = x.clearing;
+    last_victim = Some victim.chunk;
+    accepted = false;
+  }
+
+-- So the cleaning of a chunk begins, by what was taken for it.
+pub record BeginsWith (b : Begun) (w x : Worker) : Type 0 where
+  pub is : x.clearing ≡ Some b.clearing
+  pub standing : x.standing ≡ record w.standing { tally = Some b.tally; fewest = 0 }
+  pub own_gone : b.clearing.room ≤ vec_capacity x.own_gone
+  pub waiting : MakesPlaces b.clearing.room w.notices.items x.notices.items
+  pub same : x ≡ record w {
+    standing = x.standing;
+    notices = x.notices;
+    own_gone = x.own_gone;
+    cleaning = Copying b.victim true;
+    clearing = x.clearing;
+    last_victim = Some b.victim.chunk;
+    accepted = false;
+  }
+
+-- What a search for a chunk to clean led to: where there was no memory for the cleaning, nothing is another one but that the core winds down.
+abbrev pub Begins : Result Bool Memory → State → Worker → Worker → Type 0
+Begins (Ok true) s w x = BeginsOne s w x
+Begins (Ok false) s w x = BeginsNone s w x
+Begins (Err memory) s w x = (w.stopped ≡ false) × (w.winds_down ≡ false)
+    × (x ≡ record w { winds_down = true })
