@@ -1,6 +1,6 @@
 -- A cleaning that begins: what it leaves of a worker's ties, of its order and of the room rule.
-use Rattle.std.proofs.Common.{◌≡◌, ◌≢◌, ◌⊎◌, inl, inr, ⊎_elim, ℕ, zero, suc, ◌+◌, ◌*◌, ◌^◌, ◌≤◌, ◌<◌, ◌||◌, ◌++◌, Bool, true, false, List, [], ◌∷◌, length, map, Option, Some, None, is_some, refl, sym, ◌∙◌, ap, subst, arith}
-use Rattle.std.specs.Prelude.{nat_le, slice_get}
+use Rattle.std.proofs.Common.{◌≡◌, ◌≢◌, ◌⊎◌, inl, inr, ⊎_elim, ℕ, zero, suc, ◌+◌, ◌*◌, ◌^◌, ◌≤◌, ◌<◌, ◌||◌, ◌++◌, Bool, true, false, List, [], ◌∷◌, length, map, Option, Some, None, is_some, cond, refl, sym, ◌∙◌, ap, subst, arith}
+use Rattle.std.specs.Prelude.{nat_le, option_map, slice_get}
 use Rattle.std.specs.List.{AllByRecursion}
 use Rattle.std.proofs.lemmas.Bool.{and_parts, leb-true}
 use Rattle.pm_region.specs.State.{State, IsTelling}
@@ -15,14 +15,17 @@ use Rattle.core_room.specs.RoomRule.{KeepsRoom, KeepsRoomAtCleaning}
 use Rattle.lazy_alloc.specs.Sets.{free_chunk_count}
 use Rattle.crash_core.specs.declared.names.Notices.{Notices}
 use Rattle.log_standing.specs.NameCounts.{StandingState, count_of, is_told}
-use Rattle.log_standing.specs.NameCounts as counts
+use Rattle.log_standing.specs.Tallies.{TallyState}
+use Rattle.log_entry.specs.declared.entry.Entry.{Entry}
 use Rattle.log_cleaner.specs.Choosing.{copy_lines, has_room}
 use Rattle.log_cleaner.specs.Clearing.{ClearingState}
 use Rattle.log_cleaner.specs.CopyBatch.{Bounds}
-use Rattle.log_cleaner.specs.Tallied.{HasFewest}
+use Rattle.log_cleaner.specs.Copying.{words_sum}
+use Rattle.log_cleaner.specs.Floors.{HasFloors}
 use Rattle.log_cleaner.proofs.ChoiceLaws.{tail_small}
 use Rattle.log_cleaner.proofs.Parts.{chunk_of}
-use Rattle.log_cleaner.proofs.SettledLaws.{settled_same}
+use Rattle.log_cleaner.proofs.FloorLaws.{floors_tally, left_alike, left_searched}
+use Rattle.log_cleaner.proofs.SettledLaws.{settled_alike}
 use Rattle.log_cleaner.proofs.Tallies.{tally_begins}
 use Rattle.group_laws.specs.Places.{Place, members}
 use Rattle.group_laws.specs.State.{Group}
@@ -34,7 +37,7 @@ use Rattle.core_index.specs.Index.{known_at}
 use Rattle.core_worker.specs.declared.types.Cleaning.{Cleaning}
 use Rattle.core_worker.specs.declared.types.Cleaning.TheVariants.{Nothing, Copying}
 use Rattle.core_worker.specs.declared.worker.Worker.{Worker}
-use Rattle.core_worker.specs.BeginsCleaning.{waiting_of, BeginsNone, BeginsOne, MakesPlaces}
+use Rattle.core_worker.specs.BeginsCleaning.{waiting_of, BeginsNone, BeginsOne, LooksForOne, MakesPlaces}
 use Rattle.core_worker.specs.CleaningLeft.{box_left, clears_left, most_words}
 use Rattle.core_worker.specs.KeepsCleaning.{Cleans, IsBegun}
 use Rattle.core_worker.specs.KeyTies.{KnowsKey}
@@ -52,7 +55,6 @@ use Rattle.core_worker.specs.WorkerMoves.{stock_of}
 use Rattle.core_worker.proofs.ChunksKept.{chunk_taken}
 use Rattle.core_worker.proofs.ClearsLeft as clears
 use Rattle.core_worker.proofs.CleaningKept.{keeps_counts, runs_way}
-use Rattle.core_worker.proofs.NamesStood.{none_fewest}
 use Rattle.core_worker.proofs.QuietMoves.{quiet_moves}
 use Rattle.core_worker.proofs.StockFacts.{still_spend, stock_small}
 use Rattle.core_worker.proofs.TurnLaws.{nothing_fixed}
@@ -194,10 +196,16 @@ module _ (s : State) (p : Place) (m : ℕ) (v : View) (w x : Worker) (H : Holds 
   }
 
   told_same : (k n : ℕ) → is_told x.standing k n ≡ is_told w.standing k n
-  told_same k n = ap (λ (st : StandingState). is_told st k n) B.standing
+  told_same k n = ap (λ (st : StandingState). is_told st k n) B.standing ∙ B.looks.names.told k n
 
   count_same : (k n : ℕ) → count_of x.standing k n ≡ count_of w.standing k n
-  count_same k n = ap (λ (st : StandingState). count_of st k n) B.standing
+  count_same k n = ap (λ (st : StandingState). count_of st k n) B.standing ∙ B.looks.names.counts k n
+
+  settled_is : x.standing.settled ≡ w.standing.settled
+  settled_is = ap (λ (st : StandingState). st.settled) B.standing ∙ B.looks.names.settled
+
+  room_is : x.standing.room ≡ w.standing.room
+  room_is = ap (λ (st : StandingState). st.room) B.standing ∙ B.looks.names.room
 
   pub order_now : InOrder p m v begun
   order_now = record {
@@ -216,7 +224,7 @@ module _ (s : State) (p : Place) (m : ℕ) (v : View) (w x : Worker) (H : Holds 
     stops = O.stops;
     agrees = O.agrees;
     log = λ r on. (let L = O.log r on in record { deaths = λ k n is. L.deaths k n (sym (told_same k n) ∙ is); buried = L.buried; own = L.own; heard = L.heard });
-    names = λ r on. (let were = O.names r on in let room = ap (λ (st : StandingState). st.room) B.standing in omega (arith, were, room));
+    names = λ r on. (let were = O.names r on in let room = room_is in omega (arith, were, room));
   }
 
   names_now : w.winds_down ≡ false → IsTelling s → NamesStand s m v.kept v.present v.told v.dead w.log x.standing x.clearing (Copying B.victim true)
@@ -226,10 +234,10 @@ module _ (s : State) (p : Place) (m : ℕ) (v : View) (w x : Worker) (H : Holds 
       record {
         counted = record {
           counts = λ k n. count_same k n ∙ N.counted.counts k n;
-          settled = λ h at. settled_same s w.log w.standing x.standing h (λ k n. ap (λ (st : StandingState). counts.copies_at st k n) B.standing) (N.counted.settled h (sym (ap (λ (st : StandingState). st.settled) B.standing) ∙ at));
+          settled = λ h at. settled_alike s w.log w.standing x.standing h (left_alike w.standing x.standing count_same told_same) (N.counted.settled h (sym settled_is ∙ at));
         };
-        read = λ h at. N.read h (sym (ap (λ (st : StandingState). st.settled) B.standing) ∙ at);
-        fewest = none_fewest s w.log x.standing B.few;
+        read = λ h at. N.read h (sym settled_is ∙ at);
+        floors = subst (λ (st : StandingState). HasFloors s w.log st) (sym B.standing) (floors_tally s w.log B.found.standing x.standing.tally (B.looks.floors (λ t. N.floors) telling));
         knows = record {
           stands = λ k n some. N.knows.stands k n (let c = count_same k n in omega (arith, c, some));
           all = λ k n is. (let c = count_same k n in let some = N.knows.all k n is in omega (arith, c, some));
@@ -240,9 +248,14 @@ module _ (s : State) (p : Place) (m : ℕ) (v : View) (w x : Worker) (H : Holds 
         };
         cleaned = record {
           chunk = B.chosen.has;
-          bounds = subst (λ (st : StandingState). Bounds B.victim st (entries_in s w.log B.victim.chunk)) (sym B.standing) (record { entries = bounds.entries; words = bounds.words });
+          bounds =
+              let left = left_alike w.standing x.standing count_same told_same (entries_in s w.log B.victim.chunk) in
+              let long = ap (λ (l : List (ℕ × Entry)). length l) left in
+              let wide = ap words_sum left in
+              let e = bounds.entries in
+              let f = bounds.words in
+              record { entries = omega (arith, long, e); words = omega (arith, wide, f) };
           counts = B.counts telling;
-          fewest = B.few;
           room = λ c is. (let same : B.now ≡ c = (let both : Some B.now ≡ Some c = sym B.is ∙ is in cc both) in let room = B.room telling in let at = ap (λ (y : ClearingState). y.room) same in omega (arith, room, at));
         };
       }
@@ -295,7 +308,7 @@ module _ (s : State) (p : Place) (m : ℕ) (v : View) (w x : Worker) (H : Holds 
       let was : clears_left w.accepted w.cleaning w.standing w.index w.notices.items ≡ clears_left true Nothing w.standing w.index w.notices.items = (λ i. clears_left (B.accepted i) (raw_nothing i) w.standing w.index w.notices.items) in
       let small = few_words.1 in
       let less = clears.begins w.standing w.index w.notices.items B.victim (omega (arith, small)) in
-      let names = ap (λ (st : StandingState). length st.entries) B.standing in
+      let names = ap (λ (st : StandingState). length st.entries) B.standing ∙ B.looks.names.names in
       let boxes = box_left_was w.notices.items x.notices.items B.waiting.waits in
       let stays = clears.same_left false (Copying B.victim true) w.standing x.standing w.index w.notices.items x.notices.items names boxes in
       omega (arith, same, kept, was, less, stays)
@@ -319,24 +332,30 @@ keeps_begun seat s before v w x H S O nothing clean B made =
           (λ k. refl) refl refl (λ e. inl e) (λ e. e));
     })
 
--- None begins: nothing but the number that a search notes is another one.
+-- None begins: nothing but where a search found the names is another one.
+pub looked_way : (s : State) (w x : Worker) → LooksForOne s w x → under_way x ≡ under_way w
+looked_way s w x B = ap under_way B.same ∙ (λ i. cond (w.stopped || w.winds_down) Nothing (counted_by (option_map (λ (t : TallyState). t.left) (B.names.tally i)) w.cleaning))
+
 pub none_way : (s : State) (w x : Worker) → BeginsNone s w x → under_way x ≡ under_way w
-none_way s w x B = ap under_way B.same
+none_way s w x B = looked_way s w x B.looks
 
 -- there is as much left to do as before
-pub none_left : (s : State) (w x : Worker) → BeginsNone s w x → left x ≡ left w
-none_left s w x B =
+pub looked_left : (s : State) (w x : Worker) → LooksForOne s w x → left x ≡ left w
+looked_left s w x B =
     let same = ap serves_left B.same in
     let kept = ap (λ (y : Worker). clears_left y.accepted y.cleaning y.standing y.index y.notices.items) B.same in
-    let counts = clears.counted w.accepted w.cleaning w.standing (record w.standing { fewest = x.standing.fewest }) w.index w.notices.items refl in
+    let counts = clears.counted w.accepted w.cleaning w.standing x.standing w.index w.notices.items B.names.names in
     omega (arith, same, kept, counts)
 
-module _ (s : State) (p : Place) (m : ℕ) (v : View) (w x : Worker) (H : Holds p m v w) (nothing : LeadsNothing w) (B : BeginsNone s w x) where
-  abbrev looked : Worker
-  looked = record w { standing = record w.standing { fewest = x.standing.fewest } }
+pub none_left : (s : State) (w x : Worker) → BeginsNone s w x → left x ≡ left w
+none_left s w x B = looked_left s w x B.looks
 
-  pub none_holds : Holds p m v x
-  none_holds = subst (λ (y : Worker). Holds p m v y) (sym B.same) (record {
+module _ (s : State) (p : Place) (m : ℕ) (v : View) (w x : Worker) (H : Holds p m v w) (nothing : LeadsNothing w) (B : LooksForOne s w x) where
+  abbrev looked : Worker
+  looked = record w { standing = x.standing }
+
+  pub looked_holds : Holds p m v x
+  looked_holds = subst (λ (y : Worker). Holds p m v y) (sym B.same) (record {
     place = H.place;
     member = H.member;
     core = H.core;
@@ -360,13 +379,13 @@ module _ (s : State) (p : Place) (m : ℕ) (v : View) (w x : Worker) (H : Holds 
     space = λ r. subst (HasSpaceFor looked) (sym nothing.1) tt;
     broken = H.broken;
     lost = H.lost;
-    cleaning = keeps_counts p m v w (record w.standing { fewest = x.standing.fewest }) (λ k n. refl) H.cleaning;
+    cleaning = keeps_counts p m v w x.standing B.names.counts H.cleaning;
     remembers = H.remembers;
     chunks = H.chunks;
   })
 
-  pub none_order : InOrder p m v w → InOrder p m v x
-  none_order O = subst (λ (y : Worker). InOrder p m v y) (sym B.same) (record {
+  pub looked_order : InOrder p m v w → InOrder p m v x
+  looked_order O = subst (λ (y : Worker). InOrder p m v y) (sym B.same) (record {
     owned = O.owned;
     single = O.single;
     distinct = O.distinct;
@@ -381,12 +400,12 @@ module _ (s : State) (p : Place) (m : ℕ) (v : View) (w x : Worker) (H : Holds 
     hand = O.hand;
     stops = O.stops;
     agrees = O.agrees;
-    log = λ r on. (let L = O.log r on in record { deaths = L.deaths; buried = L.buried; own = L.own; heard = L.heard });
-    names = O.names;
+    log = λ r on. (let L = O.log r on in record { deaths = λ k n is. L.deaths k n (sym (B.names.told k n) ∙ is); buried = L.buried; own = L.own; heard = L.heard });
+    names = λ r on. (let were = O.names r on in let room = B.names.room in omega (arith, were, room));
   })
 
-  pub none_stands : Stands s p m v w → under_way w ≡ Nothing → Stands s p m v x
-  none_stands S clean = subst (λ (y : Worker). Stands s p m v y) (sym B.same) (record {
+  pub looked_stands : Stands s p m v w → under_way w ≡ Nothing → Stands s p m v x
+  looked_stands S clean = subst (λ (y : Worker). Stands s p m v y) (sym B.same) (record {
     lies = S.lies;
     licensed = S.licensed;
     landed = S.landed;
@@ -395,19 +414,29 @@ module _ (s : State) (p : Place) (m : ℕ) (v : View) (w x : Worker) (H : Holds 
     due = S.due;
     cut = S.cut;
     names = λ r on telling. (let N = S.names r on telling in record {
-      counted = record { counts = N.counted.counts; settled = λ h at. settled_same s w.log w.standing (record w.standing { fewest = x.standing.fewest }) h (λ k n. refl) (N.counted.settled h at) };
-      read = N.read;
-      fewest = subst (λ (st : StandingState). HasFewest s w.log st) (ap (λ (y : Worker). y.standing) B.same) (B.fewest (λ t. N.fewest) telling);
-      knows = record { stands = N.knows.stands; all = N.knows.all; deaths = N.knows.deaths; buried = N.knows.buried; own = N.knows.own; heard = N.knows.heard };
-      cleaned = subst (λ (c : Cleaning). IsCleanedBy s w.log (record w.standing { fewest = x.standing.fewest }) w.clearing c) (sym (nothing_raw (left_in w.standing) w.cleaning (sym (runs_way w r on) ∙ clean))) tt;
+      counted = record {
+        counts = λ k n. B.names.counts k n ∙ N.counted.counts k n;
+        settled = λ h at. settled_alike s w.log w.standing x.standing h (left_searched w.standing x.standing B.names) (N.counted.settled h (sym B.names.settled ∙ at));
+      };
+      read = λ h at. N.read h (sym B.names.settled ∙ at);
+      floors = B.floors (λ t. N.floors) telling;
+      knows = record {
+        stands = λ k n some. N.knows.stands k n (let c = B.names.counts k n in omega (arith, c, some));
+        all = λ k n is. (let c = B.names.counts k n in let some = N.knows.all k n is in omega (arith, c, some));
+        deaths = λ k n. B.names.told k n ∙ N.knows.deaths k n;
+        buried = N.knows.buried;
+        own = N.knows.own;
+        heard = N.knows.heard;
+      };
+      cleaned = subst (λ (c : Cleaning). IsCleanedBy s w.log x.standing w.clearing c) (sym (nothing_raw (left_in w.standing) w.cleaning (sym (runs_way w r on) ∙ clean))) tt;
     });
   })
 
-  pub none_room : HasKeptRoom w → HasKeptRoom x
-  none_room had = subst (λ (y : Worker). HasKeptRoom y) (sym B.same) had
+  pub looked_room : HasKeptRoom w → HasKeptRoom x
+  looked_room had = subst (λ (y : Worker). HasKeptRoom y) (sym B.same) (subst (λ (t : Option TallyState). HasKeptRoom (record w { standing = record w.standing { tally = t } })) (sym B.names.tally) had)
 
 -- What the turn does then, by what the core was before its search.
-pub keeps_searched : (seat : SeatAt) (s t : State) (before after : Option Group) (v u : View) (w y x : Worker) → HoldsAt seat v w → LeadsNothing w → BeginsNone s w y → KeepsTurn seat s t before after v u y x → KeepsTurn seat s t before after v u w x
+pub keeps_searched : (seat : SeatAt) (s t : State) (before after : Option Group) (v u : View) (w y x : Worker) → HoldsAt seat v w → LeadsNothing w → LooksForOne s w y → KeepsTurn seat s t before after v u y x → KeepsTurn seat s t before after v u w x
 keeps_searched seat s t before after v u w y x H nothing B K =
     let M = subst (λ (z : Worker). TurnMoves seat s t before after v u z x) B.same K.moves in
     record {
@@ -416,6 +445,6 @@ keeps_searched seat s t before after v u w y x H nothing B K =
       holds = K.holds;
       stands = K.stands;
       order = K.order;
-      rule = λ r had. K.rule r (none_room s seat.place seat.number v w y H nothing B had);
+      rule = λ r had. K.rule r (looked_room s seat.place seat.number v w y H nothing B had);
       moves = record { fixed = M.fixed; answers = M.answers; moves = M.moves };
     }

@@ -9,7 +9,9 @@ use Rattle.group_laws.specs.Places.{Place}
 use Rattle.group_laws.specs.MemberViews.{View, view_of}
 use Rattle.group_board.specs.Seats.{SeatAt}
 use Rattle.core_worker.specs.declared.worker.Worker.{Worker}
-use Rattle.core_worker.specs.BeginsCleaning.{Begins, BeginsNone, BeginsOne}
+use Rattle.log_cleaner.specs.Floors.{Searches}
+use Rattle.log_standing.specs.NameCounts.{StandingState}
+use Rattle.core_worker.specs.BeginsCleaning.{Begins, BeginsNone, BeginsOne, LooksForOne}
 use Rattle.core_worker.specs.Left.{Lowers}
 use Rattle.core_worker.specs.Mails.{NoneTold, PassesMail}
 use Rattle.core_worker.specs.Order.{InOrder}
@@ -17,10 +19,11 @@ use Rattle.core_worker.specs.Readying.{PassesSending, SendsShort, TakesDead}
 use Rattle.core_worker.specs.Sending.{KeepsTies}
 use Rattle.core_worker.specs.Ties.{Holds, HoldsAt, LeadsNothing, Stands, StandsAt}
 use Rattle.core_worker.specs.Turning.{Did, KeepsTurn, at_entry}
+use Rattle.core_worker.specs.Turning.Did.{winds}
 use Rattle.core_worker.specs.Turns.{InOrderAt, PassesItems, PassesPost}
 use Rattle.core_worker.proofs.AcceptedOrder.{wound_order}
 use Rattle.core_worker.proofs.SendTurns.{keeps_short, looks_none, none_yet}
-use Rattle.core_worker.proofs.SentTurns.{passes_is, passes_takes, winds_did}
+use Rattle.core_worker.proofs.SentTurns.{passes_is, passes_takes}
 use Rattle.core_worker.proofs.Winding.{wound_holds, wound_stands}
 
 pub was_begun : (b : Bool) (s : State) (w x : Worker) → b ≡ true → Begins (Ok b) s w x → BeginsOne s w x
@@ -64,11 +67,24 @@ told_by p m w looks runs works mail = ⊎_elim
     (λ rest. ⊎_elim (λ winds. absurd (let both : true ≡ false = sym winds ∙ works in cc both)) (λ none. none) rest)
     mail
 
-pub wound_did : (s : State) (refused : Bool) (start before : Option Group) (seat : SeatAt) (v v0 : View) (w y x : Worker) → IfSome before (λ u. (seat.place ≡ u.place) × (v0 ≡ view_of u seat.number)) → y.stopped ≡ false → y.winds_down ≡ false → PassesPost refused w → (P : PassesItems seat.number (at_entry w v) 8 v0) → PassesMail seat.place seat.number w P.looked.looks → PassesSending seat.place seat.number w y P.looked.looks → x ≡ record y { winds_down = true } → Did s s refused start seat (at_entry w v) (at_entry x v0)
-wound_did s refused start before seat v v0 w y x agrees runs works post P mail sending same =
+pub wound_did : (s : State) (refused : Bool) (start before : Option Group) (seat : SeatAt) (v v0 : View) (w y f x : Worker) → y.stopped ≡ false → y.winds_down ≡ false → PassesPost refused w → (P : PassesItems seat.number (at_entry w v) 8 v0) → PassesMail seat.place seat.number w P.looked.looks → PassesSending seat.place seat.number w y P.looked.looks
+    → LooksForOne s y f → x ≡ record f { winds_down = true } → Did s s refused start seat (at_entry w v) (at_entry x v0)
+wound_did s refused start before seat v v0 w y f x runs works post P mail sending looks same =
     let is = passes_is seat.place seat.number w y P.looked.looks sending in
     let runs_w : w.stopped ≡ false = sym (ap (λ (z : Worker). z.stopped) is) ∙ runs in
     let works_w : w.winds_down ≡ false = sym (ap (λ (z : Worker). z.winds_down) is) ∙ works in
     let T = passes_takes seat.place seat.number w y P.looked.looks sending in
-    winds_did s refused start before before seat v v0 v0 w x runs_w works_w post P (told_by seat.place seat.number w P.looked.looks runs_w works_w mail)
-    (subst (SendsShort seat.place seat.number before before v0 v0 w) (sym same) (short_of seat.place seat.number before v0 w y agrees T.0))
+    let standing : x.standing ≡ f.standing = ap (λ (z : Worker). z.standing) same in
+    winds refl (record {
+      mid = v0;
+      before = P;
+      post = post;
+      runs = (runs_w, works_w);
+      empty = told_by seat.place seat.number w P.looked.looks runs_w works_w mail;
+      ready = record y { winds_down = true };
+      takes = wound_takes seat.place w y T.0;
+      winds = refl;
+      same = same ∙ ap (λ (z : Worker). record z { winds_down = true }) looks.same ∙ (λ i. record (record y { winds_down = true }) { standing = sym standing i });
+      names = subst (Searches y.standing) (sym standing) looks.names;
+      view = refl;
+    })

@@ -225,7 +225,7 @@ module _ (s : State) (p : Place) (m : ℕ) (v : View) (w : Worker) (victim : Vic
     free = S.free;
     due = S.due;
     cut = S.cut;
-    names = λ r on telling. let N = S.names r on telling in record { counted = N.counted; read = N.read; fewest = N.fewest; knows = N.knows; cleaned = tt };
+    names = λ r on telling. let N = S.names r on telling in record { counted = N.counted; read = N.read; floors = N.floors; knows = N.knows; cleaned = tt };
   }
 
   left_order : InOrder p m v leaves

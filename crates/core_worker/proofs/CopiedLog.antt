@@ -1,11 +1,11 @@
 -- The log, the allocator and the numbers after a batch of copies.
-use Rattle.std.proofs.Common.{◌≡◌, ◌⊎◌, inl, inr, ℕ, zero, suc, ◌+◌, ◌-◌, ◌/◌, ◌≤◌, ◌<◌, ltb, Bool, true, false, cond, List, length, Option, Some, None, refl, sym, ◌∙◌, ap, arith}
+use Rattle.std.proofs.Common.{◌≡◌, ◌≢◌, ◌⊎◌, inl, inr, ℕ, zero, suc, ◌+◌, ◌-◌, ◌/◌, ◌≤◌, ◌<◌, ltb, Bool, true, false, cond, List, length, Option, Some, None, refl, sym, ◌∙◌, ap, arith}
 use Rattle.std.specs.Prelude.{is_some, unwrap_or}
 use Rattle.std.proofs.lemmas.Bool.{ltb-false}
 use Rattle.pm_region.specs.Words.{lines_for}
 use Rattle.core_log.specs.Chunk.{padded}
 use Rattle.core_log.specs.Log.{LogState, tail_of, with_tail, room_of, lines_left, open_number, open_tail}
-use Rattle.core_log.proofs.Clients.{tail_set}
+use Rattle.core_log.proofs.Clients.{tail_other, tail_set}
 use Rattle.chunk_map.specs.Layouts.{payload_lines}
 use Rattle.core_room.specs.CleaningRoom.{left_after, left_words, lines_after}
 use Rattle.core_room.specs.Lengths.{lines_to_copy}
@@ -37,6 +37,15 @@ opened_part log (Some j) = refl
 pub copied_more : (n : ℕ) (log : LogState) (ws : List ℕ) (i : ℕ) → is_some (tail_of log.chunks i) ≡ true → is_some (tail_of (copied_to n log ws).chunks i) ≡ true
 copied_more zero log ws i has = has
 copied_more (suc n) log ws i has = has_more log.chunks (open_number log) (open_tail log + length (padded ws)) i has
+
+-- each other chunk has its tail
+pub copied_else : (n : ℕ) (log : LogState) (ws : List ℕ) (i : ℕ) → i ≢ open_number log → tail_of (copied_to n log ws).chunks i ≡ tail_of log.chunks i
+copied_else zero log ws i ne = refl
+copied_else (suc n) log ws i ne = tail_other log.chunks (open_number log) (open_tail log + length (padded ws)) i ne
+
+pub opened_else : (log : LogState) (o : Option ℕ) (i : ℕ) → i ≢ open_number (opened_for log o) → tail_of (opened_for log o).chunks i ≡ tail_of log.chunks i
+opened_else log None i ne = refl
+opened_else log (Some j) i ne = tail_other log.chunks j 0 i ne
 
 -- each chunk is its allocator's or its log's
 pub chunks_copied : (k : ℕ) (f : Bool) (old new : Sets) (o : Option ℕ) (log log' : LogState) (n : ℕ) (ws : List ℕ) → AreSets old → TakesFor f old new o → HasOpen log o → log' ≡ copied_to n (opened_for log o) ws

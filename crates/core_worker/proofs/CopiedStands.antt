@@ -7,18 +7,22 @@ use Rattle.pm_region.specs.Words.{KeepsOutside, Surely}
 use Rattle.pm_region.proofs.Clients.{at_exit, told_at_entry, surely_kept}
 use Rattle.chunk_map.specs.declared.layouts.Geometry.{Geometry}
 use Rattle.chunk_map.specs.Layouts.{chunk_first, chunk_words, part_first}
+use Rattle.chunk_map.proofs.Clients.{chunks_apart}
 use Rattle.store_image.proofs.Clients.{layout_numbers}
 use Rattle.log_entry.specs.declared.entry.Entry.{Entry}
-use Rattle.core_log.specs.Log.{LogState, IsOwn, tail_of, first_of, open_first, open_number}
+use Rattle.core_log.specs.Log.{LogState, IsOwn, chunk_with, tail_in, tail_of, first_of, open_first, open_number}
 use Rattle.core_log.specs.Walking.{entries_in}
-use Rattle.core_log.proofs.Clients.{outside_chunk}
+use Rattle.core_log.proofs.Clients.{outside_chunk, tail_fits}
 use Rattle.lazy_alloc.specs.Sets.{chunk_class}
 use Rattle.log_standing.specs.NameCounts.{StandingState}
 use Rattle.log_cleaner.specs.declared.types.Victim.{Victim}
 use Rattle.log_cleaner.specs.Copying.{words_sum}
 use Rattle.log_cleaner.specs.CopyBatch.{Bounds, IsLess, next_batch}
 use Rattle.log_cleaner.specs.Tallied.{IsTallied}
+use Rattle.log_cleaner.proofs.FloorLaws.{floors_moved}
+use Rattle.log_cleaner.proofs.Parts.{chunk_of, entries_still}
 use Rattle.log_cleaner.proofs.Tallies.{words_long}
+use Rattle.log_cleaner.proofs.TallyLaws.{floors_kept}
 use Rattle.group_laws.specs.Places.{Place}
 use Rattle.group_laws.specs.MemberViews.{View}
 use Rattle.licence.specs.Licence.{Licensed}
@@ -27,19 +31,22 @@ use Rattle.core_worker.specs.declared.types.Cleaning.TheVariants.{Copying}
 use Rattle.core_worker.specs.declared.types.Leading.TheVariants as leads
 use Rattle.core_worker.specs.declared.worker.Worker.{Worker}
 use Rattle.core_worker.specs.CopyItems.{CopiesOn, needs_chunk}
+use Rattle.core_worker.specs.Counted.{MayOpen}
+use Rattle.core_worker.specs.TakenChunks.{TakesFor}
 use Rattle.core_worker.specs.CopyTurns.{CopiesInRegion, left_of}
 use Rattle.core_worker.specs.KeepsCleaning.{Cleans}
-use Rattle.core_worker.specs.LogNames.{CopiesIn, IsCleanedBy, NamesStand}
+use Rattle.core_worker.specs.LogNames.{CopiesIn, IsCleanedBy, IsClosed, NamesStand}
 use Rattle.core_worker.specs.OwnChunks.{IsFreeOrData}
 use Rattle.core_worker.specs.Supplies.{under_way}
 use Rattle.core_worker.specs.Ties.{LeadsAt, Holds, Stands}
 use Rattle.core_worker.proofs.ChunksKept.{opened_here}
 use Rattle.core_worker.proofs.CopiedHolds as copied
-use Rattle.core_worker.proofs.CopiedLog.{copied_layout, copied_part, copied_more, opened_part}
+use Rattle.core_worker.proofs.CopiedLog.{room_open, copied_else, copied_layout, copied_opened, copied_part, copied_more, opened_else, opened_part}
+use Rattle.core_worker.proofs.Counted as logged
+use Rattle.core_worker.proofs.Counted.{other_open}
 use Rattle.core_worker.proofs.DoomedHolds as cleaning
 use Rattle.core_worker.proofs.Led.{runs_whole}
-use Rattle.core_worker.proofs.NamesStood.{few_none, none_fewest}
-use Rattle.core_worker.proofs.Writing.{Same, takes_same, in_chunks, opened_layout}
+use Rattle.core_worker.proofs.Writing.{Same, taken_free, takes_same, in_chunks, opened_layout}
 
 -- what is left is within the numbers that are left
 pub bounds_left : (victim : Victim) (old new : StandingState) (es : List (ℕ × Entry)) (n : ℕ) (k : ℕ) → n ≡ length (next_batch old es) → k ≡ words_sum (next_batch old es) → IsLess old new es → Bounds victim old es → Bounds (left_of victim n k) new es
@@ -130,6 +137,32 @@ module _ (s t : State) (p : Place) (m : ℕ) (v : View) (w x : Worker) (victim :
   some_class None e = absurd (cc e)
   some_class (Some c) e = refl
 
+  -- a closed chunk of the log stays one, and has the entries that it had
+  may_open : IsTelling s → MayOpen w.log K.fresh
+  may_open telling = by K.fresh refl where
+    by : (o : Option ℕ) → K.fresh ≡ o → MayOpen w.log K.fresh
+    by None e = subst (MayOpen w.log) (sym e) (let room = K.fits e in room_open w.log (omega (arith, room, some)))
+    by (Some j) e =
+        let free = taken_free (needs_chunk first w) w.allocator x.allocator j (subst (λ (f : Option ℕ). TakesFor (needs_chunk first w) w.allocator x.allocator f) e K.takes) in
+        subst (MayOpen w.log) (sym e) (subst (λ (l : Geometry). j < l.chunks) (H.allocator_layout ∙ sym H.log_layout) (H.sets.free_in j free).0, (S.free runs j free telling).0)
+
+  tail_kept : (j : ℕ) → j ≢ n → tail_of x.log.chunks j ≡ tail_of w.log.chunks j
+  tail_kept j ne = ap (λ (l : LogState). tail_of l.chunks j) K.batch.log_is ∙ copied_else K.count opened K.words j ne ∙ opened_else w.log K.fresh j ne
+
+  closed_stays : IsTelling t → (j : ℕ) → IsClosed w.log j → IsClosed x.log j × (entries_in t x.log j ≡ entries_in s w.log j)
+  closed_stays telling j was =
+      let ne = other_open w.log K.fresh (may_open (told telling)) j was.has was.closed in
+      let fits = (tail_fits w.log.layout own.layout (chunk_with j (tail_in w.log j)) (chunk_of s w.log (S.log runs) j was.has)).0 in
+      let at = open_at in
+      let wide = ap chunk_words (opened_layout w.log K.fresh) in (
+        record {
+          has = ap is_some (tail_kept j ne) ∙ was.has;
+          closed = λ same. logged.still_closed w.log K.fresh j ne was.closed (sym (ap (λ (l : LogState). l.opened) K.batch.log_is ∙ copied_opened K.count opened K.words) ∙ same);
+        },
+        entries_still s t w.log x.log j (open_first opened) (open_first opened + chunk_words opened.layout) chunk telling layout_is part_is (tail_kept j ne)
+            (λ u ge lt. ⊎_elim (λ a. inl (omega (arith, a, lt, fits, at))) (λ b. inr (omega (arith, b, ge, at, wide))) (chunks_apart w.log.layout w.log.part j n ne)),
+      )
+
   names_now : w.winds_down ≡ false → IsTelling t → NamesStand t m v.kept v.present v.told v.dead x.log x.standing w.clearing (Copying (left_of victim K.count (length K.words)) false)
   names_now on telling =
       let had = S.names runs on (told telling) in
@@ -137,7 +170,6 @@ module _ (s t : State) (p : Place) (m : ℕ) (v : View) (w x : Worker) (victim :
       let begun = cleaning.begun p m v w H victim first way in
       let chunk_is : C.now.chunk ≡ victim.chunk = begun.chunk in
       let cleaned = cleaning.copies_in p m v w H victim first way s had.cleaned in
-      let none_few = few_none w.standing x.standing K.batch.tally cleaned.fewest in
       let batch = R.batch telling in
       let long = ap (λ (ws : List ℕ). length ws) batch.words ∙ words_long (next_batch w.standing (entries_in s w.log victim.chunk)) in
       record {
@@ -146,7 +178,7 @@ module _ (s t : State) (p : Place) (m : ℕ) (v : View) (w x : Worker) (victim :
           has = subst (λ (j : ℕ). is_some (tail_of x.log.chunks j) ≡ true) (sym (K.batch.read h at)) (copied.log_more p m v w x victim first H own way some K victim.chunk cleaned.chunk);
           closed = λ same. copied.still_closed p m v w x victim first H own way some K (same ∙ ap Some (K.batch.read h at ∙ sym chunk_is));
         };
-        fewest = none_fewest t x.log x.standing none_few;
+        floors = floors_moved s t w.log x.log x.standing (closed_stays telling) (floors_kept s w.log w.standing x.standing K.batch.tally had.floors);
         knows = record {
           stands = λ k i yes. had.knows.stands k i (X.stood k i yes);
           all = λ k i is. X.stands k i (had.knows.all k i is);
@@ -160,7 +192,6 @@ module _ (s t : State) (p : Place) (m : ℕ) (v : View) (w x : Worker) (victim :
           bounds = subst (λ (es : List (ℕ × Entry)). Bounds (left_of victim K.count (length K.words)) x.standing es) (sym (R.chunk telling))
               (bounds_left victim w.standing x.standing (entries_in s w.log victim.chunk) K.count (length K.words) batch.count long (R.less telling) cleaned.bounds);
           counts = subst (IsTallied x.standing) (sym (R.chunk telling)) (K.batch.tally.tally (entries_in s w.log victim.chunk) cleaned.counts);
-          fewest = none_few;
           room = λ c is. (let room = cleaned.room c is in let same = ap (λ (es : List (ℕ × Entry)). length es) (R.chunk telling) in omega (arith, room, same));
         };
       }

@@ -79,7 +79,6 @@ counted_in s log st c v left chunk is C = record {
     words = le-min C.bounds.words (let e = C.counts.of.words in omega (arith, e));
   }));
   counts = subst (λ (j : ℕ). IsTallied st (entries_in s log j)) (sym chunk) C.counts;
-  fewest = C.fewest;
   room = λ x has. subst (λ (j : ℕ). length (entries_in s log j) ≤ x.room) (sym chunk) (C.room x has);
 }
 
@@ -278,7 +277,7 @@ module _ (s : State) (p : Place) (m : ℕ) (v u : View) (w x : Worker) (H : Hold
     names = λ r on telling. let N = S.names r on telling in record {
       counted = N.counted;
       read = N.read;
-      fewest = N.fewest;
+      floors = N.floors;
       knows = N.knows;
       cleaned = clears_now S telling;
     };

@@ -5,7 +5,7 @@ use Rattle.log_entry.specs.declared.entry.EntryName.{EntryName}
 use Rattle.core_index.specs.Index.{known_at}
 use Rattle.core_index.specs.Records.{block_of}
 use Rattle.log_standing.specs.declared.types.Copies.{Copies}
-use Rattle.log_standing.specs.NameCounts.{count_in, told_in, copies_at, count_of, is_told, times_in}
+use Rattle.log_standing.specs.NameCounts.{one_fewer, count_in, told_in, copies_at, count_of, is_told, times_in}
 use Rattle.pm_region.specs.State.{State}
 use Rattle.core_log.specs.Walking.{entries_in}
 use Rattle.log_cleaner.specs.Clearing.{ClearingState, IsReady}
@@ -106,8 +106,8 @@ module _ (p : Place) (m : ℕ) (v u : View) (w x : Worker) (c : ClearingState) (
     lowers None t = absurd (cc t)
     lowers (Some y) t = first (y.count == 1) refl t where
       first : (b : Bool) → (y.count == 1) ≡ b → told_in (one_less y) ≡ true → (y.dead ≡ true) × (y.count ≢ 1)
-      first true e t = absurd (let q : false ≡ true = sym (ap (λ (b : Bool). told_in (cond b None (Some (record { count = y.count - 1; dead = y.dead })))) e) ∙ t in cc q)
-      first false e t = (sym (ap (λ (b : Bool). told_in (cond b None (Some (record { count = y.count - 1; dead = y.dead })))) e) ∙ t, λ one. (let q : true ≡ false = sym (eq-eqb y.count 1 one) ∙ e in cc q))
+      first true e t = absurd (let q : false ≡ true = sym (ap (λ (b : Bool). told_in (cond b None (Some (one_fewer y)))) e) ∙ t in cc q)
+      first false e t = (sym (ap (λ (b : Bool). told_in (cond b None (Some (one_fewer y)))) e) ∙ t, λ one. (let q : true ≡ false = sym (eq-eqb y.count 1 one) ∙ e in cc q))
 
     by : (b : Bool) → (times_in c.names k n == 0) ≡ b → (is_told w.standing k n ≡ true) × (has c.doomed k n ≡ false)
     by true none = (sym (ap told_in (E.ends.drops k n ∙ ap (λ (b : Bool). cond b (copies_at w.standing k n) (lowered (copies_at w.standing k n))) none)) ∙ is, off (has c.doomed k n) refl) where

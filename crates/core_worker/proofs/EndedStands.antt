@@ -21,7 +21,6 @@ use Rattle.core_worker.specs.declared.worker.Worker.{Worker}
 use Rattle.core_worker.specs.EndsCleaning.{EndsIn, EndsInRegion}
 use Rattle.core_worker.specs.LogNames.{IsCleanedBy}
 use Rattle.core_worker.specs.Ties.{LeadsAt, Holds, Stands}
-use Rattle.core_worker.proofs.NamesStood.{none_fewest}
 use Rattle.core_worker.proofs.Led.{runs_whole}
 
 module _ (s t : State) (p : Place) (m : ℕ) (v u : View) (w x : Worker) (c : ClearingState) (H : Holds p m v w) (S : Stands s p m v w) (E : EndsIn p m v u w x c) (R : EndsInRegion s t p m u w x c) where
@@ -92,7 +91,7 @@ module _ (s t : State) (p : Place) (m : ℕ) (v u : View) (w x : Worker) (c : Cl
     names = λ r on telling. record {
       counted = R.counted telling;
       read = λ h at. absurd (let both : None ≡ Some h = sym R.read ∙ at in cc both);
-      fewest = none_fewest t x.log x.standing R.fewest;
+      floors = R.floors telling (S.names E.runs (sym (ap (λ (y : Worker). y.winds_down) E.same) ∙ on) (told telling)).floors;
       knows = R.names (told telling);
       cleaned = subst (λ (d : Cleaning). IsCleanedBy t x.log x.standing x.clearing d) (sym (ap (λ (y : Worker). y.cleaning) E.same)) tt;
     };

@@ -74,7 +74,7 @@ told_killed (Some c) some = refl
 
 -- one name more
 module _ (home : ℕ) (first es next : List (ℕ × Place)) (old st now : StandingState) (name : EntryName) (t : Tells es next home name) (kills : Changes st now name.key name.version (option_map killed (copies_at st name.key name.version)))
-    (settled : now.settled ≡ st.settled) (room : now.room ≡ st.room) (tally : now.tally ≡ counts.tally_without st name.key name.version) (fewest : now.fewest ≡ counts.fewest_without st name.key name.version) (S : TellsSoFar home first es old st) where
+    (settled : now.settled ≡ st.settled) (room : now.room ≡ st.room) (tally : now.tally ≡ counts.tally_without st name.key name.version) (floors : counts.LowersFloors st now name.key name.version) (S : TellsSoFar home first es old st) where
   hears_next : Hears home first next
   hears_next = hears_more home first es next name S.hears t
 
@@ -152,7 +152,7 @@ module _ (home : ℕ) (first es next : List (ℕ × Place)) (old st now : Standi
     all = all_now;
     settled = settled ∙ S.settled;
     room = room ∙ S.room;
-    tally = keeps_both old st now S.tally (kill_tally st now name.key name.version kills tally fewest);
+    tally = keeps_both old st now S.tally (kill_tally st now name.key name.version kills tally floors);
   }
 
 -- where none awaits any more, all were told

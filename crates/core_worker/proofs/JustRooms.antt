@@ -422,7 +422,7 @@ just_copies t p m a b refused C J =
 
 -- nor does a search
 just_searched : (s : State) (w y : Worker) → BeginsNone s w y → HasJustRoom w → HasJustRoom y
-just_searched s w y B J = subst HasJustRoom (sym B.same) J
+just_searched s w y B J = subst HasJustRoom (sym B.looks.same) J
 
 just_did : (s t : State) (refused : Bool) (before : Option Group) (seat : SeatAt) (a b : Moment) → AreApart a.worker.places.items → Did s t refused before seat a b → HasJustRoom a.worker → HasJustRoom b.worker
 just_did s t refused before seat a b apart (Did.goes_round calm (inl C)) J = same_leading a.worker b.worker C.same J
@@ -437,7 +437,7 @@ just_did s t refused before seat a b apart (Did.loses_block L) J = just_stopped 
 just_did s t refused before seat a b apart (Did.drops calm all D) J = just_stopped b.worker (ap (λ (y : Worker). y.stopped) D.drops.rest ∙ ap (λ (y : Worker). y.stopped) D.drops.puts.lets.rest ∙ D.stopped)
 just_did s t refused before seat a b apart (Did.receives calm R) J = just_receives refused seat.place seat.number a b R J
 just_did s t refused before seat a b apart (Did.sends calm S) J = just_sends refused seat.place seat.number a b S J
-just_did s t refused before seat a b apart (Did.winds calm W) J = just_winds b.worker W.winds
+just_did s t refused before seat a b apart (Did.winds calm W) J = just_winds b.worker (ap (λ (y : Worker). y.winds_down) W.same ∙ W.winds)
 just_did s t refused before seat a b apart (Did.dooms calm D) J = just_dooms s seat.place seat.number D.mid b.view D.ready b.worker D.dooms (just_passed seat.place seat.number a.worker D.ready D.before.looked.looks D.sending J)
 just_did s t refused before seat a b apart (Did.copies C) J = just_copies t seat.place seat.number a b refused C J
 just_did s t refused before seat a b apart (Did.loses_copies L) J = just_stopped b.worker (ap (λ (y : Worker). y.stopped) L.lost.same)

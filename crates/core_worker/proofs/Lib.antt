@@ -137,6 +137,5 @@ mod JustRooms
 mod CountedFaults
 mod SendingLaws
 mod WiderBoxes
-mod BegunLaws
 mod BegunHolds
 mod BegunTurns

@@ -10,7 +10,7 @@ use Rattle.core_index.specs.Records.{KeyRecord, Awaits, standing_at, standing_of
 use Rattle.core_index.specs.Slots as slots
 use Rattle.core_index.proofs.Clients.{found_version}
 use Rattle.log_standing.specs.declared.types.Copies.{Copies}
-use Rattle.log_standing.specs.NameCounts.{StandingState, name_eq, copies_at, count_in, count_of, is_told, killed, wants, bit, times_in, copies_with, Changes, tally_without, fewest_without}
+use Rattle.log_standing.specs.NameCounts.{StandingState, name_eq, copies_at, count_in, count_of, is_told, killed, wants, bit, times_in, one_fewer, Changes, tally_without, LowersFloors}
 use Rattle.log_standing.specs.NameCounts as counts
 use Rattle.log_standing.specs.ChunkCounts.{is_named, has_name}
 use Rattle.log_standing.proofs.Clients.{same_name}
@@ -52,13 +52,13 @@ killed_twice None = refl
 killed_twice (Some c) = refl
 
 pub kills_more : (ns : List EntryName) (i : ℕ) → i < length ns → (old mid new : StandingState) → KillsNames (take i ns) old mid
-    → Changes mid new (get_or ns i none).key (get_or ns i none).version (option_map killed (copies_at mid (get_or ns i none).key (get_or ns i none).version)) → new.settled ≡ mid.settled → new.room ≡ mid.room → length new.entries ≡ length mid.entries → new.tally ≡ tally_without mid (get_or ns i none).key (get_or ns i none).version → new.fewest ≡ fewest_without mid (get_or ns i none).key (get_or ns i none).version → KillsNames (take (i + 1) ns) old new
-kills_more ns i lt old mid new K C settled room count tally fewest = subst (λ (j : ℕ). KillsNames (take j ns) old new) (let e : suc i ≡ i + 1 = omega arith in e) (record {
+    → Changes mid new (get_or ns i none).key (get_or ns i none).version (option_map killed (copies_at mid (get_or ns i none).key (get_or ns i none).version)) → new.settled ≡ mid.settled → new.room ≡ mid.room → length new.entries ≡ length mid.entries → new.tally ≡ tally_without mid (get_or ns i none).key (get_or ns i none).version → LowersFloors mid new (get_or ns i none).key (get_or ns i none).version → KillsNames (take (i + 1) ns) old new
+kills_more ns i lt old mid new K C settled room count tally floors = subst (λ (j : ℕ). KillsNames (take j ns) old new) (let e : suc i ≡ i + 1 = omega arith in e) (record {
   copies = λ k n. C k n ∙ by k n (name_eq (name.key, name.version) (k, n)) refl ∙ ap (λ (b : Bool). cond b (option_map killed (copies_at old k n)) (copies_at old k n)) (sym (has_more ns i lt k n));
   settled = settled ∙ K.settled;
   room = room ∙ K.room;
   count = count ∙ K.count;
-  tally = keeps_both old mid new K.tally (kill_tally mid new name.key name.version C tally fewest);
+  tally = keeps_both old mid new K.tally (kill_tally mid new name.key name.version C tally floors);
 }) where
   name : EntryName
   name = get_or ns i none
@@ -290,14 +290,14 @@ module _ (o : Option Copies) where
   less_one = by o where
     by : (x : Option Copies) → count_in x ≡ 1 → lowered x ≡ None
     by None e = refl
-    by (Some c) e = ap (λ (b : Bool). cond b None (Some (copies_with (c.count - 1) c.dead))) (eq-eqb c.count 1 e)
+    by (Some c) e = ap (λ (b : Bool). cond b None (Some (one_fewer c))) (eq-eqb c.count 1 e)
 
   less_more : count_in o ≢ 1 → (count_in (lowered o) ≡ count_in o - 1) × (counts.told_in (lowered o) ≡ counts.told_in o)
   less_more = by o where
     by : (x : Option Copies) → count_in x ≢ 1 → (count_in (lowered x) ≡ count_in x - 1) × (counts.told_in (lowered x) ≡ counts.told_in x)
     by None ne = (refl, refl)
     by (Some c) ne =
-        let other = ap (λ (b : Bool). cond b None (Some (copies_with (c.count - 1) c.dead))) (ne_eqb c.count 1 ne) in
+        let other = ap (λ (b : Bool). cond b None (Some (one_fewer c))) (ne_eqb c.count 1 ne) in
         (ap count_in other, ap counts.told_in other)
 
 bit_some : (b : Bool) → 0 < bit b → b ≡ true

@@ -4,7 +4,7 @@ use Rattle.std.proofs.lemmas.List.Sums.{sum_by-cons}
 use Rattle.log_entry.specs.declared.entry.Entry.{Entry}
 use Rattle.log_entry.specs.declared.entry.EntryName.{EntryName}
 use Rattle.log_standing.specs.declared.types.Copies.{Copies}
-use Rattle.log_standing.specs.NameCounts.{StandingState, name_eq, copies_at, count_in, count_of, is_told, one_more, Changes}
+use Rattle.log_standing.specs.NameCounts.{StandingState, name_eq, copies_at, count_in, count_of, is_told, one_more, spot_of, Changes}
 use Rattle.log_standing.specs.NameCounts as counts
 use Rattle.log_standing.proofs.Clients.{same_name}
 use Rattle.batch_leader.specs.declared.taken.Taken.{Taken}
@@ -43,10 +43,11 @@ pub record AddsSoFar (ts : List Taken) (i : ℕ) (old st : StandingState) : Type
   pub settled : st.settled ≡ old.settled
   pub room : most_names ≤ st.room + i
   pub many : length st.entries ≤ length old.entries + min i (length ts)
-  pub fewest : st.fewest ≡ 0
+  pub spots : (k n : ℕ) → named_in (take i (entries_in ts)) k n ≡ 0 → spot_of st k n ≡ spot_of old k n
+  pub floors : st.floors ≡ old.floors
 
-pub adds_first : (ts : List Taken) (st new : StandingState) → new ≡ record st { fewest = 0 } → most_names ≤ st.room → AddsSoFar ts 0 st new
-adds_first ts st new is room = subst (AddsSoFar ts 0 st) (sym is) (record { counts = λ k n. omega arith; told = λ k n. refl; settled = refl; room = omega (arith, room); many = omega arith; fewest = refl })
+pub adds_first : (ts : List Taken) (st : StandingState) → most_names ≤ st.room → AddsSoFar ts 0 st st
+adds_first ts st room = record { counts = λ k n. omega arith; told = λ k n. refl; settled = refl; room = omega (arith, room); many = omega arith; spots = λ k n none. refl; floors = refl }
 
 count_more : (o : Option Copies) → count_in (Some (one_more o)) ≡ count_in o + 1
 count_more None = refl
@@ -76,17 +77,19 @@ module _ (ts : List Taken) (i : ℕ) (old st : StandingState) (S : AddsSoFar ts 
     settled = S.settled;
     room = (let r = S.room in omega (arith, r));
     many = (let m = S.many in omega (arith, m));
-    fewest = S.fewest;
+    spots = λ k n none. S.spots k n (let b = taken_more None is k n in omega (arith, b, none));
+    floors = S.floors;
   }
 
-  pub adds_one : (new : StandingState) (name : EntryName) → name_in ts i ≡ Some name → Changes st new name.key name.version (Some (one_more (copies_at st name.key name.version))) → new.room + 1 ≡ st.room → new.settled ≡ st.settled → length new.entries ≤ length st.entries + 1 → new.fewest ≡ st.fewest → AddsSoFar ts (i + 1) old new
-  adds_one new name is changes room settled one fewest = record {
+  pub adds_one : (new : StandingState) (name : EntryName) → name_in ts i ≡ Some name → Changes st new name.key name.version (Some (one_more (copies_at st name.key name.version))) → new.room + 1 ≡ st.room → new.settled ≡ st.settled → length new.entries ≤ length st.entries + 1 → new.floors ≡ st.floors → AddsSoFar ts (i + 1) old new
+  adds_one new name is changes room settled one floors = record {
     counts = λ k n. (let a = S.counts k n in let b = taken_more (Some name) is k n in let d = count_now k n in omega (arith, a, b, d));
     told = λ k n. told_now k n ∙ S.told k n;
     settled = settled ∙ S.settled;
     room = (let r = S.room in omega (arith, r, room));
     many = counts_more ts i old st new name is S.many one;
-    fewest = fewest ∙ S.fewest;
+    spots = λ k n none. (let b = taken_more (Some name) is k n in spot_now k n (omega (arith, b, none)) ∙ S.spots k n (omega (arith, b, none)));
+    floors = floors ∙ S.floors;
   } where
     here_is : (k n : ℕ) → name_eq (name.key, name.version) (k, n) ≡ true → copies_at st name.key name.version ≡ copies_at st k n
     here_is k n e = let same = same_name name.key name.version k n e in λ j. copies_at st (same.0 j) (same.1 j)
@@ -99,6 +102,12 @@ module _ (ts : List Taken) (i : ℕ) (old st : StandingState) (S : AddsSoFar ts 
       by : (b : Bool) → name_eq (name.key, name.version) (k, n) ≡ b → count_of new k n ≡ count_of st k n + one_if (name_eq (name.key, name.version) (k, n))
       by true e = (let a = ap count_in (copies_now k n true e) in let b = count_more (copies_at st name.key name.version) in let d = ap count_in (here_is k n e) in let f = ap one_if e in omega (arith, a, b, d, f))
       by false e = (let a = ap count_in (copies_now k n false e) in let b = ap one_if e in omega (arith, a, b))
+
+    spot_now : (k n : ℕ) → one_if (name_eq (name.key, name.version) (k, n)) ≡ 0 → spot_of new k n ≡ spot_of st k n
+    spot_now k n = by (name_eq (name.key, name.version) (k, n)) refl where
+      by : (b : Bool) → name_eq (name.key, name.version) (k, n) ≡ b → one_if b ≡ 0 → spot_of new k n ≡ spot_of st k n
+      by true e none = absurd (omega (arith, none))
+      by false e none = ap counts.spot_in (copies_now k n false e)
 
     told_now : (k n : ℕ) → is_told new k n ≡ is_told st k n
     told_now k n = by (name_eq (name.key, name.version) (k, n)) refl where
@@ -118,7 +127,8 @@ adds_all ts old st few S = record {
   counts = λ k n. S.counts k n ∙ ap (λ (es : List Entry). count_of old k n + named_in es k n) (take_all (entries_in ts) 64 (let long = length_entries ts in omega (arith, long, few)));
   told = S.told;
   settled = S.settled;
-  fewest = S.fewest;
+  spots = λ k n none. S.spots k n (ap (λ (es : List Entry). named_in es k n) (take_all (entries_in ts) 64 (let long = length_entries ts in omega (arith, long, few))) ∙ none);
+  floors = S.floors;
 } where
   length_entries : (xs : List Taken) → length (entries_in xs) ≡ length xs
   length_entries [] = refl

@@ -98,7 +98,7 @@ heard_later home es old mid new same h = record {
   all = λ k n some which. h.all k n (let e = ap count_in (same.copies k n) in omega (arith, e, some)) (⊎_elim (λ before. inl (ap counts.told_in (same.copies k n) ∙ before)) (λ a. inr a) which);
   settled = h.settled ∙ same.settled;
   room = (let a = h.room in let b = same.room in omega (arith, a, b));
-  tally = keeps_both old mid new (keeps_same old mid same.copies same.tally same.fewest) h.tally;
+  tally = keeps_both old mid new (keeps_same old mid same.copies same.tally same.floors) h.tally;
 }
 
 -- and of what stood before there was a copy
@@ -111,5 +111,6 @@ adds_same old mid new es A same = record {
   counts = λ k n. ap count_in (same.copies k n) ∙ A.counts k n;
   told = λ k n. ap counts.told_in (same.copies k n) ∙ A.told k n;
   settled = same.settled ∙ A.settled;
-  fewest = (let few = same.fewest in let none = A.fewest in omega (arith, few, none));
+  spots = λ k n none. ap counts.spot_in (same.copies k n) ∙ A.spots k n none;
+  floors = same.floors ∙ A.floors;
 }

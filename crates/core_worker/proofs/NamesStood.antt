@@ -19,8 +19,9 @@ use Rattle.log_standing.proofs.Clients.{same_name}
 use Rattle.log_cleaner.specs.Clearing.{ClearingState, IsGathered, is_doomed}
 use Rattle.log_cleaner.specs.Copying.{awaits, left_to_copy, words_sum, IsSettled}
 use Rattle.log_cleaner.specs.CopyBatch.{Bounds}
-use Rattle.log_cleaner.specs.Tallied.{HasFewest, IsTallied, KeepsTally, lines_left}
-use Rattle.log_cleaner.proofs.TallyLaws.{keeps_same}
+use Rattle.log_cleaner.specs.Tallied.{IsTallied, KeepsTally}
+use Rattle.log_cleaner.proofs.FloorLaws.{floors_moved}
+use Rattle.log_cleaner.proofs.TallyLaws.{floors_kept, keeps_same}
 use Rattle.log_cleaner.proofs.LessLaws.{filter_same_in, sum_filter, sum_ones}
 use Rattle.log_cleaner.proofs.Parts.{count_same}
 use Rattle.log_cleaner.proofs.SettledLaws.{settled_same}
@@ -48,16 +49,6 @@ none_named st (x ∷ xs) none k n has waits = by (awaits st x) refl none (λ res
   by true is rest later = cc rest
   by false off rest later = named (is_named k n x) refl off (later rest)
 
--- no number is noted that is greater than nothing
-pub few_none : (old new : StandingState) → KeepsTally old new → old.fewest ≡ 0 → new.fewest ≡ 0
-few_none old new keeps none = let few = keeps.fewest [] (omega (arith, none)) in omega (arith, few)
-
-pub none_fewest : (s : State) (log : LogState) (st : StandingState) → st.fewest ≡ 0 → HasFewest s log st
-none_fewest s log st none j has closed = omega (arith, none)
-
-fewest_kept : (s : State) (log : LogState) (old new : StandingState) → KeepsTally old new → HasFewest s log old → HasFewest s log new
-fewest_kept s log old new keeps few j has closed = keeps.fewest (entries_in s log j) (few j has closed)
-
 -- what is counted of names alone is so by equal counts
 cleaned_same : (s : State) (log : LogState) (old new : StandingState) (o : Option ClearingState) (c : Cleaning) → SameCopies old new → KeepsTally old new → IsCleanedBy s log old o c → IsCleanedBy s log new o c
 cleaned_same s log old new o Nothing same keeps C = tt
@@ -71,7 +62,6 @@ cleaned_same s log old new o (Copying victim first) same keeps C =
         words = (let a = ap words_sum left in let b = C.bounds.words in omega (arith, a, b));
       };
       counts = keeps.tally es C.counts;
-      fewest = few_none old new keeps C.fewest;
       room = C.room;
     }
 cleaned_same s log old new o (Doomed chunk) same keeps C = λ x is.
@@ -96,9 +86,9 @@ names_same s m kept present told dead log old new o c same N = record {
     settled = λ h at. settled_same s log old new h same.copies (N.counted.settled h (sym same.settled ∙ at));
   };
   read = λ h at. N.read h (sym same.settled ∙ at);
-  fewest = fewest_kept s log old new (keeps_same old new same.copies same.tally same.fewest) N.fewest;
+  floors = floors_kept s log old new (keeps_same old new same.copies same.tally same.floors) N.floors;
   knows = knows_same m kept present told dead old new same N.knows;
-  cleaned = cleaned_same s log old new o c same.copies (keeps_same old new same.copies same.tally same.fewest) N.cleaned;
+  cleaned = cleaned_same s log old new o c same.copies (keeps_same old new same.copies same.tally same.floors) N.cleaned;
 }
 
 -- fewer are filtered out of fewer
@@ -182,7 +172,6 @@ module _ (s : State) (m : ℕ) (kept kept' : List Entry) (present present' : ℕ
         let same_words = ap words_sum (left_narrow es) in
         record { entries = omega (arith, fewer_entries, entries, one, two, same); words = omega (arith, fewer_words, words, same_words) };
     counts = keeps.tally (entries_in s log victim.chunk) C.counts;
-    fewest = few_none old new keeps C.fewest;
     room = C.room;
   }
   cleaned_heard (Doomed chunk) C = λ x is. clears_heard x (C x is)
@@ -194,7 +183,7 @@ module _ (s : State) (m : ℕ) (kept kept' : List Entry) (present present' : ℕ
       settled = λ h at. still_settled h (N.counted.settled h (sym still ∙ at));
     };
     read = λ h at. N.read h (sym still ∙ at);
-    fewest = fewest_kept s log old new keeps N.fewest;
+    floors = floors_kept s log old new keeps N.floors;
     knows = knows;
     cleaned = cleaned_heard c N.cleaned;
   }
@@ -213,7 +202,7 @@ module _ (s t : State) (m : ℕ) (kept : List Entry) (present : ℕ → ℕ → 
   cleaned_kept Nothing C = tt
   cleaned_kept (Copying victim first) C =
       let there = sym (entries_kept victim.chunk C.chunk) in
-      record { chunk = C.chunk; bounds = subst (λ (es : List (ℕ × Entry)). Bounds victim st es) there C.bounds; counts = subst (IsTallied st) there C.counts; fewest = C.fewest; room = λ x is. subst (λ (es : List (ℕ × Entry)). length es ≤ x.room) there (C.room x is) }
+      record { chunk = C.chunk; bounds = subst (λ (es : List (ℕ × Entry)). Bounds victim st es) there C.bounds; counts = subst (IsTallied st) there C.counts; room = λ x is. subst (λ (es : List (ℕ × Entry)). length es ≤ x.room) there (C.room x is) }
   cleaned_kept (Doomed chunk) C = λ x is.
       let had = C x is in
       let there = sym (entries_kept x.chunk had.chunk) in
@@ -238,7 +227,7 @@ module _ (s t : State) (m : ℕ) (kept : List Entry) (present : ℕ → ℕ → 
           };
     };
     read = N.read;
-    fewest = λ j has closed. subst (λ (es : List (ℕ × Entry)). st.fewest ≤ lines_left st es) (sym (entries_kept j has)) (N.fewest j has closed);
+    floors = floors_moved s t log log st (λ j c. (c, entries_kept j c.has)) N.floors;
     knows = N.knows;
     cleaned = cleaned_kept c N.cleaned;
   }

@@ -16,10 +16,13 @@ use Rattle.core_log.specs.Log.{LogState, StandsIn, tail_of, open_number, open_fi
 use Rattle.core_log.specs.Walking.{IsBetween, entries_in, behind}
 use Rattle.core_log.proofs.Clients.{tail_other}
 use Rattle.lazy_alloc.specs.Sets.{Sets}
-use Rattle.log_standing.specs.NameCounts.{StandingState, count_of, wants}
+use Rattle.log_standing.specs.declared.types.Amount.{Amount}
+use Rattle.log_standing.specs.NameCounts.{StandingState, count_of, floor_at, floor_in, wants}
 use Rattle.log_standing.specs.ChunkCounts.{has_name}
 use Rattle.log_cleaner.specs.Additions.{is_among, Lacks}
 use Rattle.log_cleaner.specs.Copying.{awaits, left_to_copy}
+use Rattle.log_cleaner.specs.Floors.{IsCounted}
+use Rattle.log_cleaner.proofs.FloorLaws.{SameSpot, all_in, floor_kept, seen_kept}
 use Rattle.log_cleaner.proofs.Added.{new_lacks}
 use Rattle.log_cleaner.proofs.LessLaws.{filter_same_in}
 use Rattle.log_cleaner.proofs.Parts.{in_named}
@@ -35,13 +38,12 @@ use Rattle.log_cleaner.specs.Clearing.{ClearingState}
 use Rattle.core_worker.specs.declared.types.Cleaning.{Cleaning}
 use Rattle.core_worker.specs.declared.types.Cleaning.TheVariants.{Nothing}
 use Rattle.core_worker.specs.Supplies.{under_way}
-use Rattle.core_worker.specs.LogNames.{NamesStand, IsCleanedBy}
+use Rattle.core_worker.specs.LogNames.{NamesStand, IsCleanedBy, IsClosed}
 use Rattle.core_worker.specs.Ties.{Holds, Stands}
 use Rattle.core_worker.specs.Turns.{TakesFor}
 use Rattle.core_worker.specs.Supplies.{left_in}
 use Rattle.core_worker.proofs.UnderWay.{nothing_raw}
 use Rattle.core_worker.proofs.CleaningKept.{runs_way}
-use Rattle.core_worker.proofs.NamesStood.{none_fewest}
 use Rattle.core_worker.proofs.NamesAdded.{one_if}
 use Rattle.core_worker.proofs.NamesKnown.{knows_added}
 use Rattle.core_worker.proofs.Counted.{counted, once, fresh, other_open, still_has, still_closed, else_same}
@@ -69,11 +71,32 @@ module _ (es : List Entry) (old new : StandingState) (apart : AreNamedApart es) 
   left_same : (ys : List (ℕ × Entry)) → ((y : ℕ × Entry) → In y ys → In y xs) → left_to_copy new ys ≡ left_to_copy old ys
   left_same ys among = filter_same_in (awaits new) (awaits old) ys (λ y is. wants_same y.1.key y.1.version (in_named xs y (among y is)))
 
+-- what a search has counted of a chunk that lacks the names
+counted_added : (es : List Entry) (old new : StandingState) → AreNamedApart es → AddsNames old new es → (xs : List (ℕ × Entry)) → Lacks xs es → (j : ℕ) (a : Amount) → IsCounted old j a xs → IsCounted new j a xs
+counted_added es old new apart adds xs lacks j a was = record {
+  seen = seen_kept old new j xs (λ k n untold. sym (adds.told k n) ∙ untold) (all_in (SameSpot old new) xs (λ y is. adds.spots y.1.key y.1.version (none_of y.1.key y.1.version (in_named xs y is)))) was.seen;
+  floor = floor_kept a old new xs (left_same es old new apart adds xs lacks xs (λ y is. is)) was.floor;
+} where
+  none_of : (k n : ℕ) → has_name xs k n ≡ true → named_in es k n ≡ 0
+  none_of k n has = by (is_among es k n) refl where
+    by : (b : Bool) → is_among es k n ≡ b → named_in es k n ≡ 0
+    by true is = absurd (let both : true ≡ false = sym has ∙ lacks k n is in cc both)
+    by false isnt = once es apart k n ∙ ap one_if isnt
+
 module _ (m : ℕ) (present : ℕ → ℕ → Option ℕ) (told dead : ℕ → ℕ → Bool) (s t : State) (log log' : LogState) (o : Option ℕ) (es kept : List Entry) (old new : StandingState) (stands : StandsIn s log) (may : MayOpen log o) (batch : IsBatch es)
     (appended : AppendedBatch s t (opened_for log o) log' (padded (flat_map words_of es))) (outside : During s t (KeepsOutside (cell_now s) (open_first (opened_for log o)) (open_first (opened_for log o) + chunk_words log.layout)))
     (o' : Option ClearingState) (c : Cleaning) (N : NamesStand s m kept present told dead log old o' c) (none : c ≡ Nothing) (each : AllByRecursion (LacksName kept) es) (apart : AreNamedApart es) (adds : AddsNames old new es) (telling_s : IsTelling s) (telling : IsTelling t) where
   lacking : (i : ℕ) → is_some (tail_of log.chunks i) ≡ true → Lacks (entries_in s log i) es
   lacking = new_lacks s log old es N.counted.counts (fresh s t log log' o es kept old new stands may batch appended outside N.counted.counts N.knows.stands each apart adds telling_s telling)
+
+  stays_closed : (j : ℕ) → IsClosed log j → IsClosed log' j
+  stays_closed j was = let ne = other_open log o may j was.has was.closed in record {
+    has = ap (λ (l : LogState). is_some (tail_of l.chunks j)) appended.log_is ∙ ap is_some (tail_other (opened_for log o).chunks (open_number (opened_for log o)) (open_tail (opened_for log o) + length (padded (flat_map words_of es))) j ne) ∙ still_has log o j ne was.has;
+    closed = λ same. still_closed log o j ne was.closed (sym (ap (λ (l : LogState). l.opened) appended.log_is) ∙ same);
+  }
+
+  floor_was : (j : ℕ) → is_some (floor_at new j) ≡ true → is_some (floor_at old j) ≡ true
+  floor_was j some = ap (λ (fs : List (Option Amount)). is_some (floor_in fs j)) (sym adds.floors) ∙ some
 
   pub names_wrote : NamesStand t m (kept ++ es) present told dead log' new o' c
   names_wrote = record {
@@ -91,14 +114,15 @@ module _ (m : ℕ) (present : ℕ → ℕ → Option ℕ) (told dead : ℕ → �
                 (left_same es old new apart adds xs less xs (λ y i. i) ∙ was.none ∙ sym (left_same es old new apart adds xs less (behind h.place xs) (in_behind h.place xs)));
           };
     };
-    read = λ h at.
-        let was = N.read h (sym adds.settled ∙ at) in
-        let ne = other_open log o may h.chunk was.has was.closed in
-        record {
-          has = ap (λ (l : LogState). is_some (tail_of l.chunks h.chunk)) appended.log_is ∙ ap is_some (tail_other (opened_for log o).chunks (open_number (opened_for log o)) (open_tail (opened_for log o) + length (padded (flat_map words_of es))) h.chunk ne) ∙ still_has log o h.chunk ne was.has;
-          closed = λ same. still_closed log o h.chunk ne was.closed (sym (ap (λ (l : LogState). l.opened) appended.log_is) ∙ same);
-        };
-    fewest = none_fewest t log' new adds.fewest;
+    read = λ h at. stays_closed h.chunk (N.read h (sym adds.settled ∙ at));
+    floors = record {
+      closed = λ j some. stays_closed j (N.floors.closed j (floor_was j some));
+      counted = λ j a is.
+          let at : floor_at old j ≡ Some a = ap (λ (fs : List (Option Amount)). floor_in fs j) (sym adds.floors) ∙ is in
+          let closed = N.floors.closed j (ap is_some at) in
+          subst (IsCounted new j a) (sym (else_same s t log log' o es stands may batch appended outside telling_s telling j closed.has closed.closed))
+          (counted_added es old new apart adds (entries_in s log j) (lacking j closed.has) j a (N.floors.counted j a at));
+    };
     knows = knows_added m kept es present told dead old new adds N.knows;
     cleaned = subst (λ (d : Cleaning). IsCleanedBy t log' new o' d) (sym none) tt;
   }

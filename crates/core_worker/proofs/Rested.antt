@@ -127,13 +127,13 @@ idle_view f s refused p m a b I same =
 
 -- what a search leaves of the names that stand
 abbrev searched : (s : State) (refused : Bool) (p : Place) (m : ℕ) (a b : Moment) → Idles s refused p m a b → StandingState
-searched s refused p m a b I = record a.worker.standing { fewest = I.looked.standing.fewest }
+searched s refused p m a b I = I.looked.standing
 
--- nothing but what it leads, its index, what it has to tell and the number that a search noted differs
+-- nothing but what it leads, its index, what it has to tell and where a search found its names differs
 idle_is : (s : State) (p : Place) (refused : Bool) (m : ℕ) (a b : Moment) (I : Idles s refused p m a b) → b.worker ≡ record a.worker { index = I.ready.index; notices = I.ready.notices; standing = searched s refused p m a b I; leading = b.worker.leading }
 idle_is s p refused m a b I = I.same
-    ∙ ap (λ (z : Worker). record z { leading = b.worker.leading }) I.begins.same
-    ∙ ap (λ (z : Worker). record z { standing = record z.standing { fewest = I.looked.standing.fewest }; leading = b.worker.leading }) (passes_is p m a.worker I.ready I.before.looked.looks I.sending)
+    ∙ ap (λ (z : Worker). record z { leading = b.worker.leading }) I.begins.looks.same
+    ∙ ap (λ (z : Worker). record z { standing = I.looked.standing; leading = b.worker.leading }) (passes_is p m a.worker I.ready I.before.looked.looks I.sending)
 
 pub idle_same : (s : State) (p : Place) (refused : Bool) (m : ℕ) (a b : Moment) → Idles s refused p m a b → HoldsSame p m (hands_of a.view a.worker) (hands_of b.view b.worker)
 idle_same s p refused m a b I =
@@ -146,7 +146,7 @@ idle_same s p refused m a b I =
 pub idles_not_more : (s : State) (refused : Bool) (p : Place) (m : ℕ) (a b : Moment) (I : Idles s refused p m a b) (before mid after : Option Group) → LooksMade before mid m I.mid → (after ≡ mid) ⊎ Makes mid m Kind.Lock after b.view → b.view.holds ≡ false → NotMore before after a.worker b.worker
 idles_not_more s refused p m a b I before mid after looks tried free =
     let T = passes_takes p m a.worker I.ready I.before.looked.looks I.sending in
-    let led : I.looked.leading ≡ a.worker.leading = ap (λ (w : Worker). w.leading) I.begins.same ∙ ap (λ (w : Worker). w.leading) T.0.same in
+    let led : I.looked.leading ≡ a.worker.leading = ap (λ (w : Worker). w.leading) I.begins.looks.same ∙ ap (λ (w : Worker). w.leading) T.0.same in
     let nothing : LeadsNothing I.looked = (I.before.free.0, led ∙ I.before.free.1) in
     let low : left I.looked ≤ left a.worker = (let fewer = takes_low p a.worker I.ready T.0 T.1 in let same = none_left s I.ready I.looked I.begins in omega (arith, fewer, same)) in
     looked_not_more before mid after m looks.0 I.mid a.worker b.worker looks.1

@@ -185,7 +185,7 @@ module _ (p : Place) (m to : ℕ) (v : View) (w : Worker) (H : Holds p m v w) (O
       counted = N.counted;
       read = N.read;
       knows = record { stands = N.knows.stands; all = N.knows.all; deaths = N.knows.deaths; buried = N.knows.buried; own = N.knows.own; heard = λ k i here t. N.knows.heard k i here (told_here k i here t) };
-      fewest = N.fewest;
+      floors = N.floors;
       cleaned = N.cleaned;
     };
   }

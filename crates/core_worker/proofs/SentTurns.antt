@@ -10,6 +10,7 @@ use Rattle.group_laws.specs.MemberViews.{View}
 use Rattle.group_laws.proofs.Clients.{In-append_left, In-append_right}
 use Rattle.group_board.specs.Seats.{SeatAt}
 use Rattle.batch_leader.specs.Leading.{MakesAll}
+use Rattle.log_cleaner.proofs.FloorLaws.{searches_itself}
 use Rattle.core_worker.specs.declared.types.Turn.{Turn}
 use Rattle.core_worker.specs.declared.types.Turn.TheVariants.{Moved, Idle}
 use Rattle.core_worker.specs.declared.worker.Worker.{Worker}
@@ -63,8 +64,11 @@ winds_did s refused start before after seat v v0 u w x runs works post P told N 
   post = post;
   runs = (runs, works);
   empty = told_later seat.place seat.number P.looked.looks N.looks told;
+  ready = x;
   takes = N.takes;
   winds = N.winds;
+  same = refl;
+  names = searches_itself x.standing;
   view = refl;
 })
 

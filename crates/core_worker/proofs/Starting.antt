@@ -55,7 +55,9 @@ use Rattle.core_worker.specs.OwnChunks.{AreChunks}
 use Rattle.core_worker.specs.Ties.{Holds, Stands, Leads, LeadsAt, HasSpaceFor, is_lost}
 use Rattle.core_worker.specs.Order.{InOrder, PointsAt, count_changes}
 use Rattle.core_worker.specs.Hearing.{is_dead_by, heard_at, last_change}
-use Rattle.core_worker.proofs.NamesStood.{none_fewest}
+use Rattle.log_cleaner.proofs.FloorLaws.{none_floors}
+use Rattle.log_standing.specs.declared.types.Amount.{Amount}
+use Rattle.log_standing.specs.NameCounts.{floor_at}
 use Rattle.core_worker.proofs.MailKept.{knows_none, mail_new}
 use Rattle.core_worker.proofs.HeardNames.{stands_by, dies_by, awaits_by}
 use Rattle.core_worker.proofs.Tidied.{present_of}
@@ -407,13 +409,16 @@ module _ (p : Place) (m : ℕ) (image : ℕ → ℕ) (start : CoreStart) (layout
           settled = λ h read. unread h read;
         };
         read = λ h read. unread h read;
-        fewest = none_fewest s w.log w.standing N.fewest;
+        floors = none_floors s w.log w.standing (λ j some. uncounted j (N.standing.tally.noted j some));
         knows = knows_names;
         cleaned = subst (λ (d : Cleaning). IsCleanedBy s w.log w.standing w.clearing d) (sym N.cleaning) tt;
       };
       cut = λ runs j k class undue telling. in_log j (2 + 256 * k) (start_heads.cut_now p m image start at s here j k (ap (λ (a : Sets). chunk_class a j) (sym N.allocator) ∙ class) telling);
     }
       where
+        uncounted : (j : ℕ) → is_some (floor_at start.standing j) ≡ true → ⊥
+        uncounted j some = (let both : true ≡ false = sym some ∙ ap (λ (o : Option Amount). is_some o) (at.made.floors j) in cc both)
+
         unread : {A : Type 0} (h : Settled) → w.standing.settled ≡ Some h → A
         unread h read = absurd (let both : None ≡ Some h = sym (N.standing.settled ∙ at.made.settled) ∙ read in cc both)
 

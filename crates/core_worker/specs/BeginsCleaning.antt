@@ -7,10 +7,10 @@ use Rattle.core_log.specs.Walking.{entries_in}
 use Rattle.lazy_alloc.specs.Sets.{free_chunk_count}
 use Rattle.crash_core.specs.declared.names.Notices.{Notices}
 use Rattle.fs_errors.specs.declared.Memory.{Memory}
-use Rattle.log_standing.specs.NameCounts.{StandingState}
 use Rattle.log_cleaner.specs.Choosing.{IsChosen, IsVictim}
 use Rattle.log_cleaner.specs.Clearing.{ClearingState, IsFresh}
-use Rattle.log_cleaner.specs.Tallied.{HasFewest, IsTallied}
+use Rattle.log_cleaner.specs.Floors.{HasFloors, Searches}
+use Rattle.log_cleaner.specs.Tallied.{IsTallied}
 use Rattle.log_cleaner.specs.declared.types.Victim.{Victim}
 use Rattle.core_worker.specs.declared.begin_cleaning.Begun.{Begun}
 use Rattle.core_worker.specs.declared.types.Cleaning.TheVariants.{Copying}
@@ -29,9 +29,12 @@ pub record MakesPlaces (most : ℕ) (old new : List Notices) : Type 0 where
   pub spare : AllByRecursion HasSpare new
   pub places : HasPlacesFor most new
 
--- Of the names that stand nothing but what is counted for a cleaning is another one.
-abbrev pub SameButCounts : StandingState → StandingState → Type 0
-SameButCounts old new = new ≡ record old { tally = new.tally; fewest = new.fewest }
+-- A chunk to clean was looked for. Nothing is another one but where names were found and what was counted of the chunks.
+pub record LooksForOne (s : State) (w x : Worker) : Type 0 where
+  pub same : x ≡ record w { standing = x.standing }
+  pub names : Searches w.standing x.standing
+  pub floors : (IsTelling s → HasFloors s w.log w.standing) → IsTelling s
+      → HasFloors s w.log x.standing
 
 -- Why no cleaning begins: the core has stopped or winds down, more than one chunk is free, no request was accepted since the last one began, or no chunk is to be cleaned, where the region tells.
 abbrev pub MayNotBegin : State → Worker → Type 0
@@ -39,12 +42,10 @@ MayNotBegin s w = (w.stopped ≡ true) ⊎ ((w.winds_down ≡ true)
     ⊎ ((1 < free_chunk_count w.allocator) ⊎ ((w.accepted ≡ false) ⊎ (IsTelling s
     → IsVictim s w.log w.standing w.last_victim (room_for w) None))))
 
--- None begins. Nothing but the number that a search notes is another one.
+-- none begins
 pub record BeginsNone (s : State) (w x : Worker) : Type 0 where
   pub why : MayNotBegin s w
-  pub same : x ≡ record w { standing = record w.standing { fewest = x.standing.fewest } }
-  pub fewest : (IsTelling s → HasFewest s w.log w.standing) → IsTelling s
-      → HasFewest s w.log x.standing
+  pub looks : LooksForOne s w x
 
 -- A cleaning of the next victim begins: a request was accepted since the last one began, and no more than one chunk is free. There are places for all names that may be gone with the chunk, and what is left of it is counted from then on.
 pub record BeginsOne (s : State) (w x : Worker) : Type 0 where
@@ -59,9 +60,10 @@ pub record BeginsOne (s : State) (w x : Worker) : Type 0 where
   pub chunk : now.chunk ≡ victim.chunk
   pub fresh : IsFresh now
   pub room : IsTelling s → length (entries_in s w.log victim.chunk) ≤ now.room
-  pub standing : SameButCounts w.standing x.standing
+  pub found : Worker
+  pub looks : LooksForOne s w found
+  pub standing : x.standing ≡ record found.standing { tally = x.standing.tally }
   pub counts : IsTelling s → IsTallied x.standing (entries_in s w.log victim.chunk)
-  pub few : x.standing.fewest ≡ 0
   pub own_gone : now.room ≤ vec_capacity x.own_gone
   pub waiting : MakesPlaces now.room w.notices.items x.notices.items
   pub same : x ≡ record w {
@@ -77,7 +79,7 @@ pub record BeginsOne (s : State) (w x : Worker) : Type 0 where
 -- So the cleaning of a chunk begins, by what was taken for it.
 pub record BeginsWith (b : Begun) (w x : Worker) : Type 0 where
   pub is : x.clearing ≡ Some b.clearing
-  pub standing : x.standing ≡ record w.standing { tally = Some b.tally; fewest = 0 }
+  pub standing : x.standing ≡ record w.standing { tally = Some b.tally }
   pub own_gone : b.clearing.room ≤ vec_capacity x.own_gone
   pub waiting : MakesPlaces b.clearing.room w.notices.items x.notices.items
   pub same : x ≡ record w {
@@ -90,9 +92,9 @@ pub record BeginsWith (b : Begun) (w x : Worker) : Type 0 where
     accepted = false;
   }
 
--- What a search for a chunk to clean led to: where there was no memory for the cleaning, nothing is another one but that the core winds down.
+-- What a search for a chunk to clean led to: where there was no memory for the cleaning, the core winds down.
 abbrev pub Begins : Result Bool Memory → State → Worker → Worker → Type 0
 Begins (Ok true) s w x = BeginsOne s w x
 Begins (Ok false) s w x = BeginsNone s w x
 Begins (Err memory) s w x = (w.stopped ≡ false) × (w.winds_down ≡ false)
-    × (x ≡ record w { winds_down = true })
+    × ((found : Worker) × LooksForOne s w found × (x ≡ record found { winds_down = true }))

@@ -9,6 +9,7 @@ use Rattle.core_log.specs.Retiring.{RetiredChunk}
 use Rattle.core_index.specs.Slots as slots
 use Rattle.lazy_alloc.specs.Sets.{Sets, AreSets, GivesChunk, free_chunk_count}
 use Rattle.log_standing.specs.NameCounts.{StandingState}
+use Rattle.log_cleaner.specs.Floors.{HasFloors}
 use Rattle.log_cleaner.specs.Clearing.{ClearingState, AreNoted}
 use Rattle.log_cleaner.specs.Copying.{IsUpToDate}
 use Rattle.log_cleaner.specs.Dropping.{lone_in, Drops}
@@ -83,4 +84,4 @@ pub record EndsInRegion (s t : State) (p : groups.Place) (m : ℕ) (u : View) (w
   pub names : IsTelling s → KnowsBy m u x.standing
   pub counted : IsTelling t → IsUpToDate t x.log x.standing
   pub read : x.standing.settled ≡ None
-  pub fewest : x.standing.fewest ≡ 0
+  pub floors : IsTelling t → HasFloors s w.log w.standing → HasFloors t x.log x.standing

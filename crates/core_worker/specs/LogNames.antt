@@ -11,7 +11,9 @@ use Rattle.log_cleaner.specs.Clearing.{ClearingState, IsGathered, IsReady}
 use Rattle.log_cleaner.specs.Copying.{left_to_copy, IsUpToDate}
 use Rattle.log_cleaner.specs.CopyBatch.{Bounds}
 use Rattle.log_cleaner.specs.Dropping.{Drops}
-use Rattle.log_cleaner.specs.Tallied.{HasFewest, IsTallied, KeepsTally}
+use Rattle.log_cleaner.specs.Floors.{HasFloors}
+pub use Rattle.log_cleaner.specs.Floors.{IsClosed}
+use Rattle.log_cleaner.specs.Tallied.{IsTallied, KeepsTally}
 use Rattle.log_cleaner.specs.declared.types.Victim.{Victim}
 use Rattle.core_index.specs.Slots as slots
 use Rattle.group_laws.specs.State.{Notices}
@@ -39,18 +41,12 @@ pub record KnowsNames (m : ℕ) (kept : List Entry) (present : ℕ → ℕ → O
 abbrev pub KnowsBy : ℕ → View → StandingState → Type 0
 KnowsBy m v st = KnowsNames m v.kept v.present v.told v.dead st
 
--- a chunk of the log that isn't the open one
-pub record IsClosed (log : LogState) (j : ℕ) : Type 0 where
-  pub has : is_some (tail_of log.chunks j) ≡ true
-  pub closed : log.opened ≢ Some j
-
 -- The chunk is one of the log. What of it is still to be copied is counted, and is no more than these numbers say; the clearing has room for the names of all its entries.
 pub record CopiesIn (s : State) (log : LogState) (st : StandingState) (victim : Victim)
     (clearing : Option ClearingState) : Type 0 where
   pub chunk : is_some (tail_of log.chunks victim.chunk) ≡ true
   pub bounds : Bounds victim st (entries_in s log victim.chunk)
   pub counts : IsTallied st (entries_in s log victim.chunk)
-  pub fewest : st.fewest ≡ 0
   pub room : (c : ClearingState) → clearing ≡ Some c
       → length (entries_in s log victim.chunk) ≤ c.room
 
@@ -67,13 +63,13 @@ IsCleanedBy s log st clearing (Copying victim first) = CopiesIn s log st victim 
 IsCleanedBy s log st clearing (Doomed chunk) = (c : ClearingState) → clearing ≡ Some c
     → ClearsIn s log st c
 
--- What stands in the log of member m by its region: the names are counted as the log has them, a cleaning has read at most a closed chunk of it, the names are those of the certain entries, and so it is with the chunk that is cleaned.
+-- What stands in the log of member m by its region: the names are counted as the log has them, a cleaning has read at most a closed chunk of it, what a search has counted of its chunks is right, the names are those of the certain entries, and so it is with the chunk that is cleaned.
 pub record NamesStand (s : State) (m : ℕ) (kept : List Entry) (present : ℕ → ℕ → Option ℕ)
     (told dead : ℕ → ℕ → Bool) (log : LogState) (st : StandingState)
     (clearing : Option ClearingState) (cleaning : Cleaning) : Type 0 where
   pub counted : IsUpToDate s log st
   pub read : (h : Settled) → st.settled ≡ Some h → IsClosed log h.chunk
-  pub fewest : HasFewest s log st
+  pub floors : HasFloors s log st
   pub knows : KnowsNames m kept present told dead st
   pub cleaned : IsCleanedBy s log st clearing cleaning
 

@@ -34,7 +34,6 @@ pub record IsNew (start : CoreStart) (layout : Geometry) (w : Worker) : Type 0 w
   pub allocator : w.allocator ≡ start.allocator
   pub index : HearsAll start.core start.index w.index
   pub standing : HearsOwn start.core start.index start.standing w.standing
-  pub fewest : w.standing.fewest ≡ 0
   pub copies : HasCopies start.standing
   pub names : most_names ≤ w.standing.room
   pub eight : length w.places.items ≡ SLOTS

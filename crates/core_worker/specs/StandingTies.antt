@@ -9,7 +9,7 @@ use Rattle.core_index.specs.Records.{Awaits}
 use Rattle.core_index.specs.Slots as slots
 use Rattle.core_worker.specs.declared.batch_names.TheConstants.{MOST_NAMES}
 use Rattle.log_cleaner.specs.Tallied.{KeepsTally}
-use Rattle.log_standing.specs.NameCounts.{StandingState, SameCopies, name_eq, copies_at, count_of, is_told}
+use Rattle.log_standing.specs.NameCounts.{StandingState, SameCopies, name_eq, copies_at, count_of, is_told, spot_of}
 
 -- as many names as a batch may have
 abbrev pub most_names : ℕ
@@ -46,18 +46,19 @@ pub record SameNames (old new : StandingState) : Type 0 where
   pub settled : new.settled ≡ old.settled
   pub room : old.room ≤ new.room
   pub tally : new.tally ≡ old.tally
-  pub fewest : new.fewest ≤ old.fewest
+  pub floors : new.floors ≡ old.floors
 
 -- of each name that stands there is a copy
 abbrev pub HasCopies : StandingState → Type 0
 HasCopies st = (k n : ℕ) → is_some (copies_at st k n) ≡ true → 0 < count_of st k n
 
--- the name of each of the entries has one copy more, and none was told dead
+-- The name of each of the entries has one copy more, and none was told dead. What a search found of other names stays.
 pub record AddsNames (old new : StandingState) (es : List Entry) : Type 0 where
   pub counts : (k n : ℕ) → count_of new k n ≡ count_of old k n + named_in es k n
   pub told : (k n : ℕ) → is_told new k n ≡ is_told old k n
   pub settled : new.settled ≡ old.settled
-  pub fewest : new.fewest ≡ 0
+  pub spots : (k n : ℕ) → named_in es k n ≡ 0 → spot_of new k n ≡ spot_of old k n
+  pub floors : new.floors ≡ old.floors
 
 -- Of the names that stand exactly those were told dead besides that by the index awaited to be told to this home; and no other name was.
 pub record HearsOwn (home : ℕ) (es : List (ℕ × slots.Place))

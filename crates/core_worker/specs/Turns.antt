@@ -15,6 +15,7 @@ use Rattle.group_laws.specs.State.{Group}
 use Rattle.group_laws.specs.Runs.{Kind}
 use Rattle.log_entry.specs.Spelling.{words_of}
 use Rattle.core_log.specs.Chunk.{padded}
+use Rattle.log_cleaner.specs.Floors.{Searches}
 use Rattle.log_cleaner.specs.Clearing.{ClearingState}
 use Rattle.log_cleaner.specs.declared.types.Victim.{Victim}
 use Rattle.group_laws.specs.MemberViews.{View}
@@ -305,15 +306,18 @@ pub record Sends (refused : Bool) (p : Place) (m : ℕ) (a b : Moment) : Type 0 
   pub some : 0 < notices_left (notices_of box.old)
   pub view : b.view ≡ after_send to (notices_of box.old) mid
 
--- Item 6 without memory for what is to be sent, or for a cleaning: the core winds down. What awaited may wait to be sent now.
+-- Item 6 without memory for what is to be sent, or for a cleaning: the core winds down. What awaited may wait to be sent now, and a chunk to clean may have been looked for.
 pub record WindsDown (refused : Bool) (p : Place) (m : ℕ) (a b : Moment) : Type 0 where
   pub mid : View
   pub before : PassesItems m a SLOTS mid
   pub post : PassesPost refused a.worker
   pub runs : (a.worker.stopped ≡ false) × (a.worker.winds_down ≡ false)
   pub empty : NoneTold p m before.looked.looks
-  pub takes : TakesDead p a.worker b.worker
-  pub winds : b.worker.winds_down ≡ true
+  pub ready : Worker
+  pub takes : TakesDead p a.worker ready
+  pub winds : ready.winds_down ≡ true
+  pub same : b.worker ≡ record ready { standing = b.worker.standing }
+  pub names : Searches ready.standing b.worker.standing
   pub view : b.view ≡ mid
 
 -- Item 6, the doom: nothing of the chunk that is cleaned is left to be copied, and the names that vanish with it are doomed.

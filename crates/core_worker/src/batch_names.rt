@@ -19,7 +19,6 @@ fn add_names(standing: &mut Standing, batch: &Batch)
     ensures count { length standing.new.entries
         ≤ length standing.old.entries + length batch.now.changes.taken.items }
 {
-    standing.note_fewest(0);
     for at in 0..MOST_NAMES {
         if let Some(name) = batch.name_at(at) {
             standing.add(name);

@@ -1,5 +1,5 @@
 // The turn that begins a cleaning.
-ghost use Rattle.std.specs.Prelude.{◌≡◌, ℕ, ◌≤◌, true, Option, Some, None, IfOk, IfNone, IfSome, IsSome, OnErr, length, option_map};
+ghost use Rattle.std.specs.Prelude.{◌≡◌, ℕ, ◌≤◌, true, Option, Some, None, IfOk, IfSome, length, option_map};
 ghost use Rattle.pm_region.specs.State.{IsTelling};
 ghost use Rattle.chunk_map.specs.Layouts.{payload_lines};
 ghost use Rattle.core_log.specs.Log.{StandsIn};
@@ -9,8 +9,9 @@ ghost use Rattle.core_room.specs.Lengths.{lines_to_copy};
 ghost use Rattle.lazy_alloc.specs.Sets.{free_chunk_count};
 ghost use Rattle.log_cleaner.specs.Choosing.{IsChosen, IsVictim, fits};
 ghost use Rattle.log_cleaner.specs.Clearing.{IsFresh};
-ghost use Rattle.log_cleaner.specs.Copying.{IsUpToDate};
-ghost use Rattle.log_cleaner.specs.Tallied.{HasFewest, IsTallyOf};
+ghost use Rattle.log_cleaner.specs.Floors.{HasFloors, Searches};
+ghost use Rattle.log_cleaner.specs.Tallied.{IsTallyOf};
+ghost use Rattle.log_standing.specs.ChunkCounts.{IsStandingOf};
 ghost use Rattle.log_cleaner.specs.declared.types.Victim.{Victim as Chosen};
 ghost use Rattle.core_worker.specs.declared.worker.Worker.{Worker};
 ghost use Rattle.core_worker.specs.Supplies.{rest, room_for, supply_of, under_way};
@@ -30,8 +31,7 @@ pub(crate) struct Begun {
     pub(crate) tally: Tally,
 }
 
-// Chooses the next victim, and takes the memory for its names. None exactly where there is no chunk to be cleaned: then
-// the fewest lines that one has to copy are noted.
+// Chooses the next victim, and takes the memory for its names. None exactly where there is no chunk to be cleaned.
 pub(crate) fn begin_cleaning<R: Region>(
     alloc: Global,
     region: &R,
@@ -41,7 +41,9 @@ pub(crate) fn begin_cleaning<R: Region>(
     room: &Room,
 ) -> Result<Option<Begun>, Memory>
     requires stands { StandsIn (R.state region.now) log.now }
-    requires standing { IsTelling (R.state region.now) → IsUpToDate (R.state region.now) log.now
+    requires standing { IsTelling (R.state region.now) → IsStandingOf (R.state region.now) log.now
+        standing.old }
+    requires floors { IsTelling (R.state region.now) → HasFloors (R.state region.now) log.now
         standing.old }
     ensures chosen { IfOk result (λ found. IfSome found (λ x. IsChosen log.now room.now x.victim
         × (x.clearing.chunk ≡ x.victim.chunk) × IsFresh x.clearing)) }
@@ -53,11 +55,9 @@ pub(crate) fn begin_cleaning<R: Region>(
     ensures counts { IfOk result (λ found. IfSome found (λ x. IsTelling (R.state region.now)
         → IsTallyOf x.tally standing.old
         (entries_in (R.state region.now) log.now x.victim.chunk))) }
-    ensures few { IfOk result (λ found. IsTelling (R.state region.now)
-        → IfNone found (HasFewest (R.state region.now) log.now standing.new)) }
-    ensures found { IfOk result (λ found. IsSome found → standing.new ≡ standing.old) }
-    ensures same { standing.new ≡ record standing.old { fewest = standing.new.fewest } }
-    ensures memory { OnErr result (standing.new ≡ standing.old) }
+    ensures names { Searches standing.old standing.new }
+    ensures floors { IsTelling (R.state region.now) → HasFloors (R.state region.now) log.now
+        standing.new }
 {
     match victim(alloc, region, log, standing, after, room)? {
         None => {

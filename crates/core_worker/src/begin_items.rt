@@ -3,8 +3,8 @@ ghost use Rattle.std.specs.Prelude.{◌≡◌, ◌≤◌, true, false, OnErr, On
 ghost use Rattle.pm_region.specs.State.{State, IsTelling};
 ghost use Rattle.core_log.specs.Log.{StandsIn};
 ghost use Rattle.lazy_alloc.specs.Sets.{free_chunk_count};
-ghost use Rattle.log_cleaner.specs.Copying.{IsUpToDate};
-ghost use Rattle.log_cleaner.specs.Tallied.{HasFewest};
+ghost use Rattle.log_cleaner.specs.Floors.{HasFloors};
+ghost use Rattle.log_standing.specs.ChunkCounts.{IsStandingOf};
 ghost use Rattle.core_worker.specs.BeginsCleaning.{Begins, BeginsWith, MakesPlaces, MayNotBegin};
 ghost use Rattle.core_worker.specs.Refusals.{IsMeasured};
 
@@ -14,7 +14,6 @@ use crate::types::Cleaning;
 use crate::worker::Worker;
 use fs_errors::Memory;
 use group_board::Notices;
-use log_cleaner::has_room;
 use pm_region::Region;
 use std::alloc::Global;
 
@@ -34,21 +33,14 @@ fn wider_boxes(alloc: Global, boxes: &Vec<Notices>, more: u64) -> Result<Vec<Not
 impl Worker {
     // Whether a chunk is looked for that may be cleaned.
     fn may_search(&self) -> bool
-        requires measured { IsMeasured self.now }
-        requires layout { self.now.log.layout ≡ self.now.layout }
         ensures yes { result ≡ true → (self.now.stopped ≡ false) × (self.now.winds_down ≡ false)
             × (self.now.accepted ≡ true) × (free_chunk_count self.now.allocator ≤ 1) }
-        ensures no { result ≡ false → (s : State)
-            → (IsTelling s → HasFewest s self.now.log self.now.standing)
-            → MayNotBegin s self.now }
+        ensures no { result ≡ false → (s : State) → MayNotBegin s self.now }
     {
         if self.stopped || self.winds_down {
             return false;
         }
-        if !self.accepted || self.allocator.free_chunks() > 1 {
-            return false;
-        }
-        has_room(&self.room(), self.standing.fewest())
+        self.accepted && self.allocator.free_chunks() <= 1
     }
 
     // Begins the cleaning of a chunk. Where there is no memory for it, nothing is another one.
@@ -62,7 +54,6 @@ impl Worker {
         self.own_gone = own_gone;
         self.notices = notices;
         self.standing.count(Some(begun.tally));
-        self.standing.note_fewest(0);
         self.cleaning = Cleaning::Copying {
             victim: begun.victim,
             first: true,
@@ -85,10 +76,10 @@ impl Worker {
             → StandsIn (R.state region.now) self.old.log }
         requires counted { self.old.stopped ≡ false → self.old.winds_down ≡ false
             → IsTelling (R.state region.now)
-            → IsUpToDate (R.state region.now) self.old.log self.old.standing }
-        requires fewest { self.old.stopped ≡ false → self.old.winds_down ≡ false
+            → IsStandingOf (R.state region.now) self.old.log self.old.standing }
+        requires floors { self.old.stopped ≡ false → self.old.winds_down ≡ false
             → IsTelling (R.state region.now)
-            → HasFewest (R.state region.now) self.old.log self.old.standing }
+            → HasFloors (R.state region.now) self.old.log self.old.standing }
         ensures { Begins result (R.state region.now) self.old self.new }
     {
         if !self.may_search() {

@@ -17,6 +17,7 @@ ghost use Rattle.batch_leader.specs.Persisting.{StaysLicensed, WritesPart};
 ghost use Rattle.lazy_alloc.specs.Sets.{AreSets, GivesChunk, chunk_is_free, chunk_class};
 ghost use Rattle.licence.specs.Licence.{Licensed};
 ghost use Rattle.licence.specs.Writes.{Begins};
+ghost use Rattle.log_cleaner.specs.Floors.{HasFloors};
 ghost use Rattle.log_cleaner.specs.Clearing.{IsReady};
 ghost use Rattle.log_cleaner.specs.Copying.{IsUpToDate};
 ghost use Rattle.log_cleaner.specs.ImagesBeside.{AgreesIn};
@@ -88,7 +89,9 @@ pub(crate) fn end_cleaning<R: Region, B: Board>(
     ensures counted { OnOk result (IsTelling (R.state region.new)
         → IsUpToDate (R.state region.new) log.new standing.new) }
     ensures read { OnOk result (standing.new.settled ≡ None) }
-    ensures few { OnOk result (standing.new.fewest ≡ 0) }
+    ensures floors { OnOk result (IsTelling (R.state region.new)
+        → HasFloors (R.state region.old) log.old standing.old
+        → HasFloors (R.state region.new) log.new standing.new) }
     ensures untold { all_untold index.new ≤ all_untold index.old }
     ensures kept { OnErr result ((B.view board.new ≡ B.view board.old) × (log.new ≡ log.old)
         × (allocator.new ≡ allocator.old) × (standing.new ≡ standing.old)

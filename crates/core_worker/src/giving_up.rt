@@ -12,6 +12,7 @@ ghost use Rattle.batch_leader.specs.Persisting.{StaysLicensed, WritesPart};
 ghost use Rattle.lazy_alloc.specs.Sets.{AreSets, chunk_is_free, chunk_class};
 ghost use Rattle.licence.specs.Licence.{Licensed};
 ghost use Rattle.licence.specs.Writes.{Begins};
+ghost use Rattle.log_cleaner.specs.Floors.{HasFloors};
 ghost use Rattle.log_cleaner.specs.Clearing.{IsReady};
 ghost use Rattle.log_cleaner.specs.Copying.{IsUpToDate};
 ghost use Rattle.log_cleaner.specs.Dropping.{lone_in};
@@ -75,7 +76,9 @@ pub(crate) fn give_up<R: Region, B: Board>(
         (runs.Kind.Retire clearing.doomed) (B.whole board.new) (B.view board.new))
         (λ _. B.whole board.new ≡ B.whole board.old) }
     ensures read { OnOk result (standing.new.settled ≡ None) }
-    ensures few { OnOk result (standing.new.fewest ≡ 0) }
+    ensures floors { OnOk result (IsTelling (R.state region.new)
+        → HasFloors (R.state region.old) log.old standing.old
+        → HasFloors (R.state region.new) log.new standing.new) }
     ensures count { OnOk result (length standing.new.entries
         + lone_in standing.old clearing.names ≤ length standing.old.entries) }
     ensures room { OnOk result (standing.new.room ≡ standing.old.room) }

@@ -67,7 +67,6 @@ impl Worker {
             mut standing,
         } = start;
         standing.reserve(MOST_NAMES)?;
-        standing.note_fewest(0);
         hear_own(&mut index, &mut standing, core);
         let queue = ConflictQueue::open(alloc)?;
         let places = free_places(alloc)?;

@@ -8,7 +8,7 @@ use Rattle.log_entry.specs.declared.entry.Entry.{Entry}
 use Rattle.log_entry.specs.Spelling.{words_of}
 use Rattle.core_log.specs.Log.{LogState}
 use Rattle.log_standing.specs.declared.types.Copies.{Copies}
-use Rattle.log_standing.specs.NameCounts.{StandingState, name_eq, copies_at, count_in, told_in, count_of, is_told, killed, tally_without, fewest_without, Changes, bit}
+use Rattle.log_standing.specs.NameCounts.{StandingState, name_eq, copies_at, count_in, told_in, count_of, is_told, killed, spot_in, tally_without, Changes, LowersFloors, bit}
 use Rattle.log_standing.specs.ChunkCounts.{is_named, has_name, IsStandingOf}
 use Rattle.core_log.specs.Walking.{entries_in, behind}
 use Rattle.log_cleaner.specs.Copying.{awaits, left_to_copy, words_sum, IsSettledIn, IsUpToDate}
@@ -35,6 +35,14 @@ killed_doomed (Some c) told = elim (c.count == 1) as (λ b. (c.count == 1) ≡ b
   | true ↦ λ is. sym (ap (λ (d : Bool). d && true) (told (eqb-true c.count 1 is)))
   | false ↦ λ isnt. sym (and_false c.dead)
 ] refl
+
+killed_spot : (o : Option Copies) → spot_in (option_map killed o) ≡ spot_in o
+killed_spot None = refl
+killed_spot (Some c) = refl
+
+killed_still : (o : Option Copies) → told_in (option_map killed o) ≡ false → told_in o ≡ false
+killed_still None untold = untold
+killed_still (Some c) untold = absurd (cc untold)
 
 module _ (old new : StandingState) (k v : ℕ) (changes : Changes old new k v (option_map killed (copies_at old k v))) where
   -- the names stand as before
@@ -83,9 +91,10 @@ module _ (old new : StandingState) (k v : ℕ) (changes : Changes old new k v (o
   kill_up s log same up = record { counts = kill_standing s log up.counts; settled = kill_settled s log same up.settled }
 
   -- what is counted of a chunk stays so
-  pub kill_tally : new.tally ≡ tally_without old k v → new.fewest ≡ fewest_without old k v → KeepsTally old new
+  pub kill_tally : new.tally ≡ tally_without old k v → LowersFloors old new k v → KeepsTally old new
   kill_tally = wanted_no_more old new k v (option_map killed (copies_at old k v)) changes
       (ap (λ (o : Option Copies). count_in o == 1 && not (told_in o)) (changes k v ∙ cond-true (name_eq (k, v) (k, v)) (option_map killed (copies_at old k v)) (copies_at old k v) (name_same k v)) ∙ killed_awaits (copies_at old k v))
+      (killed_spot (copies_at old k v)) (killed_still (copies_at old k v))
 
   -- what was gathered stays so
   pub kill_gathered : (es : List (ℕ × Entry)) (c : ClearingState) → left_to_copy old es ≡ [] → IsGathered old es c → IsGathered new es c

@@ -7,10 +7,13 @@ use Rattle.chunk_map.proofs.Clients.{numbers_of, chunk_words_whole, payload_of}
 use Rattle.core_log.specs.declared.types.Room.{Room}
 use Rattle.core_log.specs.Log.{LogState, StandsIn, tail_of, tail_in}
 use Rattle.log_cleaner.specs.declared.types.Victim.{Victim}
+use Rattle.core_log.specs.Walking.{entries_in}
+use Rattle.log_standing.specs.ChunkCounts.{IsStandingOf}
 use Rattle.log_standing.specs.NameCounts.{StandingState}
-use Rattle.log_cleaner.specs.Choosing.{copy_lines, has_room, IsEligible, Comes, IsVictim, IsFirstIn}
-use Rattle.log_cleaner.specs.Copying.{to_copy}
-use Rattle.log_cleaner.specs.Tallied.{HasFewest, IsAtMost}
+use Rattle.log_cleaner.specs.Choosing.{copy_lines, fits, has_room, IsCandidate, IsEligible, IsPast, Comes, IsVictim, IsFirstIn}
+use Rattle.log_cleaner.specs.Copying.{tally_of, to_copy}
+use Rattle.log_cleaner.specs.Floors.{HasFloors, Searches}
+use Rattle.log_cleaner.proofs.FloorLaws.{left_searched}
 use Rattle.log_cleaner.proofs.Parts.{chunk_of}
 
 pub tail_small : (s : State) (log : LogState) (j : ℕ) → StandsIn s log → is_some (tail_of log.chunks j) ≡ true → tail_in log j ≤ 524288
@@ -78,20 +81,37 @@ more_room room fewest lines le has =
     or_second true b is = refl
     or_second false b is = is
 
--- no chunk is eligible where there is no room for the fewest lines of any
-pub none_chosen : (s : State) (log : LogState) (st : StandingState) (room : Room) → HasFewest s log st → has_room room st.fewest ≡ false → (i : ℕ) → IsEligible s log st room i → ⊥
-none_chosen s log st room few none i is =
-    let le = few i is.has (λ at. is.closed at) in
-    absurd (cc (sym none ∙ more_room room st.fewest (copy_lines (to_copy s log st i)) le is.fitting))
+-- the lines of more entries and words are no fewer
+more_lines : (j i e w f v : ℕ) → e ≤ f → w ≤ v → copy_lines (record { chunk = j; entries = e; words = w }) ≤ copy_lines (record { chunk = i; entries = f; words = v })
+more_lines j i e w f v le few = omega (arith, le, few)
 
--- the fewest lines of all closed chunks are noted
-pub fewest_noted : (s : State) (log : LogState) (old new : StandingState) (begin first last : ℕ) → StandsIn s log → new ≡ record old { fewest = last } → last ≤ first
-    → ((i : ℕ) → begin ≤ i → i < 64 → IsAtMost s log old first i) → ((i : ℕ) → 0 ≤ i → i < begin → IsAtMost s log old last i) → HasFewest s log new
-fewest_noted s log old new begin first last stands is le high low = subst (λ (st : StandingState). HasFewest s log st) (sym is) (λ j has closed. ⊎_elim
-    (λ (lt : j < begin). low j (omega arith) lt has closed)
-    (λ (ge : begin ≤ j).
-    let within = (chunk_of s log stands j has).within in
-    let most = (numbers_of log.layout stands.own.layout).chunks_high in
-    let lines = high j ge (omega (arith, within, most)) has closed in
-    omega (arith, lines, le))
-    (cases_lt j begin))
+-- a chunk is not eligible where so much is left of it at least that it doesn't fit
+pub past_eligible : (s : State) (log : LogState) (st : StandingState) (room : Room) (j : ℕ) → HasFloors s log st → IsPast st room j → IsEligible s log st room j → ⊥
+past_eligible s log st room j floors past is =
+    let floor = (floors.counted j past.amount past.noted).floor in
+    let v = to_copy s log st j in
+    let fewer = more_lines j j past.amount.entries past.amount.words v.entries v.words floor.entries floor.words in
+    absurd (let both : false ≡ true = sym past.past ∙ more_room room (copy_lines (record { chunk = j; entries = past.amount.entries; words = past.amount.words })) (copy_lines v) fewer is.fitting in cc both)
+
+-- the same of the names after a search
+pub same_to_copy : (s : State) (log : LogState) (old new : StandingState) → Searches old new → (j : ℕ) → to_copy s log new j ≡ to_copy s log old j
+same_to_copy s log old new same j = ap (tally_of j) (left_searched old new same (entries_in s log j))
+
+pub eligible_searched : (s : State) (log : LogState) (old new : StandingState) (room : Room) → Searches old new → (i : ℕ) → IsEligible s log old room i → IsEligible s log new room i
+eligible_searched s log old new room same i is = record { has = is.has; closed = is.closed; fitting = ap (fits room) (same_to_copy s log old new same i) ∙ is.fitting }
+
+pub eligible_was : (s : State) (log : LogState) (old new : StandingState) (room : Room) → Searches old new → (i : ℕ) → IsEligible s log new room i → IsEligible s log old room i
+eligible_was s log old new room same i is = record { has = is.has; closed = is.closed; fitting = ap (fits room) (sym (same_to_copy s log old new same i)) ∙ is.fitting }
+
+pub standing_searched : (s : State) (log : LogState) (old new : StandingState) → Searches old new → IsStandingOf s log old → IsStandingOf s log new
+standing_searched s log old new same stands k v = same.counts k v ∙ stands k v
+
+-- what was found after a part of the search
+pub candidate_was : (s : State) (log : LogState) (old new : StandingState) (room : Room) (j : ℕ) (r : Option Victim) → Searches old new → IsCandidate s log new room j r → IsCandidate s log old room j r
+candidate_was s log old new room j None same none = λ is. none (eligible_searched s log old new room same j is)
+candidate_was s log old new room j (Some v) same is = (is.0 ∙ same_to_copy s log old new same j, eligible_was s log old new room same j is.1)
+
+pub first_was : (s : State) (log : LogState) (old new : StandingState) (room : Room) (low high : ℕ) (r : Option Victim) → Searches old new → IsFirstIn s log new room low high r → IsFirstIn s log old room low high r
+first_was s log old new room low high None same none = λ i le lt is. none i le lt (eligible_searched s log old new room same i is)
+first_was s log old new room low high (Some v) same is =
+    (is.0 ∙ same_to_copy s log old new same v.chunk, eligible_was s log old new room same v.chunk is.1, is.2, λ i le lt eligible. is.3 i le lt (eligible_searched s log old new room same i eligible))

@@ -1,6 +1,6 @@
 -- A chunk with nothing left to copy is made Free.
-use Rattle.std.proofs.Common.{◌≡◌, ◌≢◌, inl, inr, ⊎_elim, ℕ, ◌+◌, ◌-◌, ◌≤◌, ◌<◌, ◌==◌, ◌&&◌, not, Bool, true, false, cond, List, [], ◌∷◌, map, Option, Some, None, is_some, refl, sym, ◌∙◌, ap, subst, arith}
-use Rattle.std.specs.List.{filter, count_by}
+use Rattle.std.proofs.Common.{◌≡◌, ◌≢◌, inl, inr, ⊎_elim, ℕ, ◌+◌, ◌-◌, ◌≤◌, ◌<◌, ◌==◌, ◌&&◌, not, Bool, true, false, cond, List, [], ◌∷◌, map, length, Option, Some, None, is_some, refl, sym, ◌∙◌, ap, subst, arith}
+use Rattle.std.specs.List.{AllByRecursion, filter, count_by}
 use Rattle.std.proofs.lemmas.Bool.{cond-true, cond-false, eqb-true, eq-eqb, ne_eqb, and_parts, cases_eq}
 use Rattle.pm_region.specs.Cell.{Cell}
 use Rattle.pm_region.specs.State.{State, IsTelling, cell_now, During}
@@ -19,13 +19,18 @@ use Rattle.core_log.specs.Log.{LogState, StandsIn, tail_of, without, tail_in, fi
 use Rattle.core_log.specs.Walking.{entries_in}
 use Rattle.core_log.specs.Opening.{EachInChunk}
 use Rattle.core_log.specs.Retiring.{HasSameOrNone, RetiredChunk}
+use Rattle.log_entry.specs.Spelling.{words_of}
+use Rattle.log_standing.specs.declared.types.Amount.{Amount}
 use Rattle.log_standing.specs.declared.types.Copies.{Copies}
-use Rattle.log_standing.specs.NameCounts.{StandingState, copies_at, count_in, count_of, is_told, times_in, bit}
+use Rattle.log_standing.proofs.Clients.{same_name}
+use Rattle.log_standing.specs.NameCounts.{StandingState, copies_at, count_in, count_of, floor_at, is_told, one_fewer, spot_in, spot_of, times_in, told_in, bit}
 use Rattle.log_cleaner.specs.Dropping.{lowered, Drops}
-use Rattle.log_standing.specs.ChunkCounts.{has_name, chunks_with, IsStandingOf}
+use Rattle.log_standing.specs.ChunkCounts.{has_name, is_named, chunks_with, IsStandingOf}
 use Rattle.log_cleaner.specs.Copying.{awaits, left_to_copy}
 use Rattle.log_cleaner.specs.Clearing.{ClearingState, is_doomed, IsGathered}
 use Rattle.log_cleaner.specs.ImagesBeside.{Stands, EachInPart, LosesOnly, AgreesIn, Vanish}
+use Rattle.log_cleaner.specs.Floors.{HasFloors, IsCounted, IsFoundIn, IsSeen}
+use Rattle.log_cleaner.proofs.FloorLaws.{all_in, both_so, each_so, more_sums, none_named, sum_ones}
 use Rattle.log_cleaner.proofs.Parts.{StandsAt, part_has, part_in, placed_in, placed_has, name_in, in_named, count_has, Another, another, count_without, count_same, chunk_of, chunk_lasts, was, was_may, was_outside, reads_kept, blocks_kept, free_well, log_well, same_else, was_chunk, image_chunk, entries_still}
 
 pub filter_has : {X : Type 0} (p : X → Bool) (xs : List X) (x : X) → In x xs → p x ≡ true → filter p xs ≡ [] → ⊥
@@ -40,7 +45,7 @@ filter_has p (y ∷ ys) x is passes none = ⊎_elim
 -- one copy less
 less_by_one : (o : Option Copies) → 0 < count_in o → count_in (lowered o) + 1 ≡ count_in o
 less_by_one None some = absurd (omega (arith, some))
-less_by_one (Some c) some = elim (c.count == 1) as (λ b. (c.count == 1) ≡ b → count_in (cond b None (Some (record { count = c.count - 1; dead = c.dead }))) + 1 ≡ c.count) [
+less_by_one (Some c) some = elim (c.count == 1) as (λ b. (c.count == 1) ≡ b → count_in (cond b None (Some (one_fewer c))) + 1 ≡ c.count) [
   | true ↦ λ is. let e = eqb-true c.count 1 is in omega (arith, e)
   | false ↦ λ isnt. omega (arith, some)
 ] refl
@@ -241,3 +246,120 @@ module _ (s : State) (log : LogState) (st : StandingState) (c : ClearingState) (
             | false ↦ λ isnt. let b = fewer k v in let e = ap {B = ℕ} (λ (q : Bool). cond q 1 0) isnt in omega (arith, b, e, some)
           ] refl;
     }
+
+    -- What a search has counted of the other chunks.
+    module _ (forgot : (i : ℕ) → floor_at new i ≡ cond (c.chunk == i) None (floor_at st i)) (floors : HasFloors s log st) where
+      other_chunk : (i : ℕ) (a : Amount) → floor_at new i ≡ Some a → (i ≢ c.chunk) × (floor_at st i ≡ Some a)
+      other_chunk i a is = by (c.chunk == i) refl where
+        by : (b : Bool) → (c.chunk == i) ≡ b → (i ≢ c.chunk) × (floor_at st i ≡ Some a)
+        by true here = absurd (let e : Some a ≡ None = sym is ∙ forgot i ∙ cond-true (c.chunk == i) None (floor_at st i) here in cc e)
+        by false isnt = (
+          λ e. absurd (let both : true ≡ false = sym (eq-eqb c.chunk i (sym e)) ∙ isnt in cc both),
+          sym (forgot i ∙ cond-false (c.chunk == i) None (floor_at st i) isnt) ∙ is,
+        )
+
+      -- the chunk stays, and has the entries that it had
+      module _ (i : ℕ) (ne : i ≢ c.chunk) (there : is_some (tail_of log.chunks i) ≡ true) where
+        abbrev es : List (ℕ × Entry)
+        es = entries_in s log i
+
+        stays_there : is_some (tail_of (without log.chunks c.chunk) i) ≡ true
+        stays_there = ap is_some (without_other log.chunks c.chunk i ne) ∙ there
+
+        -- a name of it that stands in the chunk that was given up has another copy
+        two_copies : (k v : ℕ) → has_name es k v ≡ true → has_at k v c.chunk ≡ true → 1 < count_of st k v
+        unfolding stays_there
+        two_copies k v here also =
+            let n = standing telling k v in
+            let d = count_without (has_at k v) log.chunks c.chunk has in
+            let e = ap {B = ℕ} (λ (b : Bool). cond b 1 0) also in
+            let m = count_has (has_at k v) (without log.chunks c.chunk) i stays_there here in
+            omega (arith, n, d, e, m)
+
+        record Alike (k v : ℕ) : Type 0 where
+          pub told : is_told new k v ≡ is_told st k v
+          pub spot : spot_of new k v ≡ spot_of st k v
+          pub count : count_of st k v ≡ 1 → count_of new k v ≡ 1
+
+        lowered_alike : (o : Option Copies) → 1 < count_in o → (told_in (lowered o) ≡ told_in o) × (spot_in (lowered o) ≡ spot_in o)
+        lowered_alike None two = absurd (omega (arith, two))
+        lowered_alike (Some x) two =
+            let e = cond-false (x.count == 1) None (Some (one_fewer x)) (ne_eqb x.count 1 (λ one. omega (arith, two, one))) in
+            (ap told_in e, ap spot_in e)
+
+        alike : (k v : ℕ) → has_name es k v ≡ true → Alike k v
+        unfolding two_copies
+        alike k v here = by (has_at k v c.chunk) refl where
+          by : (b : Bool) → has_at k v c.chunk ≡ b → Alike k v
+          by true also =
+              let two = two_copies k v here also in
+              let one = (gathered telling).names k v ∙ ap bit also in
+              let now = drops k v ∙ cond-false (times_in c.names k v == 0) (copies_at st k v) (lowered (copies_at st k v)) (ne_eqb (times_in c.names k v) 0 (λ zero_is. omega (arith, one, zero_is))) in
+              let same = lowered_alike (copies_at st k v) two in
+              record { told = ap told_in now ∙ same.0; spot = ap spot_in now ∙ same.1; count = λ one. absurd (omega (arith, one, two)) }
+          by false isnt =
+              let none = (gathered telling).names k v ∙ ap bit isnt in
+              let now = drops k v ∙ cond-true (times_in c.names k v == 0) (copies_at st k v) (lowered (copies_at st k v)) (eq-eqb (times_in c.names k v) 0 none) in
+              record { told = ap told_in now; spot = ap spot_in now; count = λ one. ap count_in now ∙ one }
+
+        each_alike : (xs : List (ℕ × Entry)) → ((y : ℕ × Entry) → In y xs → In y es) → AllByRecursion (λ (y : ℕ × Entry). Alike y.1.key y.1.version) xs
+        unfolding alike
+        each_alike xs within = all_in (λ (y : ℕ × Entry). Alike y.1.key y.1.version) xs (λ y is. alike y.1.key y.1.version (in_named es y (within y is)))
+
+        still_awaits : (y : ℕ × Entry) → Alike y.1.key y.1.version → awaits st y ≡ true → awaits new y ≡ true
+        still_awaits y same is =
+            let both = and_parts (count_of st y.1.key y.1.version == 1) (not (is_told st y.1.key y.1.version)) is in
+            let one = same.count (eqb-true (count_of st y.1.key y.1.version) 1 both.0) in
+            (λ t. eq-eqb (count_of new y.1.key y.1.version) 1 one t && not (same.told t)) ∙ both.1
+
+        named_once : IsSeen st i es → (k v : ℕ) → is_told new k v ≡ false → count_by (is_named k v) es ≤ 1
+        unfolding each_alike
+        named_once seen k v untold = by (is_told st k v) refl where
+          by : (b : Bool) → is_told st k v ≡ b → count_by (is_named k v) es ≤ 1
+          by false was = seen.once k v was
+          by true was =
+              let none = none_named k v es (each_so (λ (y : ℕ × Entry). Alike y.1.key y.1.version) (λ (y : ℕ × Entry). is_named k v y ≡ true → ⊥) (λ y same is. (let e = same_name y.1.key y.1.version k v is in
+              let both : false ≡ true = sym untold ∙ sym (λ t. is_told new (e.0 t) (e.1 t)) ∙ same.told ∙ (λ t. is_told st (e.0 t) (e.1 t)) ∙ was in cc both)) es (each_alike es (λ y is. is))) in
+              let n = none.0 in
+              omega (arith, n)
+
+        pub clear_counted : (a : Amount) → IsCounted st i a es → IsCounted new i a es
+        unfolding each_alike named_once
+        clear_counted a was =
+            let all = each_alike es (λ y is. is) in
+            let more = more_sums (awaits st) (awaits new) es (each_so (λ (y : ℕ × Entry). Alike y.1.key y.1.version) (λ (y : ℕ × Entry). awaits st y ≡ true → awaits new y ≡ true) (λ y same. still_awaits y same) es all) in
+            let ones = more (λ (y : ℕ × Entry). 1) in
+            let words = more (λ (y : ℕ × Entry). length (words_of y.1)) in
+            let x = sum_ones (left_to_copy st es) in
+            let y = sum_ones (left_to_copy new es) in
+            let e = was.floor.entries in
+            let w = was.floor.words in
+            record {
+              seen = record {
+                found = both_so (λ (y : ℕ × Entry). Alike y.1.key y.1.version) (IsFoundIn st i) (IsFoundIn new i) (λ y same found untold. same.spot ∙ found (sym same.told ∙ untold)) es all was.seen.found;
+                once = named_once was.seen;
+              };
+              floor = record { entries = omega (arith, ones, x, y, e); words = omega (arith, words, w) };
+            }
+
+      is_some_of : (o : Option Amount) → is_some o ≡ true → (a : Amount) × (o ≡ Some a)
+      is_some_of None none = absurd (cc none)
+      is_some_of (Some a) is = (a, refl)
+
+      pub clear_floors : HasFloors t log' new
+      unfolding clear_counted is_some_of
+      clear_floors = record {
+        closed = λ i some.
+            let at = is_some_of (floor_at new i) some in
+            let other = other_chunk i at.0 at.1 in
+            let was = floors.closed i (ap is_some other.1) in
+            record {
+              has = ap (λ (cs : List LogChunk). is_some (tail_of cs i)) chunks_are ∙ ap is_some (without_other log.chunks c.chunk i other.0) ∙ was.has;
+              closed = λ at_it. was.closed (sym (ap (λ (l : LogState). l.opened) retired.log_is) ∙ at_it);
+            };
+        counted = λ i a is.
+            let other = other_chunk i a is in
+            let was = floors.closed i (ap is_some other.1) in
+            let same = still_has i (ap is_some (without_other log.chunks c.chunk i other.0) ∙ was.has) in
+            subst (IsCounted new i a) (sym same) (clear_counted i other.0 was.has a (floors.counted i a other.1));
+      }

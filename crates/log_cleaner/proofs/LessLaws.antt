@@ -12,6 +12,7 @@ use Rattle.log_standing.specs.NameCounts.{StandingState, copies_at, count_in, to
 use Rattle.log_standing.specs.ChunkCounts.{is_named, has_name}
 use Rattle.log_cleaner.specs.Copying.{awaits, left_to_copy, IsEachOnce}
 use Rattle.log_cleaner.specs.CopyBatch.{firsts, next_batch, Adds, IsLess, IsLessJust}
+pub use Rattle.log_cleaner.proofs.FloorLaws.{sum_ones}
 use Rattle.log_cleaner.proofs.Parts.{name_in, in_named}
 use Rattle.log_cleaner.proofs.Batches.{name_sym, filter_same, filter_both, filter_swap, two_wants, and_false, and_true}
 use Rattle.log_cleaner.proofs.CopyLaws.{in_batch}
@@ -52,10 +53,6 @@ sum_firsts f p (x ∷ xs) =
       | true ↦ let a = sum_by-cons f x (filter p (filter q (firsts xs))) in let b = sum_by-cons f x (filter p xs) in omega (arith, a, b, swap, fewer, rest)
       | false ↦ omega (arith, swap, fewer, rest)
     ]
-
-pub sum_ones : (xs : List (ℕ × Entry)) → sum_by (λ (x : ℕ × Entry). 1) xs ≡ length xs
-sum_ones [] = refl
-sum_ones (x ∷ xs) = let a = sum_by-cons (λ (y : ℕ × Entry). 1) x xs in let rest = sum_ones xs in omega (arith, a, rest)
 
 -- entries of which no two have one name
 pub filter_same_in : {X : Type 0} (p q : X → Bool) (xs : List X) → ((x : X) → In x xs → p x ≡ q x) → filter p xs ≡ filter q xs

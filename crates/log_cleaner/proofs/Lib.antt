@@ -15,3 +15,5 @@ pub mod Added
 pub mod Opened
 pub mod Tallies
 pub mod TallyLaws
+pub mod FloorLaws
+pub mod SearchLaws

@@ -51,3 +51,7 @@ settled_same s log old new h same settled = record { between = settled.between; 
   where
     left : (xs : List (ℕ × Entry)) → left_to_copy new xs ≡ left_to_copy old xs
     left xs = filter_same (awaits new) (awaits old) xs (λ y. ap (λ (o : Option Copies). count_in o == 1 && not (told_in o)) (same y.1.key y.1.version))
+
+-- by standing entries of which the same is left
+pub settled_alike : (s : State) (log : LogState) (old new : StandingState) (h : Settled) → ((xs : List (ℕ × Entry)) → left_to_copy new xs ≡ left_to_copy old xs) → IsSettled s log old h → IsSettled s log new h
+settled_alike s log old new h left settled = record { between = settled.between; none = left (entries_in s log h.chunk) ∙ settled.none ∙ sym (left (behind h.place (entries_in s log h.chunk))) }

@@ -1,8 +1,8 @@
 -- What is left of a chunk, as names are noted of it and wanted no more.
-use Rattle.std.proofs.Common.{◌≡◌, ⊎_elim, ℕ, ◌+◌, ◌-◌, ◌*◌, ◌≤◌, ◌<◌, ◌==◌, ◌&&◌, not, Bool, true, false, cond, List, [], ◌∷◌, ◌++◌, length, Option, Some, None, refl, sym, ◌∙◌, ap, subst, arith, append_assoc}
+use Rattle.std.proofs.Common.{◌≡◌, ⊎_elim, ℕ, ◌+◌, ◌-◌, ◌*◌, ◌≤◌, ◌<◌, ◌==◌, ◌&&◌, not, Bool, true, false, cond, List, [], ◌∷◌, ◌++◌, length, Option, Some, None, is_some, refl, sym, ◌∙◌, ap, subst, arith, append_assoc}
 use Rattle.std.specs.Prelude.{option_map}
 use Rattle.std.specs.List.{filter, sum_by, count_by}
-use Rattle.std.proofs.lemmas.Bool.{cases_lt, cond-true, cond-false}
+use Rattle.std.proofs.lemmas.Bool.{and_parts, cases_lt, cond-true, cond-false, eq-eqb}
 use Rattle.std.proofs.lemmas.List.Sums.{sum_by-append, sum_by-cons}
 use Rattle.pm_region.specs.State.{State}
 use Rattle.log_entry.specs.declared.entry.Entry.{Entry}
@@ -13,30 +13,41 @@ use Rattle.core_log.specs.Walking.{entries_in, words_in, behind, IsFound}
 use Rattle.core_log.proofs.Clients.{ordered, all_behind}
 use Rattle.log_standing.specs.declared.types.Amount.{Amount}
 use Rattle.log_standing.specs.declared.types.Copies.{Copies}
-use Rattle.log_standing.specs.NameCounts.{StandingState, name_eq, copies_at, count_in, told_in, wants, killed, Changes, SameCopies, tally_without, fewest_without}
+use Rattle.log_standing.specs.declared.types.Spot.{Spot}
+use Rattle.log_standing.specs.NameCounts.{StandingState, name_eq, copies_at, count_in, count_of, told_in, is_told, spot_in, spot_of, wants, floor_at, floor_in, less_entry, Lowers, LowersFloors, Changes, SameCopies, tally_without}
 use Rattle.log_standing.specs.ChunkCounts.{is_named}
 use Rattle.log_standing.specs.Tallies.{TallyState, amount_at, entries_in as entries_of, less, more, words_in as words_at}
 use Rattle.log_standing.proofs.Clients.{same_name}
 use Rattle.log_standing.proofs.Filled.{append_none}
-use Rattle.log_cleaner.specs.Choosing.{copy_lines}
-use Rattle.log_cleaner.specs.Copying.{awaits, left_to_copy, tally_of, words_sum}
-use Rattle.log_cleaner.specs.Tallied.{words_named, HasAmounts, NotesIf, IsTallyOf, IsTallied, KeepsTally, lines_left}
+use Rattle.log_cleaner.specs.Copying.{awaits, left_to_copy, words_sum}
+use Rattle.log_cleaner.specs.Tallied.{words_named, HasAmounts, NotesIf, IsTallyOf, IsTallied, KeepsTally}
+use Rattle.log_cleaner.specs.Floors.{HasFloor, HasFloors, IsCounted, IsFoundIn, IsSeen, spot_at}
 use Rattle.log_cleaner.proofs.Batches.{name_sym, filter_same}
+use Rattle.log_cleaner.proofs.FloorLaws.{SameSpot, each_so, every, floor_kept, none_named, one_named, seen_kept}
 use Rattle.log_cleaner.proofs.LessLaws.{sum_ones}
 
+not_true : (b : Bool) → not b ≡ true → b ≡ false
+not_true true is = sym is
+not_true false is = refl
+
 pub keeps_itself : (st : StandingState) → KeepsTally st st
-keeps_itself st = record { less = λ t is. record { tally = t; is = is; entries = omega arith; words = omega arith }; tally = λ es is. is; fewest = λ es le. le }
+keeps_itself st = record { less = λ t is. record { tally = t; is = is; entries = omega arith; words = omega arith }; tally = λ es is. is; noted = λ j is. is; floors = λ j es had. had }
 
 pub keeps_both : (old mid new : StandingState) → KeepsTally old mid → KeepsTally mid new → KeepsTally old new
 keeps_both old mid new first then = record {
   less = λ t is. (let a = first.less t is in let b = then.less a.tally a.is in let e = a.entries in let f = a.words in let g = b.entries in let h = b.words in record { tally = b.tally; is = b.is; entries = omega (arith, e, g); words = omega (arith, f, h) });
   tally = λ es is. then.tally es (first.tally es is);
-  fewest = λ es le. then.fewest es (first.fewest es le);
+  noted = λ j is. first.noted j (then.noted j is);
+  floors = λ j es had. then.floors j es (first.floors j es had);
 }
 
+-- and so what was noted of each chunk
+pub floors_kept : (s : State) (log : LogState) (old new : StandingState) → KeepsTally old new → HasFloors s log old → HasFloors s log new
+floors_kept s log old new keeps F = record { closed = λ j some. F.closed j (keeps.noted j some); counted = λ j. keeps.floors j (entries_in s log j) (F.counted j) }
+
 -- where the names stand as before
-pub keeps_same : (old new : StandingState) → SameCopies old new → new.tally ≡ old.tally → new.fewest ≤ old.fewest → KeepsTally old new
-keeps_same old new same tally fewest = record {
+pub keeps_same : (old new : StandingState) → SameCopies old new → new.tally ≡ old.tally → new.floors ≡ old.floors → KeepsTally old new
+keeps_same old new same tally floors = record {
   less = λ t is. record { tally = t; is = tally ∙ is; entries = omega arith; words = omega arith };
   tally = λ es is. record {
     tally = is.tally;
@@ -47,7 +58,11 @@ keeps_same old new same tally fewest = record {
       each = is.of.each;
     };
   };
-  fewest = λ es le. (let lines : lines_left new es ≡ lines_left old es = ap (λ (l : List (ℕ × Entry)). copy_lines (tally_of 0 l)) (left es) in omega (arith, le, fewest, lines));
+  noted = λ j is. ap (λ (fs : List (Option Amount)). is_some (floor_in fs j)) (sym floors) ∙ is;
+  floors = λ j es had a is. (let was = had a (ap (λ (fs : List (Option Amount)). floor_in fs j) (sym floors) ∙ is) in record {
+    seen = seen_kept old new j es (λ k v untold. ap told_in (sym (same k v)) ∙ untold) (every (SameSpot old new) (λ y. ap spot_in (same y.1.key y.1.version)) es) was.seen;
+    floor = floor_kept a old new es (left es) was.floor;
+  });
 }
   where
     left : (es : List (ℕ × Entry)) → left_to_copy new es ≡ left_to_copy old es
@@ -119,37 +134,120 @@ module _ (old new : StandingState) (k v : ℕ) (now : Option Copies) (changes : 
     | false ↦ λ isnt. awaits_other y isnt
   ] refl)
 
-  pub wanted_no_more : new.tally ≡ tally_without old k v → new.fewest ≡ fewest_without old k v → KeepsTally old new
-  wanted_no_more tally fewest = elim (wants old k v) as (λ b. wants old k v ≡ b → KeepsTally old new) [
-    | true ↦ λ wanted. record {
-      less = λ t is. record {
-        tally = less k v t;
-        is = tally ∙ cond-true (wants old k v) (option_map (less k v) old.tally) old.tally wanted ∙ ap (λ (o : Option TallyState). option_map (less k v) o) is;
-        entries = omega arith;
-        words = omega arith;
-      };
-      tally = λ es is. record {
-        tally = less k v is.tally;
-        is = tally ∙ cond-true (wants old k v) (option_map (less k v) old.tally) old.tally wanted ∙ ap (λ (o : Option TallyState). option_map (less k v) o) is.is;
-        of = lowered_tally wanted is.tally es is.of;
-      };
-      fewest = λ es le. (let none : new.fewest ≡ 0 = fewest ∙ cond-true (wants old k v) 0 old.fewest wanted in omega (arith, none));
+  -- the names of the chunks that were counted
+  module _ (spot : spot_in now ≡ spot_of old k v) (still : told_in now ≡ false → is_told old k v ≡ false) where
+    untold_still : (i w : ℕ) → is_told new i w ≡ false → is_told old i w ≡ false
+    untold_still i w = by (name_eq (k, v) (i, w)) refl where
+      by : (b : Bool) → name_eq (k, v) (i, w) ≡ b → is_told new i w ≡ false → is_told old i w ≡ false
+      by true is untold =
+          let e = same_name k v i w is in
+          (λ t. is_told old (sym e.0 t) (sym e.1 t)) ∙ still (ap told_in (sym (cond-true (name_eq (k, v) (i, w)) now (copies_at old i w) is) ∙ sym (changes i w)) ∙ untold)
+      by false isnt untold = ap told_in (sym (changes i w ∙ cond-false (name_eq (k, v) (i, w)) now (copies_at old i w) isnt)) ∙ untold
+
+    spot_same : (i w : ℕ) → spot_of new i w ≡ spot_of old i w
+    spot_same i w = by (name_eq (k, v) (i, w)) refl where
+      by : (b : Bool) → name_eq (k, v) (i, w) ≡ b → spot_of new i w ≡ spot_of old i w
+      by true is = let e = same_name k v i w is in ap spot_in (changes i w ∙ cond-true (name_eq (k, v) (i, w)) now (copies_at old i w) is) ∙ spot ∙ (λ t. spot_of old (e.0 t) (e.1 t))
+      by false isnt = ap spot_in (changes i w ∙ cond-false (name_eq (k, v) (i, w)) now (copies_at old i w) isnt)
+
+    seen_still : (j : ℕ) (es : List (ℕ × Entry)) → IsSeen old j es → IsSeen new j es
+    seen_still j es = seen_kept old new j es untold_still (every (SameSpot old new) (λ y. spot_same y.1.key y.1.version) es)
+
+    floor_unwanted : wants old k v ≡ false → new.floors ≡ old.floors → (j : ℕ) (es : List (ℕ × Entry)) → HasFloor old j es → HasFloor new j es
+    floor_unwanted wasnt same j es had a is = let was = had a (ap (λ (fs : List (Option Amount)). floor_in fs j) (sym same) ∙ is) in record {
+      seen = seen_still j es was.seen;
+      floor = floor_kept a old new es (same_left wasnt es) was.floor;
     }
-    | false ↦ λ wasnt. record {
-      less = λ t is. record { tally = t; is = tally ∙ cond-false (wants old k v) (option_map (less k v) old.tally) old.tally wasnt ∙ is; entries = omega arith; words = omega arith };
-      tally = λ es is. record {
-        tally = is.tally;
-        is = tally ∙ cond-false (wants old k v) (option_map (less k v) old.tally) old.tally wasnt ∙ is.is;
-        of = record {
-          entries = is.of.entries ∙ sym (ap (λ (l : List (ℕ × Entry)). length l) (same_left wasnt es));
-          words = is.of.words ∙ sym (ap words_sum (same_left wasnt es));
-          each = is.of.each;
+
+    -- an entry of the name is the one that was found
+    named_found : wants old k v ≡ true → (j : ℕ) (y : ℕ × Entry) → IsFoundIn old j y → is_named k v y ≡ true → spot_of old k v ≡ spot_at j y
+    named_found wanted j y found is =
+        let e = same_name y.1.key y.1.version k v is in
+        let both = and_parts (count_of old k v == 1) (not (is_told old k v)) wanted in
+        let untold : is_told old k v ≡ false = not_true (is_told old k v) both.1 in
+        (λ t. spot_of old (sym e.0 t) (sym e.1 t)) ∙ found ((λ t. is_told old (e.0 t) (e.1 t)) ∙ untold)
+
+    is_untold : wants old k v ≡ true → is_told old k v ≡ false
+    is_untold wanted = not_true (is_told old k v) (and_parts (count_of old k v == 1) (not (is_told old k v)) wanted).1
+
+    floor_wanted : wants old k v ≡ true → Lowers old.floors new.floors (spot_of old k v) → (j : ℕ) (es : List (ℕ × Entry)) → HasFloor old j es → HasFloor new j es
+    floor_wanted wanted lowers j es had a is = by ((spot_of old k v).chunk == j) refl (floor_at old j) refl where
+      at : ℕ → Spot → Option Amount → Option Amount
+      at i s o = cond (s.chunk == i) (option_map (less_entry s.words) o) o
+
+      by : (b : Bool) → ((spot_of old k v).chunk == j) ≡ b → (o : Option Amount) → floor_at old j ≡ o → IsCounted new j a es
+      by true here None none = absurd (let e : Some a ≡ None = sym is ∙ lowers j ∙ cond-true ((spot_of old k v).chunk == j) (option_map (less_entry (spot_of old k v).words) (floor_at old j)) (floor_at old j) here ∙ ap (option_map (less_entry (spot_of old k v).words)) none in cc e)
+      by true here (Some was) at =
+          let w = (spot_of old k v).words in
+          let now : Some (less_entry w was) ≡ Some a = sym (lowers j ∙ cond-true ((spot_of old k v).chunk == j) (option_map (less_entry w) (floor_at old j)) (floor_at old j) here ∙ ap (option_map (less_entry w)) at) ∙ is in
+          let same : less_entry w was ≡ a = cc now in
+          let had_it = had was at in
+          let once = had_it.seen.once k v (is_untold wanted) in
+          let named = one_named k v w es (each_so (IsFoundIn old j) (λ (y : ℕ × Entry). is_named k v y ≡ true → length (words_of y.1) ≡ w) (λ y found is_it. ap (λ (p : Spot). p.words) (sym (named_found wanted j y found is_it))) es had_it.seen.found) once in
+          let entries = fewer_entries wanted es in
+          let words = fewer_words wanted es in
+          let e = had_it.floor.entries in
+          let f = had_it.floor.words in
+          let g = ap (λ (x : Amount). x.entries) same in
+          let h = ap (λ (x : Amount). x.words) same in
+          let n = named.0 in
+          record {
+            seen = seen_still j es had_it.seen;
+            floor = record { entries = omega (arith, entries, e, g, once); words = omega (arith, words, f, h, n) };
+          }
+      by false other o at =
+          let had_it = had a (sym (lowers j ∙ cond-false ((spot_of old k v).chunk == j) (option_map (less_entry (spot_of old k v).words) (floor_at old j)) (floor_at old j) other) ∙ is) in
+          let none = none_named k v es (each_so (IsFoundIn old j) (λ (y : ℕ × Entry). is_named k v y ≡ true → ⊥) (λ y found is_it. (let there = ap (λ (p : Spot). p.chunk) (named_found wanted j y found is_it) in let both : false ≡ true = sym other ∙ eq-eqb (spot_of old k v).chunk j there in cc both)) es had_it.seen.found) in
+          let entries = fewer_entries wanted es in
+          let words = fewer_words wanted es in
+          let e = had_it.floor.entries in
+          let f = had_it.floor.words in
+          let n = none.0 in
+          let m = none.1 in
+          record {
+            seen = seen_still j es had_it.seen;
+            floor = record { entries = omega (arith, entries, e, n); words = omega (arith, words, f, m) };
+          }
+
+    noted_wanted : Lowers old.floors new.floors (spot_of old k v) → (j : ℕ) → is_some (floor_at new j) ≡ true → is_some (floor_at old j) ≡ true
+    noted_wanted lowers j some = by ((spot_of old k v).chunk == j) (floor_at old j) (ap (λ (o : Option Amount). is_some o) (sym (lowers j)) ∙ some) where
+      by : (b : Bool) (o : Option Amount) → is_some (cond b (option_map (less_entry (spot_of old k v).words) o) o) ≡ true → is_some o ≡ true
+      by true None none = none
+      by true (Some x) is = refl
+      by false o is = is
+
+    pub wanted_no_more : new.tally ≡ tally_without old k v → LowersFloors old new k v → KeepsTally old new
+    wanted_no_more tally floors = elim (wants old k v) as (λ b. wants old k v ≡ b → KeepsTally old new) [
+      | true ↦ λ wanted. record {
+        less = λ t is. record {
+          tally = less k v t;
+          is = tally ∙ cond-true (wants old k v) (option_map (less k v) old.tally) old.tally wanted ∙ ap (λ (o : Option TallyState). option_map (less k v) o) is;
+          entries = omega arith;
+          words = omega arith;
         };
-      };
-      fewest = λ es le. (let same : new.fewest ≡ old.fewest = fewest ∙ cond-false (wants old k v) 0 old.fewest wasnt in
-          let lines : lines_left new es ≡ lines_left old es = ap (λ (l : List (ℕ × Entry)). copy_lines (tally_of 0 l)) (same_left wasnt es) in omega (arith, same, le, lines));
-    }
-  ] refl
+        tally = λ es is. record {
+          tally = less k v is.tally;
+          is = tally ∙ cond-true (wants old k v) (option_map (less k v) old.tally) old.tally wanted ∙ ap (λ (o : Option TallyState). option_map (less k v) o) is.is;
+          of = lowered_tally wanted is.tally es is.of;
+        };
+        noted = noted_wanted (floors.wanted wanted);
+        floors = floor_wanted wanted (floors.wanted wanted);
+      }
+      | false ↦ λ wasnt. record {
+        less = λ t is. record { tally = t; is = tally ∙ cond-false (wants old k v) (option_map (less k v) old.tally) old.tally wasnt ∙ is; entries = omega arith; words = omega arith };
+        tally = λ es is. record {
+          tally = is.tally;
+          is = tally ∙ cond-false (wants old k v) (option_map (less k v) old.tally) old.tally wasnt ∙ is.is;
+          of = record {
+            entries = is.of.entries ∙ sym (ap (λ (l : List (ℕ × Entry)). length l) (same_left wasnt es));
+            words = is.of.words ∙ sym (ap words_sum (same_left wasnt es));
+            each = is.of.each;
+          };
+        };
+        noted = λ j is. ap (λ (fs : List (Option Amount)). is_some (floor_in fs j)) (sym (floors.unwanted wasnt)) ∙ is;
+        floors = floor_unwanted wasnt (floors.unwanted wasnt);
+      }
+    ] refl
 
 -- the entries before a place are noted
 pub record Tallying (t : TallyState) (es : List (ℕ × Entry)) (place : ℕ) : Type 0 where

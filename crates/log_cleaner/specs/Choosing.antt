@@ -1,12 +1,13 @@
 -- Which chunk is cleaned next.
-use Rattle.std.specs.Prelude.{◌≡◌, ◌≢◌, ◌⊎◌, ℕ, ◌+◌, ◌*◌, ◌/◌, ◌<◌, ◌≤◌, ◌&&◌, ◌||◌, nat_le, Bool, true, Option, Some, None, is_some, ◌-◌}
+use Rattle.std.specs.Prelude.{◌≡◌, ◌≢◌, ◌⊎◌, ℕ, ◌+◌, ◌*◌, ◌/◌, ◌<◌, ◌≤◌, ◌&&◌, ◌||◌, nat_le, Bool, true, false, Option, Some, None, is_some, ◌-◌}
 use Rattle.log_entry.specs.declared.entry_limits.TheConstants.{MOST_ENTRIES}
 use Rattle.pm_region.specs.Words.{lines_for}
 use Rattle.pm_region.specs.State.{State}
 use Rattle.core_log.specs.declared.types.Room.{Room}
 use Rattle.core_log.specs.Log.{LogState, tail_of, tail_in}
 use Rattle.log_cleaner.specs.declared.types.Victim.{Victim}
-use Rattle.log_standing.specs.NameCounts.{StandingState}
+use Rattle.log_standing.specs.declared.types.Amount.{Amount}
+use Rattle.log_standing.specs.NameCounts.{StandingState, floor_at}
 use Rattle.log_cleaner.specs.Copying.{to_copy}
 
 -- the lines that the copies take at most: their words in whole lines, and a line's end for each batch
@@ -20,6 +21,16 @@ has_room room lines = nat_le (3 * lines) room.payload_lines
 
 abbrev pub fits : Room → Victim → Bool
 fits room v = has_room room (copy_lines v)
+
+-- so much is left of a chunk at least that it doesn't fit
+pub record IsPast (st : StandingState) (room : Room) (j : ℕ) : Type 0 where
+  pub amount : Amount
+  pub noted : floor_at st j ≡ Some amount
+  pub past : has_room room (copy_lines (record {
+    chunk = j;
+    entries = amount.entries;
+    words = amount.words;
+  })) ≡ false
 
 -- a chunk of the log that isn't the open one and whose copies fit
 pub record IsEligible (s : State) (log : LogState) (st : StandingState) (room : Room) (j : ℕ) :

@@ -10,6 +10,7 @@ use Rattle.log_standing.specs.NameCounts.{StandingState, bit, count_of, is_told,
 use Rattle.log_standing.specs.ChunkCounts.{has_name}
 use Rattle.log_cleaner.specs.Copying.{left_to_copy, IsUpToDate}
 use Rattle.log_cleaner.specs.Dropping.{Drops}
+use Rattle.log_cleaner.specs.Floors.{HasFloors}
 use Rattle.log_cleaner.specs.ImagesBeside.{Vanish}
 
 -- the chunk, its names, those that vanish with it, and for how many more names there is room
@@ -60,6 +61,7 @@ pub record HasCleared (s t : State) (log log' : LogState) (old new : StandingSta
   pub dropped : Drops old new c.names
   pub standing : IsTelling t → IsUpToDate t log' new
   pub vanish : IsTelling t → Vanish s t log log' c.doomed
+  pub floors : IsTelling t → HasFloors s log old → HasFloors t log' new
 
 -- a name that wasn't noted yet is noted
 pub record NotesNew (st : StandingState) (old new : ClearingState) (n : EntryName) : Type 0 where

@@ -3,10 +3,10 @@ use Rattle.std.specs.Prelude.{◌≡◌, ℕ, ◌-◌, ◌==◌, List, Option, S
 use Rattle.std.specs.List.{count_by}
 use Rattle.log_entry.specs.declared.entry.EntryName.{EntryName}
 use Rattle.log_standing.specs.declared.types.Copies.{Copies}
-use Rattle.log_standing.specs.NameCounts.{StandingState, copies_at, copies_with, count_of, times_in}
+use Rattle.log_standing.specs.NameCounts.{StandingState, copies_at, count_of, one_fewer, times_in}
 
 abbrev pub one_less : Copies → Option Copies
-one_less c = if c.count == 1 then None else Some (copies_with (c.count - 1) c.dead)
+one_less c = if c.count == 1 then None else Some (one_fewer c)
 
 -- a copy less of a name, where it stands
 abbrev pub lowered : Option Copies → Option Copies

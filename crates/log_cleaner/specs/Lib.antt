@@ -6,6 +6,8 @@ pub mod Vanishing
 pub mod Additions
 pub mod CopyBatch
 pub mod Choosing
+pub mod Floors
+pub mod Searching
 pub mod Tallied
 pub use Rattle.log_entry.specs.Batches
 pub use Rattle.pm_region.specs.Cell

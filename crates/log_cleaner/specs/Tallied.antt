@@ -8,10 +8,10 @@ use Rattle.core_log.specs.declared.types.Peek.{Peek}
 use Rattle.core_log.specs.Log.{LogState, tail_of}
 use Rattle.core_log.specs.Walking.{entries_in}
 use Rattle.log_standing.specs.ChunkCounts.{is_named}
-use Rattle.log_standing.specs.NameCounts.{StandingState, name_eq}
+use Rattle.log_standing.specs.NameCounts.{StandingState, floor_at, name_eq}
 use Rattle.log_standing.specs.Tallies.{TallyState, amount_at, entries_in as entries_of, more, words_in}
-use Rattle.log_cleaner.specs.Choosing.{copy_lines}
-use Rattle.log_cleaner.specs.Copying.{left_to_copy, tally_of, to_copy, words_sum}
+use Rattle.log_cleaner.specs.Copying.{left_to_copy, words_sum}
+use Rattle.log_cleaner.specs.Floors.{HasFloor}
 
 -- how many words the entries of a name take
 abbrev pub words_named : ℕ → ℕ → List (ℕ × Entry) → ℕ
@@ -44,10 +44,6 @@ pub record IsTallied (st : StandingState) (es : List (ℕ × Entry)) : Type 0 wh
   pub is : st.tally ≡ Some tally
   pub of : IsTallyOf tally st es
 
--- the lines that the copies of what is left of these entries take at most
-abbrev pub lines_left : StandingState → List (ℕ × Entry) → ℕ
-lines_left st es = copy_lines (tally_of 0 (left_to_copy st es))
-
 -- no more is counted, whatever it is counted of
 pub record CountsLess (new : StandingState) (t : TallyState) : Type 0 where
   pub tally : TallyState
@@ -55,18 +51,9 @@ pub record CountsLess (new : StandingState) (t : TallyState) : Type 0 where
   pub entries : tally.left.entries ≤ t.left.entries
   pub words : tally.left.words ≤ t.left.words
 
--- What is counted of some entries stays so and only falls, and the number that is noted stays no greater than their lines.
+-- What is counted of some entries stays so and only falls, and what was noted of a chunk stays right.
 pub record KeepsTally (old new : StandingState) : Type 0 where
   pub less : (t : TallyState) → old.tally ≡ Some t → CountsLess new t
   pub tally : (es : List (ℕ × Entry)) → IsTallied old es → IsTallied new es
-  pub fewest : (es : List (ℕ × Entry)) → old.fewest ≤ lines_left old es
-      → new.fewest ≤ lines_left new es
-
--- so many lines at least are to be copied of a chunk, if it is one of the log and not the open one
-abbrev pub IsAtMost : State → LogState → StandingState → ℕ → ℕ → Type 0
-IsAtMost s log st lines j = is_some (tail_of log.chunks j) ≡ true → log.opened ≢ Some j
-    → lines ≤ copy_lines (to_copy s log st j)
-
--- no chunk of the log but the open one has fewer lines to copy than are noted
-abbrev pub HasFewest : State → LogState → StandingState → Type 0
-HasFewest s log st = (j : ℕ) → IsAtMost s log st st.fewest j
+  pub noted : (j : ℕ) → is_some (floor_at new j) ≡ true → is_some (floor_at old j) ≡ true
+  pub floors : (j : ℕ) (es : List (ℕ × Entry)) → HasFloor old j es → HasFloor new j es

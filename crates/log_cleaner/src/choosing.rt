@@ -1,13 +1,13 @@
 // Which chunk is cleaned next.
-ghost use Rattle.std.specs.Prelude.{◌≡◌, ◌≢◌, ℕ, ◌+◌, ◌*◌, ◌/◌, ◌^◌, ◌≤◌, ◌<◌, nat_le, true, is_some, Some, None, Option, IfOk, OnErr, IfNone, IfSome, IsSome};
+ghost use Rattle.std.specs.Prelude.{◌≡◌, ◌≢◌, ℕ, ◌+◌, ◌*◌, ◌/◌, ◌≤◌, ◌<◌, nat_le, true, false, is_some, Some, None, IfSome, IfOk, OnErr};
 ghost use Rattle.pm_region.specs.State.{IsTelling};
 ghost use Rattle.core_log.specs.Log.{StandsIn, tail_of};
-ghost use Rattle.log_cleaner.specs.Copying.{IsUpToDate};
-ghost use Rattle.log_cleaner.specs.Choosing.{copy_lines, has_room, IsChosen, IsCandidate, IsFirstIn, IsVictim};
-ghost use Rattle.log_cleaner.specs.Tallied.{HasFewest, IsAtMost};
+ghost use Rattle.log_standing.specs.ChunkCounts.{IsStandingOf};
+ghost use Rattle.log_cleaner.specs.Choosing.{copy_lines, has_room, IsChosen, IsCandidate, IsFirstIn, IsPast, IsVictim};
+ghost use Rattle.log_cleaner.specs.Floors.{HasFloors, Searches};
 
-use crate::counting::to_copy;
 use crate::reading_start::tail_of;
+use crate::searching::search_chunk;
 use crate::types::Victim;
 use chunk_map::layout_sizes::MOST_CHUNKS;
 use core_log::{CoreLog, Room};
@@ -16,15 +16,12 @@ use log_entry::MOST_ENTRIES;
 use log_standing::Standing;
 use pm_region::{LINE_WORDS, Region};
 use std::alloc::Global;
-use std::cmp::min;
 
 // No part has more chunks.
 const CHUNKS: u32 = MOST_CHUNKS as u32;
 
 // The lines that the copies take at most.
 fn copy_lines(victim: Victim) -> u64
-    requires words { victim.words ≤ 2 ^ 32 }
-    requires entries { victim.entries ≤ 2 ^ 32 }
     ensures { result ≡ copy_lines victim }
 {
     victim.words.div_ceil(LINE_WORDS) + victim.entries.div_ceil(u64::from(MOST_ENTRIES))
@@ -37,43 +34,60 @@ fn has_lines(room: &Room, lines: u64) -> bool
     lines <= room.open_lines && room.pledged_lines <= room.open_lines - lines
 }
 
-/// Whether a chunk with so many lines to copy may be cleaned: they are a third of a payload at most, and there is room
-/// for them. No chunk is to be looked for where there is none for the fewest.
-pub fn has_room(room: &Room, lines: u64) -> bool
+// Whether a chunk with so many lines to copy may be cleaned: they are a third of a payload at most, and there is room
+// for them.
+fn has_room(room: &Room, lines: u64) -> bool
     ensures { result ≡ has_room room.now lines }
 {
     lines <= room.payload_lines / 3 && (has_lines(room, lines) || room.free_chunks >= 1)
 }
 
-// What is to be copied of a chunk, where it is one to be cleaned. Where it is closed and has fewer lines to copy than
-// any before it, and no room for them, their number is noted.
+// Whether a chunk is to be read: it was not counted yet, or what was left of it at least may fit.
+fn is_worth(standing: &Standing, room: &Room, chunk: u32) -> bool
+    ensures { result ≡ false → IsPast standing.now room.now chunk }
+{
+    let Some(amount) = standing.floor(chunk) else {
+        return true;
+    };
+    let least = Victim {
+        chunk,
+        entries: amount.entries,
+        words: amount.words,
+    };
+    has_room(room, copy_lines(least))
+}
+
+// What is to be copied of a chunk, where it is one to be cleaned.
 fn candidate<R: Region>(
     region: &R,
     log: &CoreLog,
-    standing: &Standing,
+    standing: &mut Standing,
     room: &Room,
     chunk: u32,
-    fewest: &mut u64,
 ) -> Option<Victim>
     requires stands { StandsIn (R.state region.now) log.now }
-    requires standing { IsTelling (R.state region.now) → IsUpToDate (R.state region.now) log.now
-        standing.now }
+    requires chunk { chunk < MOST_CHUNKS }
+    requires standing { IsTelling (R.state region.now) → IsStandingOf (R.state region.now) log.now
+        standing.old }
+    requires floors { IsTelling (R.state region.now) → HasFloors (R.state region.now) log.now
+        standing.old }
     ensures chosen { IfSome result (λ v. (v.chunk ≡ chunk) × IsChosen log.now room.now v) }
     ensures tells { IsTelling (R.state region.now)
-        → IsCandidate (R.state region.now) log.now standing.now room.now chunk result }
-    ensures fewest { IsTelling (R.state region.now) → IfNone result (IsAtMost (R.state region.now)
-        log.now standing.now fewest.new chunk) }
-    ensures fewer { fewest.new ≤ fewest.old }
+        → IsCandidate (R.state region.now) log.now standing.old room.now chunk result }
+    ensures same { Searches standing.old standing.new }
+    ensures floors { IsTelling (R.state region.now) → HasFloors (R.state region.now) log.now
+        standing.new }
 {
     if log.opened() == Some(chunk) || tail_of(log, chunk).is_none() {
         return None;
     }
-    let victim = to_copy(region, log, standing, chunk);
-    let lines = copy_lines(victim);
-    if has_room(room, lines) {
+    if !is_worth(standing, room, chunk) {
+        return None;
+    }
+    let victim = search_chunk(region, log, standing, chunk);
+    if has_room(room, copy_lines(victim)) {
         return Some(victim);
     }
-    *fewest = min(*fewest, lines);
     None
 }
 
@@ -81,24 +95,26 @@ fn candidate<R: Region>(
 fn first_in<R: Region>(
     region: &R,
     log: &CoreLog,
-    standing: &Standing,
+    standing: &mut Standing,
     room: &Room,
     low: u32,
     high: u32,
-    fewest: &mut u64,
 ) -> Option<Victim>
     requires stands { StandsIn (R.state region.now) log.now }
-    requires standing { IsTelling (R.state region.now) → IsUpToDate (R.state region.now) log.now
-        standing.now }
+    requires high { high ≤ MOST_CHUNKS }
+    requires standing { IsTelling (R.state region.now) → IsStandingOf (R.state region.now) log.now
+        standing.old }
+    requires floors { IsTelling (R.state region.now) → HasFloors (R.state region.now) log.now
+        standing.old }
     ensures chosen { IfSome result (IsChosen log.now room.now) }
     ensures tells { IsTelling (R.state region.now)
-        → IsFirstIn (R.state region.now) log.now standing.now room.now low high result }
-    ensures fewest { IsTelling (R.state region.now) → IfNone result ((i : ℕ) → low ≤ i → i < high
-        → IsAtMost (R.state region.now) log.now standing.now fewest.new i) }
-    ensures fewer { fewest.new ≤ fewest.old }
+        → IsFirstIn (R.state region.now) log.now standing.old room.now low high result }
+    ensures same { Searches standing.old standing.new }
+    ensures floors { IsTelling (R.state region.now) → HasFloors (R.state region.now) log.now
+        standing.new }
 {
     for chunk in low..high {
-        if let Some(victim) = candidate(region, log, standing, room, chunk, fewest) {
+        if let Some(victim) = candidate(region, log, standing, room, chunk) {
             return Some(victim);
         }
     }
@@ -110,6 +126,7 @@ fn begin_at(after: Option<u32>) -> u32
     ensures none { after ≡ None → result ≡ 0 }
     ensures some { (a : ℕ) → after ≡ Some a → a < MOST_CHUNKS → result ≡ a + 1 }
     ensures past { (a : ℕ) → after ≡ Some a → MOST_CHUNKS ≤ a → result ≡ MOST_CHUNKS }
+    ensures within { result ≤ MOST_CHUNKS }
 {
     match after {
         None => 0,
@@ -119,8 +136,8 @@ fn begin_at(after: Option<u32>) -> u32
 
 /// The chunk that is to be cleaned next, with what is still to be copied of it: of those chunks of the log that are
 /// not open and for whose copies there is room, the one that comes first behind the last victim in cyclic order; none
-/// exactly where there is no such chunk. Each chunk is read once at most. Where there is none, the fewest lines that a
-/// closed chunk has to copy are noted.
+/// exactly where there is no such chunk. A chunk is read where it was not counted yet, or where so little is left of it
+/// that it may fit.
 pub fn victim<R: Region>(
     alloc: Global,
     region: &R,
@@ -130,26 +147,22 @@ pub fn victim<R: Region>(
     room: &Room,
 ) -> Result<Option<Victim>, Memory>
     requires stands { StandsIn (R.state region.now) log.now }
-    requires standing { IsTelling (R.state region.now) → IsUpToDate (R.state region.now) log.now
+    requires standing { IsTelling (R.state region.now) → IsStandingOf (R.state region.now) log.now
+        standing.old }
+    requires floors { IsTelling (R.state region.now) → HasFloors (R.state region.now) log.now
         standing.old }
     ensures chosen { IfOk result (λ found. IfSome found (IsChosen log.now room.now)) }
     ensures tells { IfOk result (λ found. IsTelling (R.state region.now)
         → IsVictim (R.state region.now) log.now standing.old after room.now found) }
-    ensures same { standing.new ≡ record standing.old { fewest = standing.new.fewest } }
-    ensures found { IfOk result (λ found. IsSome found → standing.new ≡ standing.old) }
-    ensures fewest { IfOk result (λ found. IsTelling (R.state region.now)
-        → IfNone found (HasFewest (R.state region.now) log.now standing.new)) }
+    ensures same { Searches standing.old standing.new }
+    ensures floors { IsTelling (R.state region.now) → HasFloors (R.state region.now) log.now
+        standing.new }
     ensures memory { OnErr result (standing.new ≡ standing.old) }
 {
     let _ = alloc;
     let begin = begin_at(after);
-    let mut fewest = u64::MAX;
-    if let Some(found) = first_in(region, log, standing, room, begin, CHUNKS, &mut fewest) {
+    if let Some(found) = first_in(region, log, standing, room, begin, CHUNKS) {
         return Ok(Some(found));
     }
-    if let Some(found) = first_in(region, log, standing, room, 0, begin, &mut fewest) {
-        return Ok(Some(found));
-    }
-    standing.note_fewest(fewest);
-    Ok(None)
+    Ok(first_in(region, log, standing, room, 0, begin))
 }

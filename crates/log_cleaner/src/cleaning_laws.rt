@@ -1,6 +1,6 @@
 // The laws of a cleaning: that images stay licensed, what stays between two turns, and what a caller that keeps numbers
 // may rely on. A caller hands on what the calls say.
-ghost use Rattle.std.specs.Prelude.{◌≡◌, ◌≢◌, ℕ, ◌≤◌, List, [], length, true, false, is_some, option_map, Option, None};
+ghost use Rattle.std.specs.Prelude.{◌≡◌, ◌≢◌, ℕ, ◌≤◌, List, [], length, true, false, is_some, option_map};
 ghost use Rattle.pm_region.specs.State.{State, IsTelling, cell_now, During};
 ghost use Rattle.pm_region.specs.Words.{KeepsOutside};
 ghost use Rattle.log_entry.specs.declared.entry.Entry.{Entry};
@@ -13,12 +13,10 @@ ghost use Rattle.group_laws.specs.MemberViews.{View};
 ghost use Rattle.licence.specs.Licence.{Licensed, part_at, part_end};
 ghost use Rattle.licence.specs.ViewChanges.{Forgets};
 ghost use Rattle.licence.specs.Writes.{Begins};
-ghost use Rattle.log_standing.specs.NameCounts.{StandingState, copies_at, count_of, killed, tally_without, fewest_without, Changes};
+ghost use Rattle.log_standing.specs.NameCounts.{StandingState, copies_at, count_of, killed, tally_without, Changes, LowersFloors};
 ghost use Rattle.log_standing.specs.ChunkCounts.{IsStandingOf};
-ghost use Rattle.core_log.specs.declared.types.Room.{Room};
 ghost use Rattle.log_cleaner.specs.declared.types.Victim.{Victim};
-ghost use Rattle.log_cleaner.specs.Choosing.{has_room, IsVictim};
-ghost use Rattle.log_cleaner.specs.Tallied.{HasFewest, KeepsTally};
+ghost use Rattle.log_cleaner.specs.Tallied.{KeepsTally};
 ghost use Rattle.log_cleaner.specs.Additions.{is_among, Lacks, AddsEach, AppendsNew, with_open, OpensNew};
 ghost use Rattle.log_cleaner.specs.Clearing.{ClearingState, IsGathered};
 ghost use Rattle.log_cleaner.specs.Copying.{left_to_copy, tally_of, to_copy, IsEachOnce, IsUpToDate};
@@ -114,14 +112,8 @@ pub fn every_kill()
         → left_to_copy old xs ≡ [] → IsGathered old xs c → IsGathered new xs c }
     ensures tally { (old new : StandingState) (k v : ℕ)
         → Changes old new k v (option_map killed (copies_at old k v))
-        → new.tally ≡ tally_without old k v → new.fewest ≡ fewest_without old k v
+        → new.tally ≡ tally_without old k v → LowersFloors old new k v
         → KeepsTally old new }
-{}
-
-/// A search finds no chunk to be cleaned where there is no room for the fewest lines that a closed one has to copy.
-pub fn every_search()
-    ensures { (s : State) (log : LogState) (st : StandingState) (after : Option ℕ) (room : Room)
-        → HasFewest s log st → has_room room st.fewest ≡ false → IsVictim s log st after room None }
 {}
 
 /// Numbers that a caller keeps of what is left of a chunk need no further reading. They begin as `to_copy` has them,

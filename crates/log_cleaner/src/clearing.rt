@@ -54,6 +54,7 @@ fn drop_one(standing: &mut Standing, name: EntryName)
         + (if count_of standing.old name.key name.version == 1 then 1 else 0)
         ≤ length standing.old.entries }
     ensures room { standing.new.room ≡ standing.old.room }
+    ensures floors { standing.new.floors ≡ standing.old.floors }
 {
     if standing.copies(name) > 0 {
         let _ = standing.drop_copy(name);
@@ -67,6 +68,7 @@ fn drop_all(standing: &mut Standing, names: &[EntryName])
     ensures count { length standing.new.entries + lone_in standing.old names.now
         ≤ length standing.old.entries }
     ensures room { standing.new.room ≡ standing.old.room }
+    ensures floors { standing.new.floors ≡ standing.old.floors }
 {
     for name in names {
         drop_one(standing, *name);
@@ -231,7 +233,7 @@ impl Clearing {
             standing.old standing.new self) }
         ensures kept { OnErr result ((log.new ≡ log.old) × (standing.new ≡ standing.old)) }
         ensures read { OnOk result (standing.new.settled ≡ None) }
-        ensures counted { OnOk result ((standing.new.tally ≡ None) × (standing.new.fewest ≡ 0)) }
+        ensures counted { OnOk result (standing.new.tally ≡ None) }
         ensures count { OnOk result (length standing.new.entries
             + lone_in standing.old self.names ≤ length standing.old.entries) }
         ensures room { OnOk result (standing.new.room ≡ standing.old.room) }
@@ -247,7 +249,7 @@ impl Clearing {
         } = self;
         log.retire(region, chunk)?;
         drop_all(standing, &names);
-        standing.forget();
+        standing.forget(chunk);
         Ok(Cleared {
             chunk,
             gone: doomed,

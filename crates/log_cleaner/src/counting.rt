@@ -12,7 +12,7 @@ use log_standing::Standing;
 use pm_region::Region;
 
 // With an entry more, where it is still to be copied.
-fn with_entry(so_far: Victim, standing: &Standing, found: Peek) -> Victim
+pub(crate) fn with_entry(so_far: Victim, standing: &Standing, found: Peek) -> Victim
     requires entries { so_far.entries + 1 < 2 ^ 64 }
     requires words { so_far.words + (found.next - found.place) < 2 ^ 64 }
     requires size { found.place ≤ found.next }

@@ -8,10 +8,11 @@ mod collect_copies;
 mod copying;
 mod counting;
 mod reading_start;
+mod searching;
 mod tallying;
 mod types;
 
-pub use choosing::{has_room, victim};
+pub use choosing::victim;
 pub use clearing::Clearing;
 pub use copying::copy_live;
 pub use counting::to_copy;

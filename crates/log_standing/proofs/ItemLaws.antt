@@ -8,7 +8,7 @@ use Rattle.std.proofs.lemmas.List.{get_or-set_same}
 use Rattle.log_standing.specs.declared.name_item.NameItem.{NameItem}
 use Rattle.log_standing.specs.declared.types.Copies.{Copies}
 use Rattle.log_standing.specs.NameCounts.{name_eq, copies_with, told_in}
-use Rattle.log_standing.specs.NameItems.{rank_of, rank_in, is_item, copies_of, live, copies_among, one_of, Rises, IsAbsent}
+use Rattle.log_standing.specs.NameItems.{item_spot, rank_of, rank_in, is_item, copies_of, live, copies_among, one_of, Rises, IsAbsent}
 use Rattle.log_standing.proofs.StandingLaws.{same_name, name_same}
 
 pub name_flip : (k v j w : ℕ) → name_eq (k, v) (j, w) ≡ name_eq (j, w) (k, v)
@@ -78,23 +78,23 @@ absent_from xs k v at rises less more isnt = all_from (λ (x : NameItem). is_ite
 
 -- What a name has in the list.
 
-pub copies_first : (x : NameItem) (xs : List NameItem) (k v : ℕ) → copies_among (live (x ∷ xs)) k v ≡ cond (x.count == 0) (copies_among (live xs) k v) (cond (name_eq (k, v) (x.key, x.version)) (Some (copies_with x.count x.dead)) (copies_among (live xs) k v))
-copies_first x xs k v = elim (x.count == 0) as (λ b. copies_among (cond b (live xs) (((x.key, x.version), copies_with x.count x.dead) ∷ live xs)) k v ≡ cond b (copies_among (live xs) k v) (cond (name_eq (k, v) (x.key, x.version)) (Some (copies_with x.count x.dead)) (copies_among (live xs) k v))) [ true ↦ refl | false ↦ refl ]
+pub copies_first : (x : NameItem) (xs : List NameItem) (k v : ℕ) → copies_among (live (x ∷ xs)) k v ≡ cond (x.count == 0) (copies_among (live xs) k v) (cond (name_eq (k, v) (x.key, x.version)) (Some (copies_with x.count x.dead (item_spot x))) (copies_among (live xs) k v))
+copies_first x xs k v = elim (x.count == 0) as (λ b. copies_among (cond b (live xs) (((x.key, x.version), copies_with x.count x.dead (item_spot x)) ∷ live xs)) k v ≡ cond b (copies_among (live xs) k v) (cond (name_eq (k, v) (x.key, x.version)) (Some (copies_with x.count x.dead (item_spot x))) (copies_among (live xs) k v))) [ true ↦ refl | false ↦ refl ]
 
 pub copies_behind : (x : NameItem) (xs : List NameItem) (k v : ℕ) → is_item k v x ≡ false → copies_among (live (x ∷ xs)) k v ≡ copies_among (live xs) k v
 copies_behind x xs k v isnt =
     let test : name_eq (k, v) (x.key, x.version) ≡ false = name_flip k v x.key x.version ∙ isnt in
-    copies_first x xs k v ∙ elim (x.count == 0) as (λ b. cond b (copies_among (live xs) k v) (cond (name_eq (k, v) (x.key, x.version)) (Some (copies_with x.count x.dead)) (copies_among (live xs) k v)) ≡ copies_among (live xs) k v) [
+    copies_first x xs k v ∙ elim (x.count == 0) as (λ b. cond b (copies_among (live xs) k v) (cond (name_eq (k, v) (x.key, x.version)) (Some (copies_with x.count x.dead (item_spot x))) (copies_among (live xs) k v)) ≡ copies_among (live xs) k v) [
       | true ↦ refl
-      | false ↦ cond-false (name_eq (k, v) (x.key, x.version)) (Some (copies_with x.count x.dead)) (copies_among (live xs) k v) test
+      | false ↦ cond-false (name_eq (k, v) (x.key, x.version)) (Some (copies_with x.count x.dead (item_spot x))) (copies_among (live xs) k v) test
     ]
 
 pub copies_here : (x : NameItem) (xs : List NameItem) (k v : ℕ) → is_item k v x ≡ true → copies_among (live xs) k v ≡ None → copies_among (live (x ∷ xs)) k v ≡ copies_of x
 copies_here x xs k v is none =
     let test : name_eq (k, v) (x.key, x.version) ≡ true = name_flip k v x.key x.version ∙ is in
-    copies_first x xs k v ∙ elim (x.count == 0) as (λ b. cond b (copies_among (live xs) k v) (cond (name_eq (k, v) (x.key, x.version)) (Some (copies_with x.count x.dead)) (copies_among (live xs) k v)) ≡ cond b None (Some (copies_with x.count x.dead))) [
+    copies_first x xs k v ∙ elim (x.count == 0) as (λ b. cond b (copies_among (live xs) k v) (cond (name_eq (k, v) (x.key, x.version)) (Some (copies_with x.count x.dead (item_spot x))) (copies_among (live xs) k v)) ≡ cond b None (Some (copies_with x.count x.dead (item_spot x)))) [
       | true ↦ none
-      | false ↦ cond-true (name_eq (k, v) (x.key, x.version)) (Some (copies_with x.count x.dead)) (copies_among (live xs) k v) test
+      | false ↦ cond-true (name_eq (k, v) (x.key, x.version)) (Some (copies_with x.count x.dead (item_spot x))) (copies_among (live xs) k v) test
     ]
 
 pub absent_copies : (xs : List NameItem) (k v : ℕ) → IsAbsent xs k v → copies_among (live xs) k v ≡ None
@@ -138,7 +138,7 @@ other_copies : (xs : List NameItem) (i : ℕ) (z d : NameItem) (k v : ℕ) → i
 other_copies [] i z d k v isnt new = refl
 other_copies (x ∷ xs) zero z d k v isnt new = copies_behind z xs k v new ∙ sym (copies_behind x xs k v isnt)
 other_copies (x ∷ xs) (suc i) z d k v isnt new =
-    copies_first x (slice_set xs i z) k v ∙ ap (λ (o : Option Copies). cond (x.count == 0) o (cond (name_eq (k, v) (x.key, x.version)) (Some (copies_with x.count x.dead)) o)) (other_copies xs i z d k v isnt new) ∙ sym (copies_first x xs k v)
+    copies_first x (slice_set xs i z) k v ∙ ap (λ (o : Option Copies). cond (x.count == 0) o (cond (name_eq (k, v) (x.key, x.version)) (Some (copies_with x.count x.dead (item_spot x))) o)) (other_copies xs i z d k v isnt new) ∙ sym (copies_first x xs k v)
 
 pub copies_set : (xs : List NameItem) (i : ℕ) (z d : NameItem) (k v : ℕ) → Rises xs → i < length xs → is_item k v (get_or xs i d) ≡ true → is_item k v z ≡ true → (j w : ℕ) → copies_among (live (slice_set xs i z)) j w ≡ cond (name_eq (k, v) (j, w)) (copies_of z) (copies_among (live xs) j w)
 copies_set xs i z d k v rises lt is new j w =
@@ -158,7 +158,7 @@ copies_set xs i z d k v rises lt is new j w =
 -- How many names there are.
 
 live_first : (x : NameItem) (xs : List NameItem) → length (live (x ∷ xs)) ≡ one_of (copies_of x) + length (live xs)
-live_first x xs = elim (x.count == 0) as (λ b. length (cond b (live xs) (((x.key, x.version), copies_with x.count x.dead) ∷ live xs)) ≡ one_of (cond b None (Some (copies_with x.count x.dead))) + length (live xs)) [ true ↦ omega arith | false ↦ omega arith ]
+live_first x xs = elim (x.count == 0) as (λ b. length (cond b (live xs) (((x.key, x.version), copies_with x.count x.dead (item_spot x)) ∷ live xs)) ≡ one_of (cond b None (Some (copies_with x.count x.dead (item_spot x)))) + length (live xs)) [ true ↦ omega arith | false ↦ omega arith ]
 
 pub count_set : (xs : List NameItem) (i : ℕ) (z d : NameItem) → i < length xs → length (live (slice_set xs i z)) + one_of (copies_of (get_or xs i d)) ≡ length (live xs) + one_of (copies_of z)
 count_set [] i z d lt = absurd (omega (arith, lt))
@@ -197,16 +197,16 @@ copies_push (x ∷ xs) y k v below = elim (is_item k v y) as (λ b. is_item k v 
       copies_behind x (xs ++ y ∷ []) k v (other_rank k v x (λ same. omega (arith, same, e, below.0))) ∙ copies_push xs y k v below.1 ∙ cond-true (is_item k v y) (copies_of y) (copies_among (live xs) k v) is
   | false ↦ λ isnt.
       let rest : copies_among (live (xs ++ y ∷ [])) k v ≡ copies_among (live xs) k v = copies_push xs y k v below.1 ∙ cond-false (is_item k v y) (copies_of y) (copies_among (live xs) k v) isnt in
-      copies_first x (xs ++ y ∷ []) k v ∙ ap (λ (o : Option Copies). cond (x.count == 0) o (cond (name_eq (k, v) (x.key, x.version)) (Some (copies_with x.count x.dead)) o)) rest ∙ sym (copies_first x xs k v)
+      copies_first x (xs ++ y ∷ []) k v ∙ ap (λ (o : Option Copies). cond (x.count == 0) o (cond (name_eq (k, v) (x.key, x.version)) (Some (copies_with x.count x.dead (item_spot x))) o)) rest ∙ sym (copies_first x xs k v)
 ] refl
 
 -- What is true of each item's copies is true of what a name has.
-pub each_live : (P : Copies → Type 0) (xs : List NameItem) → AllByRecursion (λ (x : NameItem). P (copies_with x.count x.dead)) xs → (k v : ℕ) (c : Copies) → copies_among (live xs) k v ≡ Some c → P c
+pub each_live : (P : Copies → Type 0) (xs : List NameItem) → AllByRecursion (λ (x : NameItem). P (copies_with x.count x.dead (item_spot x))) xs → (k v : ℕ) (c : Copies) → copies_among (live xs) k v ≡ Some c → P c
 each_live P [] all k v c at = absurd (cc at)
-each_live P (x ∷ xs) all k v c at = elim (x.count == 0) as (λ b. cond b (copies_among (live xs) k v) (cond (name_eq (k, v) (x.key, x.version)) (Some (copies_with x.count x.dead)) (copies_among (live xs) k v)) ≡ Some c → P c) [
+each_live P (x ∷ xs) all k v c at = elim (x.count == 0) as (λ b. cond b (copies_among (live xs) k v) (cond (name_eq (k, v) (x.key, x.version)) (Some (copies_with x.count x.dead (item_spot x))) (copies_among (live xs) k v)) ≡ Some c → P c) [
   | true ↦ λ rest. each_live P xs all.1 k v c rest
-  | false ↦ elim (name_eq (k, v) (x.key, x.version)) as (λ b. cond b (Some (copies_with x.count x.dead)) (copies_among (live xs) k v) ≡ Some c → P c) [
-    | true ↦ λ is. subst P (ap (λ (o : Option Copies). unwrap_or o (copies_with x.count x.dead)) is) all.0
+  | false ↦ elim (name_eq (k, v) (x.key, x.version)) as (λ b. cond b (Some (copies_with x.count x.dead (item_spot x))) (copies_among (live xs) k v) ≡ Some c → P c) [
+    | true ↦ λ is. subst P (ap (λ (o : Option Copies). unwrap_or o (copies_with x.count x.dead (item_spot x))) is) all.0
     | false ↦ λ rest. each_live P xs all.1 k v c rest
   ]
 ] (sym (copies_first x xs k v) ∙ at)

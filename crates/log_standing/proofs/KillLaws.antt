@@ -3,17 +3,18 @@ use Rattle.std.proofs.Common.{◌≡◌, ℕ, ◌<◌, ◌≤◌, ◌==◌, ◌&
 use Rattle.std.specs.Prelude.{option_map, is_some}
 use Rattle.log_standing.specs.declared.name_item.NameItem.{NameItem}
 use Rattle.log_standing.specs.declared.types.Copies.{Copies}
+use Rattle.log_standing.specs.declared.types.Spot.{Spot}
 use Rattle.log_standing.specs.NameCounts.{name_eq, copies_with, killed, count_in, told_in}
-use Rattle.log_standing.specs.NameItems.{live, copies_among, AreSmall}
+use Rattle.log_standing.specs.NameItems.{item_spot, live, copies_among, AreSmall}
 use Rattle.log_standing.specs.Killing.{dead_by, all_dead, KillsAmong, SameCounts}
 use Rattle.log_standing.proofs.StandingLaws.{same_name}
 use Rattle.log_standing.proofs.ItemLaws.{copies_first}
 
-told_more : (n : ℕ) (told b : Bool) → Some (copies_with n (told || b)) ≡ cond b (option_map killed (Some (copies_with n told))) (Some (copies_with n told))
-told_more n true true = refl
-told_more n true false = refl
-told_more n false true = refl
-told_more n false false = refl
+told_more : (n : ℕ) (told b : Bool) (spot : Spot) → Some (copies_with n (told || b) spot) ≡ cond b (option_map killed (Some (copies_with n told spot))) (Some (copies_with n told spot))
+told_more n true true spot = refl
+told_more n true false spot = refl
+told_more n false true spot = refl
+told_more n false false spot = refl
 
 module _ (f : ℕ → ℕ → Bool) where
   spread : (b c e : Bool) (x y : Option Copies) → cond c (cond b (option_map killed x) x) (cond e (cond b (option_map killed y) y) (cond b (option_map killed x) x)) ≡ cond b (option_map killed (cond c x (cond e y x))) (cond c x (cond e y x))
@@ -33,14 +34,14 @@ module _ (f : ℕ → ℕ → Bool) where
       let rest = copies_among (live xs) k v in
       let killed_rest : copies_among (live (map (dead_by f) xs)) k v ≡ cond (f k v) (option_map killed rest) rest = kills_all xs k v in
       copies_first (dead_by f x) (map (dead_by f) xs) k v
-      ∙ (λ i. cond (x.count == 0) (killed_rest i) (cond (name_eq (k, v) (x.key, x.version)) (Some (copies_with x.count (x.dead || f x.key x.version))) (killed_rest i)))
+      ∙ (λ i. cond (x.count == 0) (killed_rest i) (cond (name_eq (k, v) (x.key, x.version)) (Some (copies_with x.count (x.dead || f x.key x.version) (item_spot x))) (killed_rest i)))
       ∙ ap (λ o. cond (x.count == 0) (cond (f k v) (option_map killed rest) rest) o) (named (name_eq (k, v) (x.key, x.version)) refl)
-      ∙ spread (f k v) (x.count == 0) (name_eq (k, v) (x.key, x.version)) rest (Some (copies_with x.count x.dead))
+      ∙ spread (f k v) (x.count == 0) (name_eq (k, v) (x.key, x.version)) rest (Some (copies_with x.count x.dead (item_spot x)))
       ∙ ap (λ o. cond (f k v) (option_map killed o) o) (sym (copies_first x xs k v)) where
-        named : (e : Bool) → name_eq (k, v) (x.key, x.version) ≡ e → cond e (Some (copies_with x.count (x.dead || f x.key x.version))) (cond (f k v) (option_map killed (copies_among (live xs) k v)) (copies_among (live xs) k v))
-            ≡ cond e (cond (f k v) (option_map killed (Some (copies_with x.count x.dead))) (Some (copies_with x.count x.dead))) (cond (f k v) (option_map killed (copies_among (live xs) k v)) (copies_among (live xs) k v))
+        named : (e : Bool) → name_eq (k, v) (x.key, x.version) ≡ e → cond e (Some (copies_with x.count (x.dead || f x.key x.version) (item_spot x))) (cond (f k v) (option_map killed (copies_among (live xs) k v)) (copies_among (live xs) k v))
+            ≡ cond e (cond (f k v) (option_map killed (Some (copies_with x.count x.dead (item_spot x)))) (Some (copies_with x.count x.dead (item_spot x)))) (cond (f k v) (option_map killed (copies_among (live xs) k v)) (copies_among (live xs) k v))
         named true is = let e = same_name k v x.key x.version is in
-            ap (λ b. Some (copies_with x.count (x.dead || b))) (sym (λ i. f (e.0 i) (e.1 i))) ∙ told_more x.count x.dead (f k v)
+            ap (λ b. Some (copies_with x.count (x.dead || b) (item_spot x))) (sym (λ i. f (e.0 i) (e.1 i))) ∙ told_more x.count x.dead (f k v) (item_spot x)
         named false is = refl
 
 pub kills_every : (xs : List NameItem) (k v : ℕ) → copies_among (live (map all_dead xs)) k v ≡ option_map killed (copies_among (live xs) k v)
@@ -48,10 +49,10 @@ kills_every [] k v = refl
 kills_every (x ∷ xs) k v =
     let rest = copies_among (live xs) k v in
     copies_first (all_dead x) (map all_dead xs) k v
-    ∙ ap (λ (o : Option Copies). cond (x.count == 0) o (cond (name_eq (k, v) (x.key, x.version)) (Some (copies_with x.count true)) o)) (kills_every xs k v)
-    ∙ elim (x.count == 0) as (λ b. cond b (option_map killed rest) (cond (name_eq (k, v) (x.key, x.version)) (Some (copies_with x.count true)) (option_map killed rest)) ≡ option_map killed (cond b rest (cond (name_eq (k, v) (x.key, x.version)) (Some (copies_with x.count x.dead)) rest))) [
+    ∙ ap (λ (o : Option Copies). cond (x.count == 0) o (cond (name_eq (k, v) (x.key, x.version)) (Some (copies_with x.count true (item_spot x))) o)) (kills_every xs k v)
+    ∙ elim (x.count == 0) as (λ b. cond b (option_map killed rest) (cond (name_eq (k, v) (x.key, x.version)) (Some (copies_with x.count true (item_spot x))) (option_map killed rest)) ≡ option_map killed (cond b rest (cond (name_eq (k, v) (x.key, x.version)) (Some (copies_with x.count x.dead (item_spot x))) rest))) [
       | true ↦ refl
-      | false ↦ elim (name_eq (k, v) (x.key, x.version)) as (λ b. cond b (Some (copies_with x.count true)) (option_map killed rest) ≡ option_map killed (cond b (Some (copies_with x.count x.dead)) rest)) [ true ↦ refl | false ↦ refl ]
+      | false ↦ elim (name_eq (k, v) (x.key, x.version)) as (λ b. cond b (Some (copies_with x.count true (item_spot x))) (option_map killed rest) ≡ option_map killed (cond b (Some (copies_with x.count x.dead (item_spot x))) rest)) [ true ↦ refl | false ↦ refl ]
     ]
     ∙ ap (option_map killed) (sym (copies_first x xs k v))
 
@@ -66,12 +67,12 @@ count_killed o p same = sym (alike o) ∙ ap count_in same ∙ alike p where
   alike None = refl
   alike (Some c) = refl
 
-small_one : (o p : Option Copies) → option_map killed o ≡ option_map killed p → ((c : Copies) → p ≡ Some c → (0 < c.count) × (c.count ≤ 65535)) → (c : Copies) → o ≡ Some c → (0 < c.count) × (c.count ≤ 65535)
+small_one : (o p : Option Copies) → option_map killed o ≡ option_map killed p → ((c : Copies) → p ≡ Some c → (0 < c.count) × (c.count ≤ 255)) → (c : Copies) → o ≡ Some c → (0 < c.count) × (c.count ≤ 255)
 small_one None p same small c at = absurd (cc at)
 small_one (Some b) None same small c at = absurd (cc same)
 small_one (Some b) (Some d) same small c at =
     let e : d.count ≡ c.count = sym (ap count_in same) ∙ ap count_in at in
-    subst (λ (n : ℕ). (0 < n) × (n ≤ 65535)) e (small d refl)
+    subst (λ (n : ℕ). (0 < n) × (n ≤ 255)) e (small d refl)
 
 pub small_killed : (old new : List ((ℕ × ℕ) × Copies)) → SameCounts old new → AreSmall old → AreSmall new
 small_killed old new same small k v = small_one (copies_among new k v) (copies_among old k v) (same k v) (small k v)

@@ -1,5 +1,6 @@
 pub mod StandingLaws
 pub mod Filled
+pub mod Flooring
 pub mod ItemLaws
 pub mod PartLaws
 pub mod MergeLaws

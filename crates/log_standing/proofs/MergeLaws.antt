@@ -9,7 +9,7 @@ use Rattle.std.proofs.lemmas.List.Sums.{sum_by-cons}
 use Rattle.core_log.specs.declared.types.LogChunk.{LogChunk}
 use Rattle.log_standing.specs.declared.name_item.NameItem.{NameItem}
 use Rattle.log_standing.specs.NameCounts.{name_eq, copies_with, count_in}
-use Rattle.log_standing.specs.NameItems.{rank_of, rank_in, order_of, is_item, copies_of, live, copies_among, is_note, has_note, chunks_noted, AreIn, Fits, InOrder, IsCounted, IsNoteOf, IsMerged}
+use Rattle.log_standing.specs.NameItems.{item_spot, rank_of, rank_in, order_of, is_item, copies_of, live, copies_among, is_note, has_note, chunks_noted, AreIn, Fits, InOrder, IsCounted, IsNoteOf, IsMerged}
 use Rattle.log_standing.proofs.StandingLaws.{same_name, name_same}
 use Rattle.log_standing.proofs.Filled.{again_named}
 use Rattle.log_standing.proofs.ItemLaws.{item_rank, rises_set, rises_push, all_below, below_absent, absent_copies, copies_at_place, copies_set, copies_push}
@@ -72,10 +72,10 @@ counts_new cs xs y none once k v is =
 -- One item more.
 
 abbrev pub first_of : NameItem → NameItem
-first_of y = record { key = y.key; version = y.version; count = 1; chunk = y.chunk; dead = false }
+first_of y = record { key = y.key; version = y.version; count = 1; chunk = y.chunk; words = y.words; dead = false }
 
 abbrev pub with_chunk : NameItem → ℕ → NameItem
-with_chunk x j = record { key = x.key; version = x.version; count = x.count + 1; chunk = j; dead = x.dead }
+with_chunk x j = record { key = x.key; version = x.version; count = x.count + 1; chunk = j; words = x.words; dead = x.dead }
 
 module _ (xs out : List NameItem) (y : NameItem) (merged : IsMerged xs out) (ordered : InOrder (xs ++ y ∷ [])) where
   n : length (xs ++ y ∷ []) ≡ length xs + 1
@@ -251,7 +251,7 @@ module _ (xs out : List NameItem) (y : NameItem) (merged : IsMerged xs out) (ord
           subst (λ (w : NameItem). order_of w < order_of y) (get_or_default xs (length xs - 1) d e (omega (arith, lt))) at)
 
       counted_at : (w : NameItem) → 0 < w.count → count_in (copies_of w) ≡ w.count
-      counted_at w more = ap count_in (cond-false (w.count == 0) None (Some (copies_with w.count w.dead)) (ne_eqb w.count 0 (λ e. omega (arith, more, e))))
+      counted_at w more = ap count_in (cond-false (w.count == 0) None (Some (copies_with w.count w.dead (item_spot w))) (ne_eqb w.count 0 (λ e. omega (arith, more, e))))
 
       old_each : IsCounted (get_or out (length out - 1) d)
       old_each = merged.each (length out - 1) d (omega (arith, some))

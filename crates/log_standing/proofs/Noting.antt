@@ -71,9 +71,9 @@ noted_all old now chunk es place so_far none k v j =
     so_far.notes k v j ∙ ap (λ (l : List (ℕ × Entry)). has_note old k v j || ((chunk == j) && has_name l k v)) all
 
 -- a chunk of a log has a small number
-pub chunk_small : (log : LogState) → IsOwn log → (j : ℕ) → is_some (tail_of log.chunks j) ≡ true → j < 256
+pub chunk_small : (log : LogState) → IsOwn log → (j : ℕ) → is_some (tail_of log.chunks j) ≡ true → j < 64
 chunk_small log own j has = by_tail (tail_of log.chunks j) refl has where
-  by_tail : (t : Option ℕ) → tail_of log.chunks j ≡ t → is_some t ≡ true → j < 256
+  by_tail : (t : Option ℕ) → tail_of log.chunks j ≡ t → is_some t ≡ true → j < 64
   by_tail None is some = absurd (cc some)
   by_tail (Some t) is some =
       let here = (own_chunk log own j t is).within in

@@ -5,7 +5,7 @@ use Rattle.std.proofs.lemmas.Bool.{and_parts, and_from, eqb-true, eq-eqb, cond-t
 use Rattle.std.proofs.lemmas.List.Sums.{count_by_more_yes, count_by_more_no}
 use Rattle.log_entry.specs.declared.entry.EntryName.{EntryName}
 use Rattle.log_standing.specs.declared.types.Copies.{Copies}
-use Rattle.log_standing.specs.NameCounts.{StandingState, name_eq, copies_at, count_in, count_of, living, one_more, copies_with, times_in, bit, Changes, SameCopies}
+use Rattle.log_standing.specs.NameCounts.{StandingState, name_eq, copies_at, count_in, count_of, living, one_more, copies_with, nowhere, times_in, bit, Changes, SameCopies}
 
 -- names that are equal
 pub same_name : (k v j w : ℕ) → name_eq (k, v) (j, w) ≡ true → (k ≡ j) × (v ≡ w)
@@ -16,7 +16,7 @@ name_same k v = and_from (nat_eq k k) (nat_eq v v) (eq-eqb k k refl) (eq-eqb v v
 
 one_more_living : (n : ℕ) → Some (one_more (living n)) ≡ living (n + 1)
 one_more_living zero = refl
-one_more_living (suc n) = let e : suc n + 1 ≡ suc (suc n) = omega arith in ap (λ (m : ℕ). Some (copies_with m false)) e ∙ sym (ap living e)
+one_more_living (suc n) = let e : suc n + 1 ≡ suc (suc n) = omega arith in ap (λ (m : ℕ). Some (copies_with m false nowhere)) e ∙ sym (ap living e)
 
 -- one name of a list more was added
 pub entered : (s mid new : StandingState) (ns : List EntryName) (i : ℕ) (d : EntryName) → i < length ns → ((k v : ℕ) → copies_at s k v ≡ living (times_in (take i ns) k v)) → SameCopies s mid

@@ -9,7 +9,7 @@ use Rattle.store_image.specs.Parts.{payload}
 use Rattle.core_log.specs.declared.types.LogChunk.{LogChunk}
 use Rattle.core_log.specs.Log.{LogState, Spelled, tail_of, tail_in, first_of}
 use Rattle.core_log.specs.Walking.{words_in}
-use Rattle.log_standing.specs.NameCounts.{StandingState, name_eq, count_of, is_told}
+use Rattle.log_standing.specs.NameCounts.{StandingState, name_eq, count_of, floor_at, is_told}
 
 -- an entry of the list has this name
 abbrev pub is_named : ℕ → ℕ → ℕ × Entry → Bool
@@ -40,4 +40,4 @@ IsSpelled s log = IsTelling s → (j : ℕ) → is_some (tail_of log.chunks j) �
 pub record IsUntold (st : StandingState) : Type 0 where
   pub told : (k v : ℕ) → is_told st k v ≡ false
   pub settled : st.settled ≡ None
-  pub fewest : st.fewest ≡ 0
+  pub floors : (j : ℕ) → floor_at st j ≡ None

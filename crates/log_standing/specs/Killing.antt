@@ -17,6 +17,7 @@ dead_by f x = record {
   version = x.version;
   count = x.count;
   chunk = x.chunk;
+  words = x.words;
   dead = x.dead || f x.key x.version;
 }
 
@@ -27,6 +28,7 @@ all_dead x = record {
   version = x.version;
   count = x.count;
   chunk = x.chunk;
+  words = x.words;
   dead = true;
 }
 

@@ -7,6 +7,7 @@ use Rattle.core_log.specs.declared.types.LogChunk.{LogChunk}
 use Rattle.log_standing.specs.declared.name_item.NameItem.{NameItem}
 use Rattle.log_standing.specs.declared.name_item.TheConstants.{CHUNK_NUMBERS, MOST_IN_ITEM, VERSIONS}
 use Rattle.log_standing.specs.declared.types.Copies.{Copies}
+use Rattle.log_standing.specs.declared.types.Spot.{Spot}
 use Rattle.log_standing.specs.NameCounts.{name_eq, copies_with, count_in}
 
 -- where a name comes among all, and an item: by key, then by version, then by chunk
@@ -23,15 +24,19 @@ order_of x = rank_in x * CHUNK_NUMBERS + x.chunk
 abbrev pub is_item : ℕ → ℕ → NameItem → Bool
 is_item k v x = name_eq (x.key, x.version) (k, v)
 
+-- where a search found the name's entry
+abbrev pub item_spot : NameItem → Spot
+item_spot x = record { chunk = x.chunk; words = x.words }
+
 -- what an item's name has
 abbrev pub copies_of : NameItem → Option Copies
-copies_of x = if x.count == 0 then None else Some (copies_with x.count x.dead)
+copies_of x = if x.count == 0 then None else Some (copies_with x.count x.dead (item_spot x))
 
 -- the names of the items that are not gone
 abbrev pub live : List NameItem → List ((ℕ × ℕ) × Copies)
 live [] = []
 live (x ∷ xs) = if x.count == 0 then live xs
-    else ((x.key, x.version), copies_with x.count x.dead) ∷ live xs
+    else ((x.key, x.version), copies_with x.count x.dead (item_spot x)) ∷ live xs
 
 -- what a name has in such a list
 abbrev pub copies_among : List ((ℕ × ℕ) × Copies) → ℕ → ℕ → Option Copies

@@ -5,7 +5,7 @@ ghost use Rattle.core_log.specs.Log.{tail_of};
 ghost use Rattle.core_log.specs.Walking.{LiesIn, entries_in};
 ghost use Rattle.std.specs.List.{All};
 ghost use Rattle.log_standing.specs.ChunkCounts.{IsStandingOf, IsSpelled, IsUntold, chunks_with};
-ghost use Rattle.log_standing.specs.NameCounts.{count_in, told_in, copies_at, is_told};
+ghost use Rattle.log_standing.specs.NameCounts.{count_in, told_in, copies_at, floor_at, is_told};
 ghost use Rattle.log_standing.specs.NameItems.{copies_among, AreSmall};
 ghost use Rattle.log_standing.specs.Killing.{Answers};
 ghost use Rattle.log_standing.specs.Notes.{IsNote, IsOfLog, NotesAll};
@@ -29,6 +29,7 @@ fn noted(name: EntryName, chunk: u32) -> NameItem
         version: name.version,
         count: 1,
         chunk: chunk as u8,
+        words: 0,
         dead: false,
     }
 }
@@ -101,7 +102,7 @@ pub fn standing_told<R: Region, F: Fn(EntryName) -> bool>(
     ensures told { IfOk result (λ s. (f : ℕ → ℕ → Bool) → Answers (F.post dead) f → (k v : ℕ)
         → is_told s k v ≡ (is_some (copies_at s k v) && f k v)) }
     ensures settled { IfOk result (λ s. s.settled ≡ None) }
-    ensures fewest { IfOk result (λ s. s.fewest ≡ 0) }
+    ensures floors { IfOk result (λ s. (j : ℕ) → floor_at s j ≡ None) }
     ensures standing { IfOk result (λ s. IsTelling (R.state region.now)
         → IsStandingOf (R.state region.now) log.now s) }
 {

@@ -2,6 +2,7 @@
 #![tactic(auto)]
 
 mod filling;
+mod floors;
 mod logged_names;
 mod merging;
 mod name_item;
@@ -11,6 +12,7 @@ mod tally;
 mod types;
 
 pub use filling::{standing_of, standing_told};
+pub use name_item::CHUNK_NUMBERS;
 pub use standing_names::Standing;
 pub use tally::Tally;
-pub use types::{Amount, Copies, Settled};
+pub use types::{Amount, Copies, NOWHERE, Settled, Spot};

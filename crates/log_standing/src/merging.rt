@@ -4,7 +4,7 @@ ghost use Rattle.std.specs.List.{All};
 ghost use Rattle.log_standing.specs.declared.name_item.NameItem.{NameItem as Item};
 ghost use Rattle.log_standing.specs.NameItems.{InOrder, IsCounted, IsMerged};
 
-use crate::name_item::{NameItem, is_same_name};
+use crate::name_item::{CHUNK_NUMBERS, NameItem, is_same_name};
 
 // The item of a name that stands in this one's chunk.
 fn first_of(item: NameItem) -> NameItem
@@ -19,7 +19,8 @@ fn first_of(item: NameItem) -> NameItem
 
 // The item of a name with one chunk more.
 fn with_chunk(last: NameItem, chunk: u8) -> NameItem
-    requires { last.count ≤ last.chunk + 1 }
+    requires few { last.count ≤ last.chunk + 1 }
+    requires within { last.chunk < CHUNK_NUMBERS }
     ensures { result ≡ record last { count = last.count + 1; chunk = chunk } }
 {
     NameItem {

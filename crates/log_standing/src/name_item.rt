@@ -2,20 +2,21 @@
 ghost use Rattle.std.specs.Prelude.{◌≡◌, ◌<◌, ◌≤◌, Some, IfSome, IsSome};
 ghost use Rattle.log_standing.specs.NameItems.{rank_of, copies_of, is_item, IsItemOf};
 
-use crate::types::Copies;
+use crate::types::{Copies, Spot};
 use fs_model::{Key, Version};
 use log_entry::EntryName;
 use std::mem::size_of;
 
 /// A greater count stands in the map.
-pub const MOST_IN_ITEM: u64 = 65535;
+pub const MOST_IN_ITEM: u64 = 255;
 /// So many numbers a version may have.
 pub const VERSIONS: u128 = 4294967296;
 /// Each chunk of a log has a lower number.
-pub const CHUNK_NUMBERS: u32 = 256;
+pub const CHUNK_NUMBERS: u32 = 64;
 
 /// A name with what it has: in how many chunks it stands, and whether it was told dead. One in no chunk is gone. While
-/// a log is read `chunk` is the chunk of an entry, and afterwards it is the last one that was counted.
+/// a log is read `chunk` is the chunk of an entry, and afterwards it is the last one that was counted, or the one in which a
+/// search found the name's entry, with so many words.
 #[derive(Clone, Copy)]
 pub struct NameItem {
     /// With `version` the name.
@@ -23,9 +24,11 @@ pub struct NameItem {
     /// Which change of the key it is, counted from 1.
     pub version: Version,
     /// In how many chunks.
-    pub count: u16,
+    pub count: u8,
     /// By its number in the part.
     pub chunk: u8,
+    /// None where no search has found the entry.
+    pub words: u8,
     /// The owner told it.
     pub dead: bool,
 }
@@ -57,6 +60,10 @@ pub fn copies_of(item: NameItem) -> Option<Copies>
     Some(Copies {
         count: item.count as u64,
         dead: item.dead,
+        spot: Spot {
+            chunk: item.chunk,
+            words: item.words,
+        },
     })
 }
 
@@ -71,8 +78,9 @@ pub fn item_of(name: EntryName, copies: Copies) -> Option<NameItem>
     Some(NameItem {
         key: name.key,
         version: name.version,
-        count: copies.count as u16,
-        chunk: 0,
+        count: copies.count as u8,
+        chunk: copies.spot.chunk,
+        words: copies.spot.words,
         dead: copies.dead,
     })
 }

@@ -1,13 +1,14 @@
 // Which entries stand in the own log.
 ghost use Rattle.std.specs.Prelude.{◌≡◌, ◌⊎◌, ℕ, ◌+◌, ◌-◌, ◌^◌, ◌<◌, ◌≤◌, ◌==◌, nat_eq, true, false, Some, None, option_map, is_some, IsSome, IsOk, OnOk, OnErr, IfOk, length, if◌then◌else◌};
-ghost use Rattle.log_standing.specs.NameCounts.{name_eq, copies_at, count_of, is_told, count_in, wants, living, one_more, killed, times_in, copies_with, tally_without, fewest_without, Changes, SameCopies};
+ghost use Rattle.log_standing.specs.NameCounts.{name_eq, copies_at, count_of, is_told, count_in, wants, living, one_more, one_fewer, killed, times_in, tally_without, found_at, floor_at, LowersFloors, Changes, SameCopies};
 ghost use Rattle.log_standing.specs.NameItems.{copies_among, AreSmall};
 
+use crate::floors::Floors;
 use crate::logged_names::LoggedNames;
-use crate::name_item::MOST_IN_ITEM;
+use crate::name_item::{CHUNK_NUMBERS, MOST_IN_ITEM};
 use crate::name_table::NameTable;
 use crate::tally::Tally;
-use crate::types::{Amount, Copies, Settled};
+use crate::types::{Amount, Copies, NOWHERE, Settled, Spot};
 use fs_errors::Memory;
 use log_entry::EntryName;
 use std::alloc::Global;
@@ -25,8 +26,8 @@ pub struct Standing {
     settled: Option<Settled>,
     // What is left of the chunk that is copied.
     tally: Option<Tally>,
-    // No closed chunk has fewer lines to copy.
-    fewest: u64,
+    // How much of each chunk is still to be copied at least.
+    floors: Floors,
 }
 
 impl Model for Standing {
@@ -39,7 +40,7 @@ impl Model for Standing {
       room = a.room;
       settled = a.settled;
       tally = a.tally;
-      fewest = a.fewest;
+      floors = a.floors;
     } };
 
     ghost invariant = { λ a. IsStanding a.names.entries a.names.spare a.most a.room };
@@ -53,11 +54,12 @@ fn one_more(copies: Option<Copies>) -> Copies
     match copies {
         Some(copies) => Copies {
             count: copies.count + 1,
-            dead: copies.dead,
+            ..copies
         },
         None => Copies {
             count: 1,
             dead: false,
+            spot: NOWHERE,
         },
     }
 }
@@ -68,7 +70,7 @@ impl Standing {
         requires { AreSmall table }
         ensures copies { (k v : ℕ) → copies_at result k v ≡ copies_among table k v }
         ensures settled { result.settled ≡ None }
-        ensures fewest { result.fewest ≡ 0 }
+        ensures floors { (j : ℕ) → floor_at result j ≡ None }
     {
         Standing {
             names: LoggedNames::of(alloc, table),
@@ -76,7 +78,7 @@ impl Standing {
             room: 0,
             settled: None,
             tally: None,
-            fewest: 0,
+            floors: Floors::none(),
         }
     }
 
@@ -105,7 +107,7 @@ impl Standing {
         ensures err { OnErr result (self.new.room ≡ self.old.room) }
         ensures settled { self.new.settled ≡ self.old.settled }
         ensures tally { self.new.tally ≡ self.old.tally }
-        ensures fewest { self.new.fewest ≡ self.old.fewest }
+        ensures floors { self.new.floors ≡ self.old.floors }
     {
         if more <= self.room {
             return Ok(());
@@ -127,7 +129,7 @@ impl Standing {
         ensures room { self.new.room + 1 ≡ self.old.room }
         ensures settled { self.new.settled ≡ self.old.settled }
         ensures tally { self.new.tally ≡ self.old.tally }
-        ensures fewest { self.new.fewest ≡ self.old.fewest }
+        ensures floors { self.new.floors ≡ self.old.floors }
     {
         let copies = one_more(self.names.get(name));
         self.names.put(name, copies);
@@ -139,13 +141,17 @@ impl Standing {
     fn want_no_more(&mut self, name: EntryName)
         ensures tally { self.new ≡ record self.old {
           tally = tally_without self.old name.key name.version;
-          fewest = fewest_without self.old name.key name.version;
+          floors = self.new.floors;
         } }
+        ensures floors { LowersFloors self.old self.new name.key name.version }
     {
-        if !self.wants(name) {
+        let Some(copies) = self.names.get(name) else {
+            return;
+        };
+        if copies.count != 1 || copies.dead {
             return;
         }
-        self.fewest = 0;
+        self.floors.lower(copies.spot);
         if let Some(tally) = &mut self.tally {
             tally.lower(name);
         }
@@ -159,15 +165,15 @@ impl Standing {
         ensures room { self.new.room ≡ self.old.room }
         ensures settled { self.new.settled ≡ self.old.settled }
         ensures tally { self.new.tally ≡ tally_without self.old name.key name.version }
-        ensures fewest { self.new.fewest ≡ fewest_without self.old name.key name.version }
+        ensures floors { LowersFloors self.old self.new name.key name.version }
     {
         self.want_no_more(name);
         if let Some(copies) = self.names.get(name) {
             self.names.set(
                 name,
                 Copies {
-                    count: copies.count,
                     dead: true,
+                    ..copies
                 },
             );
         }
@@ -225,23 +231,24 @@ impl Standing {
         ensures room { self.new.room ≡ self.old.room }
         ensures settled { self.new.settled ≡ settled }
         ensures tally { self.new.tally ≡ self.old.tally }
-        ensures fewest { self.new.fewest ≡ self.old.fewest }
+        ensures floors { self.new.floors ≡ self.old.floors }
     {
         self.settled = settled;
     }
 
-    /// Forgets what was noted for a cleaning: how far it has read, and what is left.
-    pub fn forget(&mut self)
+    /// Forgets what was noted for the cleaning of a chunk: how far it has read, and what is left.
+    pub fn forget(&mut self, chunk: u32)
         ensures copies { SameCopies self.old self.new }
         ensures count { self.new.entries ≡ self.old.entries }
         ensures room { self.new.room ≡ self.old.room }
         ensures settled { self.new.settled ≡ None }
         ensures tally { self.new.tally ≡ None }
-        ensures fewest { self.new.fewest ≡ 0 }
+        ensures floors { (j : ℕ) → floor_at self.new j ≡ (if chunk == j then None
+            else floor_at self.old j) }
     {
         self.settled = None;
         self.tally = None;
-        self.fewest = 0;
+        self.floors.forget(chunk);
     }
 
     /// Counts what is left of a chunk from now on; of none where there is no tally.
@@ -261,18 +268,41 @@ impl Standing {
         }
     }
 
-    /// A number of lines of which no closed chunk has fewer to copy.
-    pub fn fewest(&self) -> u64
-        ensures { result ≡ self.now.fewest }
+    /// What a name has; none where it does not stand.
+    pub fn find(&self, name: EntryName) -> Option<Copies>
+        ensures { result ≡ copies_at self.now name.key name.version }
     {
-        self.fewest
+        self.names.get(name)
     }
 
-    /// Notes such a number, as a search of all chunks found it. It is 0 as soon as a name is wanted no more.
-    pub fn note_fewest(&mut self, lines: u64)
-        ensures { self.new ≡ record self.old { fewest = lines } }
+    /// Notes where a search found the entry of a name that stands.
+    pub fn note_spot(&mut self, name: EntryName, spot: Spot)
+        ensures noted { Changes self.old self.new name.key name.version
+            (option_map (found_at spot) (copies_at self.old name.key name.version)) }
+        ensures count { length self.new.entries ≡ length self.old.entries }
+        ensures rest { self.new ≡ record self.old { entries = self.new.entries } }
     {
-        self.fewest = lines;
+        if let Some(copies) = self.names.get(name) {
+            self.names.set(name, Copies { spot, ..copies });
+        }
+    }
+
+    /// How much of a chunk is still to be copied at least; none where no search has counted it.
+    pub fn floor(&self, chunk: u32) -> Option<Amount>
+        ensures { result ≡ floor_at self.now chunk }
+    {
+        self.floors.get(chunk)
+    }
+
+    /// Notes what a search has counted of a chunk. It falls with each name that was found there, once that is wanted no
+    /// more.
+    pub fn note_floor(&mut self, chunk: u32, amount: Option<Amount>)
+        requires { chunk < CHUNK_NUMBERS }
+        ensures rest { self.new ≡ record self.old { floors = self.new.floors } }
+        ensures floors { (j : ℕ) → floor_at self.new j ≡ (if chunk == j then amount
+            else floor_at self.old j) }
+    {
+        self.floors.set(chunk, amount);
     }
 
     /// A second copy of a name that has one. It takes no place.
@@ -284,11 +314,11 @@ impl Standing {
         ensures room { self.new.room ≡ self.old.room }
         ensures settled { self.new.settled ≡ self.old.settled }
         ensures tally { self.new.tally ≡ tally_without self.old name.key name.version }
-        ensures fewest { self.new.fewest ≡ fewest_without self.old name.key name.version }
+        ensures floors { LowersFloors self.old self.new name.key name.version }
     {
         self.want_no_more(name);
-        let dead = self.is_dead(name);
-        self.names.set(name, Copies { count: 2, dead });
+        let copies = one_more(self.names.get(name));
+        self.names.set(name, copies);
     }
 
     /// Takes out a copy of a name that stands, and says whether it was the last one. What was told of a name goes
@@ -298,24 +328,25 @@ impl Standing {
         ensures last { result ≡ (count_of self.old name.key name.version == 1) }
         ensures one { result ≡ true → Changes self.old self.new name.key name.version None }
         ensures more { result ≡ false → Changes self.old self.new name.key name.version
-            (Some (copies_with (count_of self.old name.key name.version - 1)
-            (is_told self.old name.key name.version))) }
+            (option_map one_fewer (copies_at self.old name.key name.version)) }
         ensures count { length self.new.entries + (if result then 1 else 0)
             ≡ length self.old.entries }
         ensures room { self.new.room ≡ self.old.room }
         ensures settled { self.new.settled ≡ (if result then self.old.settled else None) }
+        ensures floors { self.new.floors ≡ self.old.floors }
     {
-        let count = self.copies(name);
-        if count == 1 {
+        let Some(copies) = self.names.get(name) else {
+            return false;
+        };
+        if copies.count == 1 {
             self.names.take(name);
             return true;
         }
-        let dead = self.is_dead(name);
         self.names.set(
             name,
             Copies {
-                count: count - 1,
-                dead,
+                count: copies.count - 1,
+                ..copies
             },
         );
         self.settled = None;

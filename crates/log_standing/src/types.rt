@@ -7,7 +7,22 @@ pub struct Copies {
     pub count: u64,
     /// The name's owner told it.
     pub dead: bool,
+    /// Where a search found its entry.
+    pub spot: Spot,
 }
+
+/// Where a search for a chunk to clean found an entry: in which chunk, and how many words it takes there. Of no words
+/// where none has found it.
+#[derive(Clone, Copy, Debug, PartialEq, Eq)]
+pub struct Spot {
+    /// By its number in the part.
+    pub chunk: u8,
+    /// Without the end of a line behind a batch.
+    pub words: u8,
+}
+
+/// No search has found the entry.
+pub const NOWHERE: Spot = Spot { chunk: 0, words: 0 };
 
 /// A place of a chunk before which no entry is still to be copied. The place is a word of the chunk's payload.
 #[derive(Clone, Copy, Debug, PartialEq, Eq)]

@@ -54,7 +54,7 @@ module _ (l : Geometry) (image : ℕ → ℕ) (r : Recovered) (is : IsOf l image
     log = record { layout = l; part = 0; chunks = []; opened = None };
     allocator = record { layout = l; part = 0; chunks = record { is_free = false; class = None; is_due = true } ∷ []; used = [] };
     index = [];
-    standing = record { entries = []; room = 0; settled = None; tally = None; fewest = 0 };
+    standing = record { entries = []; room = 0; settled = None; tally = None; floors = [] };
   }
 
   missing : (c : ℕ) → c < l.cores → length r.starts.items ≤ c → ⊥

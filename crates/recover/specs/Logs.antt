@@ -9,6 +9,7 @@ use Rattle.core_log.specs.declared.types.LogChunk.{LogChunk}
 use Rattle.core_log.specs.Log.{LogState, IsOwn, Spelled, tail_of, chunk_with}
 use Rattle.core_log.specs.Fresh.{IsEmptiest}
 use Rattle.lazy_alloc.specs.Sets.{AreSets}
+use Rattle.log_standing.specs.NameCounts.{floor_at}
 use Rattle.recover.specs.Starts.{IsSpelledIndex}
 use Rattle.recover.specs.OwnDead.{TellsOwn}
 use Rattle.recover.specs.declared.types.CoreStart.{CoreStart}
@@ -51,3 +52,4 @@ pub record IsStart (l : Geometry) (c : ℕ) (start : CoreStart) : Type 0 where
   pub opened : IsEmptiest start.log.chunks start.log.opened
   pub told : TellsOwn start.standing start.index
   pub settled : start.standing.settled ≡ None
+  pub floors : (j : ℕ) → floor_at start.standing j ≡ None

@@ -8,6 +8,7 @@ ghost use Rattle.core_log.specs.Walking.{LiesIn};
 ghost use Rattle.core_index.specs.Records.{is_dead_in};
 ghost use Rattle.core_index.specs.Index.{known_at};
 ghost use Rattle.log_standing.specs.ChunkCounts.{IsStandingOf, IsSpelled};
+ghost use Rattle.log_standing.specs.NameCounts.{floor_at};
 ghost use Rattle.recover.specs.Regions.{Covers};
 ghost use Rattle.recover.specs.Gathering.{AllSpell};
 ghost use Rattle.recover.specs.OwnDead.{TellsOwn};
@@ -41,6 +42,7 @@ fn own_standing<R: Region>(
     requires spelled { IsSpelled (R.state region.now) log.now }
     ensures told { IfOk result (λ standing. TellsOwn standing index.now) }
     ensures settled { IfOk result (λ standing. standing.settled ≡ None) }
+    ensures floors { IfOk result (λ standing. (j : ℕ) → floor_at standing j ≡ None) }
     ensures counts { IfOk result (λ standing. IsTelling (R.state region.now)
         → IsStandingOf (R.state region.now) log.now standing) }
 {

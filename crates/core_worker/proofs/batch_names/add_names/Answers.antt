@@ -4,14 +4,14 @@ use Rattle.core_worker.proofs.batch_names.add_names.Goals as goal
 use Rattle.core_worker.proofs.batch_names.add_names.Goals.{in-Some, in_default}
 
 pub loop-at-init : goal.loop-at-init
-loop-at-init c = adds_first c.args.batch.now.changes.taken.items c.args.standing.now c.note_fewest.new.self c.note_fewest.ensures c.requires.room
+loop-at-init c = adds_first c.args.batch.now.changes.taken.items c.args.standing.now c.requires.room
 
 pub loop-at-preserved : goal.loop-at-preserved
 loop-at-preserved c =
     let ts = c.args.batch.now.changes.taken.items in
     elim c.match-name_at.branch [
       | in-Some w ↦ subst (AddsSoFar ts (c.loop-at.at + 1) c.args.standing.now) (sym w.standing-is)
-          (adds_one ts c.loop-at.at c.args.standing.now c.loop-at.standing c.loop-at.invariant w.add.new.self w.in-Some.name (sym c.name_at.ensures ∙ w.in-Some.is) w.add.ensures.added w.add.ensures.room w.add.ensures.settled w.add.ensures.count w.add.ensures.fewest)
+          (adds_one ts c.loop-at.at c.args.standing.now c.loop-at.standing c.loop-at.invariant w.add.new.self w.in-Some.name (sym c.name_at.ensures ∙ w.in-Some.is) w.add.ensures.added w.add.ensures.room w.add.ensures.settled w.add.ensures.count w.add.ensures.floors)
       | in_default w ↦ subst (AddsSoFar ts (c.loop-at.at + 1) c.args.standing.now) (sym w.standing-is)
           (adds_none ts c.loop-at.at c.args.standing.now c.loop-at.standing c.loop-at.invariant (sym c.name_at.ensures ∙ w.in_default.is))
     ]

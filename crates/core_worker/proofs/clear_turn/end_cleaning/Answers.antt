@@ -1,7 +1,7 @@
 use Rattle.std.proofs.Common.{refl, sym, ◌∙◌, ap, arith}
 use Rattle.core_log.specs.Log.{LogState, tail_of}
 use Rattle.core_log.proofs.Clients.{without_self}
-use Rattle.core_worker.proofs.NamesStood.{few_none}
+use Rattle.log_cleaner.proofs.TallyLaws.{floors_kept}
 use Rattle.core_worker.proofs.clear_turn.end_cleaning.Goals as goal
 
 pub returns-in-Ok-clause-ended : goal.returns-in-Ok-clause-ended
@@ -39,5 +39,5 @@ returns-in-Ok-clause-untold g c = (let less = c.lose_names.ensures.untold in let
 pub returns-in-Err-clause-kept : goal.returns-in-Err-clause-kept
 returns-in-Err-clause-kept g c = let e = c.in-Err.ensures.err in (e.0, e.2, e.1, e.3, refl, refl)
 
-pub returns-in-Ok-clause-few : goal.returns-in-Ok-clause-few
-returns-in-Ok-clause-few g c = few_none c.give_up.new.standing c.hear_own.new.standing c.hear_own.ensures.own.tally c.in-Ok.ensures.few
+pub returns-in-Ok-clause-floors : goal.returns-in-Ok-clause-floors
+returns-in-Ok-clause-floors g c = λ telling had. floors_kept (g.R.Region.state c.give_up.new.region) c.give_up.new.log c.give_up.new.standing c.hear_own.new.standing c.hear_own.ensures.own.tally (c.in-Ok.ensures.floors telling had)

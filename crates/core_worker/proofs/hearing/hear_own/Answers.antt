@@ -14,7 +14,7 @@ loop-name-preserved c =
     let less = c.loop-name.invariant.2 in
     let kept = c.kill.ensures.count in
     let fewer = c.in-Some.ensures.fewer in
-    (tells_more c.args.core c.args.index.now c.loop-name.index c.next_notice.new.self c.args.standing.now c.loop-name.standing c.kill.new.self c.in-Some.name c.in-Some.ensures.told c.kill.ensures.killed c.kill.ensures.settled c.kill.ensures.room c.kill.ensures.tally c.kill.ensures.fewest c.loop-name.invariant.0, kept ∙ same, omega (arith, less, fewer))
+    (tells_more c.args.core c.args.index.now c.loop-name.index c.next_notice.new.self c.args.standing.now c.loop-name.standing c.kill.new.self c.in-Some.name c.in-Some.ensures.told c.kill.ensures.killed c.kill.ensures.settled c.kill.ensures.room c.kill.ensures.tally c.kill.ensures.floors c.loop-name.invariant.0, kept ∙ same, omega (arith, less, fewer))
 
 pub returns-clause-hears : goal.returns-clause-hears
 returns-clause-hears c = subst (HearsAll c.args.core c.args.index.now) (sym c.in_default.ensures.unchanged) (hears_all c.args.core c.args.index.now c.loop-name.index c.loop-name.invariant.0.hears c.in_default.ensures.none)

@@ -5,5 +5,5 @@ pub returns : goal.returns
 returns c = record {
   standing = λ s log old new k v changes same up. kill_up old new k v changes s log same up;
   gathered = λ old new k v xs a changes none gathered. kill_gathered old new k v changes xs a none gathered;
-  tally = λ old new k v changes tally fewest. kill_tally old new k v changes tally fewest;
+  tally = λ old new k v changes tally floors. kill_tally old new k v changes tally floors;
 }

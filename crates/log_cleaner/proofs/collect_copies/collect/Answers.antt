@@ -21,5 +21,4 @@ returns-clause-settled g c = λ telling.
 pub returns-clause-tally : goal.returns-clause-tally
 returns-clause-tally g c =
     let mid = c.collect_from-taken.new.standing in
-    let fewest = c.settle.ensures.fewest in
-    keeps_both c.args.standing.now mid c.settle.new.self c.collect_from-taken.ensures.tally (keeps_same mid c.settle.new.self c.settle.ensures.copies c.settle.ensures.tally (omega (arith, fewest)))
+    keeps_both c.args.standing.now mid c.settle.new.self c.collect_from-taken.ensures.tally (keeps_same mid c.settle.new.self c.settle.ensures.copies c.settle.ensures.tally c.settle.ensures.floors)

@@ -6,7 +6,7 @@ pub returns-clause-untold : goal.returns-clause-untold
 returns-clause-untold g c = record {
   told = λ k v. ap told_in (c.of.ensures.copies k v) ∙ c.in_ok-table.ensures.untold k v;
   settled = c.of.ensures.settled;
-  fewest = c.of.ensures.fewest;
+  floors = c.of.ensures.floors;
 }
 
 pub returns-clause-standing : goal.returns-clause-standing

@@ -26,8 +26,8 @@ returns-then-kept-eq0-clause-merged c = λ xs merged ordered.
     subst (λ (l : List NameItem). IsMerged (xs ++ y ∷ []) l) (ap (λ (z : NameItem). take kept items ++ z ∷ []) (sym c.first_of.ensures) ∙ sym (take_more_set items kept c.first_of.result lt))
     (merged_new xs (take kept items) y merged ordered new)
 
-pub with_chunk-requires : goal.with_chunk-requires
-with_chunk-requires c =
+pub with_chunk-requires-clause-few : goal.with_chunk-requires-clause-few
+with_chunk-requires-clause-few c =
     let items = c.args.items.now.items in
     let kept = c.args.kept in
     let lt = c.requires.within in
@@ -37,6 +37,18 @@ with_chunk-requires c =
     let counted : IsCounted (get_or (take kept items) (kept - 1) d) = c.requires.counted (kept - 1) d (omega (arith, n, some)) in
     let most = counted.most in
     subst (λ (x : NameItem). x.count ≤ x.chunk + 1) (get_or-take kept items (kept - 1) d (omega (arith, some)) ∙ sym c.index-last.ensures) most
+
+pub with_chunk-requires-clause-within : goal.with_chunk-requires-clause-within
+with_chunk-requires-clause-within c =
+    let items = c.args.items.now.items in
+    let kept = c.args.kept in
+    let lt = c.requires.within in
+    let some = c.if-kept-eq0.false in
+    let n : length (take kept items) ≡ kept = length-take-le kept items (omega (arith, lt)) in
+    let d = c.index-last.result.now in
+    let counted : IsCounted (get_or (take kept items) (kept - 1) d) = c.requires.counted (kept - 1) d (omega (arith, n, some)) in
+    let most = counted.chunk in
+    subst (λ (x : NameItem). x.chunk < 64) (get_or-take kept items (kept - 1) d (omega (arith, some)) ∙ sym c.index-last.ensures) most
 
 pub returns-then-last-item-clause-merged : goal.returns-then-last-item-clause-merged
 returns-then-last-item-clause-merged c = λ xs merged ordered.

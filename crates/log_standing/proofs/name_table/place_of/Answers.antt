@@ -28,7 +28,7 @@ returns-then-found-name-clause-absent c =
     let v = c.args.name.version in
     let r = rank_of k v in
     let at = c.partition_point-at.result in
-    let d0 : NameItem = record { key = 0; version = 0; count = 0; chunk = 0; dead = false } in
+    let d0 : NameItem = record { key = 0; version = 0; count = 0; chunk = 0; words = 0; dead = false } in
     let parted = IsPartitionedBy-ltb rank_in xs r (never_falls xs c.requires) in
     let point = IsPartitionPoint-from_clause (λ (x : NameItem). nat_lt (rank_in x) r) _ _ c.partition_point-at.ensures.partitioned parted (λ a r q k. search rules) in
     let isnt : is_item k v (get_or xs at d0) ≡ false = elim c.then-found-name.branch [

@@ -53,6 +53,7 @@ returns-clause-made g c =
       opened = log.opened;
       told = c.in_ok-standing.ensures.told;
       settled = c.in_ok-standing.ensures.settled;
+      floors = c.in_ok-standing.ensures.floors;
     }
 
 pub returns-clause-told : goal.returns-clause-told

@@ -110,7 +110,7 @@ returns-in-Ok-clause-keeps g c =
     let x = record w { log = c.end_cleaning.new.log; allocator = c.end_cleaning.new.allocator; places = c.end_cleaning.new.places; index = c.end_cleaning.new.index; standing = c.end_cleaning.new.standing; notices = c.file_gone.new.boxes; cleaning = Nothing; clearing = c.replace.new.dest } in
     let y = c.in-Some.clearing in
     let E = ended.ends_in s seat.place seat.number v w c.requires.holds c.requires.stands c.requires.order c.requires.dooms y (sym c.in-Some.ensures.value) u x c.in-Ok.ensures.tidied (subst (λ (ns : List EntryName). EndsCleaning w.core c.in-Some.clearing ns w.log c.end_cleaning.new.log w.allocator c.end_cleaning.new.allocator w.places.items c.end_cleaning.new.places.items w.index c.end_cleaning.new.index w.standing c.end_cleaning.new.standing) c.as_slice.ensures.value c.in-Ok.ensures.ended) (subst (λ (ns : List EntryName). FilesGone seat.place seat.number ns w.notices.items c.file_gone.new.boxes.items) (c.as_slice-in-Ok.ensures.value ∙ c.in-Ok.ensures.gone) (c.file_gone.ensures.files seat.place seat.number c.requires.holds.layout c.requires.holds.core c.requires.holds.member)) (λ i. record w { log = c.end_cleaning.new.log; allocator = c.end_cleaning.new.allocator; places = c.end_cleaning.new.places; index = c.end_cleaning.new.index; standing = c.end_cleaning.new.standing; notices = c.file_gone.new.boxes; cleaning = Nothing; clearing = c.replace.ensures.after i }) in
-    let R : EndsInRegion s t seat.place seat.number u w x y = record { retired = c.in-Ok.ensures.retired; outside = c.end_cleaning.ensures.head; exit = c.end_cleaning.ensures.exit; names = ended.names s seat.place seat.number v w c.requires.holds c.requires.stands c.requires.order c.requires.dooms y (sym c.in-Some.ensures.value) u x E; counted = c.in-Ok.ensures.counted; read = c.in-Ok.ensures.read; fewest = c.in-Ok.ensures.few } in
+    let R : EndsInRegion s t seat.place seat.number u w x y = record { retired = c.in-Ok.ensures.retired; outside = c.end_cleaning.ensures.head; exit = c.end_cleaning.ensures.exit; names = ended.names s seat.place seat.number v w c.requires.holds c.requires.stands c.requires.order c.requires.dooms y (sym c.in-Some.ensures.value) u x E; counted = c.in-Ok.ensures.counted; read = c.in-Ok.ensures.read; floors = c.in-Ok.ensures.floors } in
     ended.keeps_ended seat s t before after v u w x y c.requires.holds c.requires.stands c.requires.order E R c.end_cleaning.ensures.moments c.end_cleaning.ensures.outside
     (runs.Kind.Retire y.doomed ∷ [], one_step before after seat.number (runs.Kind.Retire y.doomed) u c.in-Ok.ensures.made)
 

@@ -2,15 +2,13 @@ use Rattle.std.proofs.Common.{refl, sym, ◌∙◌, ap, subst, arith}
 use Rattle.log_standing.specs.NameCounts.{StandingState}
 use Rattle.core_worker.specs.StandingTies.{HasCopies, SameNames}
 use Rattle.core_worker.proofs.NamesKnown.{heard_later, copies_before}
-use Rattle.core_worker.proofs.NamesStood.{few_none}
 use Rattle.core_worker.proofs.worker.Worker.new.Goals as goal
 
 pub returns : goal.returns
 returns c =
     let r = c.in_ok-reserve.ensures in
-    let mid = c.note_fewest.new.self in
-    let same : SameNames c.args.start.standing c.note_fewest.new.self = subst (SameNames c.args.start.standing) (sym c.note_fewest.ensures) (record { copies = r.copies; settled = r.settled; room = r.room; tally = r.tally; fewest = omega arith }) in
-    let had : HasCopies c.note_fewest.new.self = subst HasCopies (sym c.note_fewest.ensures) r.standing in
+    let mid = c.reserve.new.self in
+    let same : SameNames c.args.start.standing mid = record { copies = r.copies; settled = r.settled; room = r.room; tally = r.tally; floors = r.floors } in
     record {
       core = refl;
       layout_is = refl;
@@ -18,9 +16,8 @@ returns c =
       allocator = refl;
       index = c.hear_own.ensures.hears;
       standing = heard_later c.args.start.core c.args.start.index c.args.start.standing mid c.hear_own.new.standing same c.hear_own.ensures.own;
-      fewest = few_none mid c.hear_own.new.standing c.hear_own.ensures.own.tally (ap (λ (st : StandingState). st.fewest) c.note_fewest.ensures);
-      copies = copies_before c.args.start.standing mid same had;
-      names = (let ok = r.ok in let kept = ap (λ (st : StandingState). st.room) c.note_fewest.ensures in let more = c.hear_own.ensures.own.room in omega (arith, ok, kept, more));
+      copies = copies_before c.args.start.standing mid same r.standing;
+      names = (let ok = r.ok in let more = c.hear_own.ensures.own.room in omega (arith, ok, more));
       eight = c.in_ok-places.ensures.eight;
       free = c.in_ok-places.ensures.free;
       queue = c.in_ok-queue.ensures;

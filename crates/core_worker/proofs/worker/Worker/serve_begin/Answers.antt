@@ -3,12 +3,12 @@ use Rattle.std.proofs.Common.{◌≡◌, [], refl, sym, ◌∙◌, ap, arith}
 use Rattle.batch_leader.proofs.Clients.{no_loads, no_steps, turn_of_loads}
 use Rattle.core_worker.specs.declared.worker.Worker.{Worker}
 use Rattle.core_worker.specs.Turning.Did.{begins}
-use Rattle.core_worker.proofs.BegunHolds.{begun_less, keeps_begun, keeps_searched, none_holds, none_left, none_order, none_stands, none_way}
+use Rattle.core_worker.proofs.BegunHolds.{begun_less, keeps_begun, keeps_searched, looked_holds, looked_left, looked_order, looked_stands, none_left, none_way}
 use Rattle.core_worker.proofs.BegunTurns.{keeps_wound, short_begun, was_begun, was_none_begun, wound_did}
 use Rattle.core_worker.proofs.CopiedItem.{measured_there}
 use Rattle.core_worker.proofs.LeftFair.{starts_nothing}
 use Rattle.core_worker.proofs.LeftItems.{lowers_still}
-use Rattle.core_worker.proofs.SentTurns.{measures_ready, short_low, short_starts}
+use Rattle.core_worker.proofs.SentTurns.{lowers_ready, measures_ready, short_low, short_starts}
 use Rattle.core_worker.proofs.worker.Worker.serve_begin.Goals as goal
 
 pub begin_next-requires-clause-measured : goal.begin_next-requires-clause-measured
@@ -21,10 +21,10 @@ pub begin_next-requires-clause-stands : goal.begin_next-requires-clause-stands
 begin_next-requires-clause-stands g c = c.requires.stands.log
 
 pub begin_next-requires-clause-counted : goal.begin_next-requires-clause-counted
-begin_next-requires-clause-counted g c runs works telling = (c.requires.stands.names runs works telling).counted
+begin_next-requires-clause-counted g c runs works telling = (c.requires.stands.names runs works telling).counted.counts
 
-pub begin_next-requires-clause-fewest : goal.begin_next-requires-clause-fewest
-begin_next-requires-clause-fewest g c runs works telling = (c.requires.stands.names runs works telling).fewest
+pub begin_next-requires-clause-floors : goal.begin_next-requires-clause-floors
+begin_next-requires-clause-floors g c runs works telling = (c.requires.stands.names runs works telling).floors
 
 pub returns-then-begun-clause-keeps : goal.returns-then-begun-clause-keeps
 returns-then-begun-clause-keeps g c =
@@ -80,20 +80,20 @@ serve_lock-turn-requires-clause-holds g c =
     let seat = g.B.Board.seat c.args.board.now in
     let s = g.R.Region.state c.args.region.now in
     let N = was_none_begun c.in-Ok.begun s c.args.self.now c.begin_next.new.self c.if-begun.false c.in-Ok.ensures in
-    none_holds s seat.place seat.number (g.B.Board.view c.args.board.now) c.args.self.now c.begin_next.new.self c.requires.holds c.requires.nothing N
+    looked_holds s seat.place seat.number (g.B.Board.view c.args.board.now) c.args.self.now c.begin_next.new.self c.requires.holds c.requires.nothing N.looks
 
 pub serve_lock-turn-requires-clause-order : goal.serve_lock-turn-requires-clause-order
 serve_lock-turn-requires-clause-order g c =
     let seat = g.B.Board.seat c.args.board.now in
     let s = g.R.Region.state c.args.region.now in
     let N = was_none_begun c.in-Ok.begun s c.args.self.now c.begin_next.new.self c.if-begun.false c.in-Ok.ensures in
-    none_order s seat.place seat.number (g.B.Board.view c.args.board.now) c.args.self.now c.begin_next.new.self c.requires.holds c.requires.nothing N c.requires.order
+    looked_order s seat.place seat.number (g.B.Board.view c.args.board.now) c.args.self.now c.begin_next.new.self c.requires.holds c.requires.nothing N.looks c.requires.order
 
 pub serve_lock-turn-requires-clause-nothing : goal.serve_lock-turn-requires-clause-nothing
 serve_lock-turn-requires-clause-nothing g c =
     let s = g.R.Region.state c.args.region.now in
     let N = was_none_begun c.in-Ok.begun s c.args.self.now c.begin_next.new.self c.if-begun.false c.in-Ok.ensures in
-    (c.requires.nothing.0, ap (λ (y : Worker). y.leading) N.same ∙ c.requires.nothing.1)
+    (c.requires.nothing.0, ap (λ (y : Worker). y.leading) N.looks.same ∙ c.requires.nothing.1)
 
 pub serve_lock-turn-requires-clause-clean : goal.serve_lock-turn-requires-clause-clean
 serve_lock-turn-requires-clause-clean g c =
@@ -109,8 +109,8 @@ returns-in-Ok-clause-keeps g c =
     let w = c.args.self.now in
     let y = c.begin_next.new.self in
     let N = was_none_begun c.in-Ok.begun s c.args.self.now c.begin_next.new.self c.if-begun.false c.in-Ok.ensures in
-    keeps_searched seat s s (g.B.Board.whole c.args.board.now) (g.B.Board.whole c.serve_lock-turn.new.board) v (g.B.Board.view c.serve_lock-turn.new.board) w y c.serve_lock-turn.new.self c.requires.holds c.requires.nothing N
-    (c.serve_lock-turn.ensures.keeps s (none_stands s seat.place seat.number v w y c.requires.holds c.requires.nothing N c.requires.stands c.requires.clean))
+    keeps_searched seat s s (g.B.Board.whole c.args.board.now) (g.B.Board.whole c.serve_lock-turn.new.board) v (g.B.Board.view c.serve_lock-turn.new.board) w y c.serve_lock-turn.new.self c.requires.holds c.requires.nothing N.looks
+    (c.serve_lock-turn.ensures.keeps s (looked_stands s seat.place seat.number v w y c.requires.holds c.requires.nothing N.looks c.requires.stands c.requires.clean))
 
 pub returns-in-Ok-clause-turned : goal.returns-in-Ok-clause-turned
 returns-in-Ok-clause-turned g c refused start from w post tells mail sending =
@@ -130,7 +130,7 @@ pub returns-in-Ok-clause-works : goal.returns-in-Ok-clause-works
 returns-in-Ok-clause-works g c =
     let s = g.R.Region.state c.args.region.now in
     let N = was_none_begun c.in-Ok.begun s c.args.self.now c.begin_next.new.self c.if-begun.false c.in-Ok.ensures in
-    c.serve_lock-turn.ensures.works ∙ ap (λ (y : Worker). y.winds_down) N.same
+    c.serve_lock-turn.ensures.works ∙ ap (λ (y : Worker). y.winds_down) N.looks.same
 
 pub returns-in-Ok-clause-steps : goal.returns-in-Ok-clause-steps
 returns-in-Ok-clause-steps g c passes = c.serve_lock-turn.ensures.steps passes (g.R.Region.state c.args.region.now)
@@ -138,25 +138,39 @@ returns-in-Ok-clause-steps g c passes = c.serve_lock-turn.ensures.steps passes (
 pub returns-in-Err-clause-keeps : goal.returns-in-Err-clause-keeps
 returns-in-Err-clause-keeps g c =
     let seat = g.B.Board.seat c.args.board.now in
-    keeps_wound seat (g.R.Region.state c.args.region.now) (g.B.Board.whole c.args.board.now) (g.B.Board.view c.args.board.now) c.args.self.now c.begin_next.new.self (g.met.B.Board.agrees c.args.board.now) c.requires.holds c.requires.stands c.requires.order c.in-Err.ensures.2
+    let s = g.R.Region.state c.args.region.now in
+    let v = g.B.Board.view c.args.board.now in
+    let before = g.B.Board.whole c.args.board.now in
+    let w = c.args.self.now in
+    let f = c.in-Err.ensures.2.0 in
+    let looks = c.in-Err.ensures.2.1 in
+    keeps_searched seat s s before before v v w f c.begin_next.new.self c.requires.holds c.requires.nothing looks
+    (keeps_wound seat s before v f c.begin_next.new.self (g.met.B.Board.agrees c.args.board.now) (looked_holds s seat.place seat.number v w f c.requires.holds c.requires.nothing looks) (looked_stands s seat.place seat.number v w f c.requires.holds c.requires.nothing looks c.requires.stands c.requires.clean) (looked_order s seat.place seat.number v w f c.requires.holds c.requires.nothing looks c.requires.order) c.in-Err.ensures.2.2)
 
 pub returns-in-Err-clause-turned : goal.returns-in-Err-clause-turned
 returns-in-Err-clause-turned g c refused start from w post tells mail sending =
-    wound_did (g.R.Region.state c.args.region.now) refused start (g.B.Board.whole c.args.board.now) (g.B.Board.seat c.args.board.now) from (g.B.Board.view c.args.board.now) w c.args.self.now c.begin_next.new.self (g.met.B.Board.agrees c.args.board.now) c.in-Err.ensures.0 c.in-Err.ensures.1 post tells.0 mail sending c.in-Err.ensures.2
+    wound_did (g.R.Region.state c.args.region.now) refused start (g.B.Board.whole c.args.board.now) (g.B.Board.seat c.args.board.now) from (g.B.Board.view c.args.board.now) w c.args.self.now c.in-Err.ensures.2.0 c.begin_next.new.self c.in-Err.ensures.0 c.in-Err.ensures.1 post tells.0 mail sending c.in-Err.ensures.2.1 c.in-Err.ensures.2.2
 
 pub returns-in-Err-clause-less : goal.returns-in-Err-clause-less
 returns-in-Err-clause-less g c offer =
     let seat = g.B.Board.seat c.args.board.now in
+    let s = g.R.Region.state c.args.region.now in
     let v = g.B.Board.view c.args.board.now in
     let before = g.B.Board.whole c.args.board.now in
-    short_low seat.place seat.number before before v v c.args.self.now c.begin_next.new.self c.in-Err.ensures.1 (short_begun seat.place seat.number before v c.args.self.now c.begin_next.new.self (g.met.B.Board.agrees c.args.board.now) c.in-Err.ensures.2)
+    let w = c.args.self.now in
+    let f = c.in-Err.ensures.2.0 in
+    let looks = c.in-Err.ensures.2.1 in
+    let same = looked_left s w f looks in
+    lowers_ready before before w f c.begin_next.new.self (omega (arith, same))
+    (short_low seat.place seat.number before before v v f c.begin_next.new.self (ap (λ (y : Worker). y.winds_down) looks.same ∙ c.in-Err.ensures.1) (short_begun seat.place seat.number before v f c.begin_next.new.self (g.met.B.Board.agrees c.args.board.now) c.in-Err.ensures.2.2))
 
 pub returns-in-Err-clause-starts : goal.returns-in-Err-clause-starts
 returns-in-Err-clause-starts g c =
     let seat = g.B.Board.seat c.args.board.now in
     let v = g.B.Board.view c.args.board.now in
     let before = g.B.Board.whole c.args.board.now in
-    short_starts seat.place seat.number before before v v c.args.self.now c.begin_next.new.self c.requires.nothing (short_begun seat.place seat.number before v c.args.self.now c.begin_next.new.self (g.met.B.Board.agrees c.args.board.now) c.in-Err.ensures.2)
+    let f = c.in-Err.ensures.2.0 in
+    short_starts seat.place seat.number before before v v f c.begin_next.new.self (c.requires.nothing.0, ap (λ (y : Worker). y.leading) c.in-Err.ensures.2.1.same ∙ c.requires.nothing.1) (short_begun seat.place seat.number before v f c.begin_next.new.self (g.met.B.Board.agrees c.args.board.now) c.in-Err.ensures.2.2)
 
 pub returns-in-Err-clause-steps : goal.returns-in-Err-clause-steps
 returns-in-Err-clause-steps g c passes = (let s = g.R.Region.state c.args.region.now in turn_of_loads passes s s _ _ _ _ _ _ (no_loads (g.B.Board.view c.args.board.now) (g.B.Board.trail c.args.board.now)))

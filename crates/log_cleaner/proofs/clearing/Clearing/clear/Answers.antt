@@ -1,4 +1,4 @@
-use Rattle.std.proofs.Common.{◌≡◌, ◌≤◌, ◌+◌, ℕ, List, length, None, subst, sym, ◌∙◌, ap, arith}
+use Rattle.std.proofs.Common.{cond, ◌==◌, ◌≡◌, ◌≤◌, ◌+◌, ℕ, List, length, None, subst, sym, ◌∙◌, ap, arith}
 use Rattle.pm_region.specs.State.{State, During, IsTelling, cell_now}
 use Rattle.pm_region.specs.Words.{KeepsOutside}
 use Rattle.log_entry.specs.declared.entry.EntryName.{EntryName}
@@ -6,11 +6,11 @@ use Rattle.core_log.specs.Log.{LogState, first_of, tail_in}
 use Rattle.core_log.specs.Chunk.{words_now, FreeOrLog}
 use Rattle.core_log.specs.Opening.{EachInChunk}
 use Rattle.core_log.specs.Retiring.{HasSameOrNone, RetiredChunk}
-use Rattle.log_standing.specs.NameCounts.{StandingState, SameCopies, times_in}
+use Rattle.log_standing.specs.NameCounts.{StandingState, SameCopies, floor_at, floor_in, times_in}
 use Rattle.log_cleaner.specs.Dropping.{lone_in, Drops}
 use Rattle.log_cleaner.specs.Clearing.{ClearingState}
 use Rattle.log_cleaner.specs.Copying.{IsSettledIn}
-use Rattle.log_cleaner.proofs.ClearLaws.{clear_parts, clear_standing, clear_vanish}
+use Rattle.log_cleaner.proofs.ClearLaws.{clear_floors, clear_parts, clear_standing, clear_vanish}
 use Rattle.log_cleaner.proofs.clearing.Clearing.clear.Goals as goal
 
 pub drop_all-requires : goal.drop_all-requires
@@ -68,6 +68,9 @@ dropped_at old mid new ns same drops k v = same k v ∙ drops k v
 none_settled : (s : State) (log : LogState) (st : StandingState) → st.settled ≡ None → IsSettledIn s log st
 none_settled s log st none h at = absurd (cc (sym none ∙ at))
 
+forgot_at : (old mid new : StandingState) (i j : ℕ) → i ≡ j → mid.floors ≡ old.floors → ((k : ℕ) → floor_at new k ≡ cond (i == k) None (floor_at mid k)) → (k : ℕ) → floor_at new k ≡ cond (j == k) None (floor_at old k)
+forgot_at old mid new i j e same forgot k = forgot k ∙ (λ t. cond (e t == k) None (floor_in (same t) k))
+
 pub returns-clause-ok : goal.returns-clause-ok
 returns-clause-ok g c =
     let s = g.R.Region.state c.args.region.now in
@@ -90,6 +93,7 @@ returns-clause-ok g c =
         settled = none_settled t c.retire.new.self c.forget.new.self c.forget.ensures.settled;
       };
       vanish = λ telling. clear_vanish s log st c.args.self c.requires.stands c.requires.has gathered copied counts c.requires.agrees t c.retire.new.self c.forget.new.self retired outside dropped telling;
+      floors = λ telling had. clear_floors s log st c.args.self c.requires.stands c.requires.has gathered copied counts c.requires.agrees t c.retire.new.self c.forget.new.self retired outside dropped telling (forgot_at st c.drop_all.new.standing c.forget.new.self c.self.inside.chunk c.args.self.chunk e c.drop_all.ensures.floors c.forget.ensures.floors) had;
     }
 
 pub returns-clause-count : goal.returns-clause-count

@@ -27,7 +27,7 @@ returns-then-is_some-clause-set c =
     let some : is_some (copies_among t k v) ≡ true = ap (λ (o : Option Copies). is_some o) (sym c.get.ensures.copies) ∙ sym c.is_some.ensures ∙ c.if-is_some.true in
     let there : copies_among c.args.self.now.entries k v ≡ c.get.result = ap (λ (s : NamesState). copies_among s.entries k v) (sym c.self.view_is) ∙ joined_first t l k v some ∙ sym c.get.ensures.copies in
     let fits : c.args.copies.count ≤ max 2 (count_in c.get.result) = subst (λ (o : Option Copies). c.args.copies.count ≤ max 2 (count_in o)) there c.requires.fits in
-    let most = bounded c.get.result c.args.copies.count 65535 c.get.ensures.small (omega arith) fits in
+    let most = bounded c.get.result c.args.copies.count 255 c.get.ensures.small (omega arith) fits in
     let put : c.put.result ≡ true = c.put.ensures.fits c.requires.some most some in
     subst (λ (s : NamesState). Writes s.entries (c.put.new.self ++ l) k v (Some c.args.copies)) c.self.view_is
     (writes_first t c.put.new.self l k v c.args.copies (c.put.ensures.put put))
@@ -54,7 +54,7 @@ returns-then-is_some-clause-count c =
     let some : is_some (copies_among t k v) ≡ true = ap (λ (o : Option Copies). is_some o) (sym c.get.ensures.copies) ∙ sym c.is_some.ensures ∙ c.if-is_some.true in
     let there : copies_among c.args.self.now.entries k v ≡ c.get.result = ap (λ (s : NamesState). copies_among s.entries k v) (sym c.self.view_is) ∙ joined_first t l k v some ∙ sym c.get.ensures.copies in
     let fits : c.args.copies.count ≤ max 2 (count_in c.get.result) = subst (λ (o : Option Copies). c.args.copies.count ≤ max 2 (count_in o)) there c.requires.fits in
-    let most = bounded c.get.result c.args.copies.count 65535 c.get.ensures.small (omega arith) fits in
+    let most = bounded c.get.result c.args.copies.count 255 c.get.ensures.small (omega arith) fits in
     let put : c.put.result ≡ true = c.put.ensures.fits c.requires.some most some in
     subst (λ (s : NamesState). Recounts s.entries (c.put.new.self ++ l) k v (Some c.args.copies)) c.self.view_is
     (recounts_first t c.put.new.self l k v (Some c.args.copies) (c.self.invariant k v some) (c.put.ensures.count put))

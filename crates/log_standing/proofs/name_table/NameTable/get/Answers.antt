@@ -12,7 +12,7 @@ returns-in-Some-clause-copies c =
     let k = c.args.name.key in
     let v = c.args.name.version in
     let i = c.in-Some.place in
-    let d : NameItem = record { key = 0; version = 0; count = 0; chunk = 0; dead = false } in
+    let d : NameItem = record { key = 0; version = 0; count = 0; chunk = 0; words = 0; dead = false } in
     let at : IsPlace xs k v i = subst (λ (l : List NameItem). IsPlace l k v i) c.deref.ensures.value c.in-Some.ensures.found in
     let read : c.index.result.now ≡ get_or xs i d = get_or_read xs i c.index.result.now at.within c.index.ensures d in
     c.copies_of.ensures.copies ∙ ap copies_of read ∙ sym (copies_at_place xs i d k v c.self.invariant at.within (at.named d)) ∙ ap (λ (t : List ((ℕ × ℕ) × Copies)). copies_among t k v) c.self.view_is

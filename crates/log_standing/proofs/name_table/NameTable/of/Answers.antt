@@ -6,7 +6,7 @@ use Rattle.core_log.specs.declared.types.LogChunk.{LogChunk}
 use Rattle.log_standing.specs.declared.name_item.NameItem.{NameItem}
 use Rattle.log_standing.specs.declared.types.Copies.{Copies}
 use Rattle.log_standing.specs.NameCounts.{count_in, copies_with}
-use Rattle.log_standing.specs.NameItems.{live, copies_among, IsCounted}
+use Rattle.log_standing.specs.NameItems.{item_spot, live, copies_among, IsCounted}
 use Rattle.log_standing.proofs.ItemLaws.{each_live, none_told}
 use Rattle.log_standing.proofs.OrderLaws.{sorted_order, same_notes}
 use Rattle.log_standing.proofs.name_table.NameTable.of.Goals as goal
@@ -31,13 +31,13 @@ returns-clause-untold c = λ k v.
     let out = c.shrink_to_fit.new.self.items in
     let each = subst (λ (l : List NameItem). All IsCounted l) (sym c.shrink_to_fit.ensures.items) c.merge.ensures.each in
     let P : Copies → Type 0 = λ c. c.dead ≡ false in
-    let all = recursion_from_All (λ (x : NameItem). P (copies_with x.count x.dead)) out (λ j d lt. (each j d lt).untold) in
+    let all = recursion_from_All (λ (x : NameItem). P (copies_with x.count x.dead (item_spot x))) out (λ j d lt. (each j d lt).untold) in
     none_told (copies_among (live out) k v) (each_live P out all k v)
 
 pub returns-clause-small : goal.returns-clause-small
 returns-clause-small c = λ k v.
     let out = c.shrink_to_fit.new.self.items in
     let each = subst (λ (l : List NameItem). All IsCounted l) (sym c.shrink_to_fit.ensures.items) c.merge.ensures.each in
-    let P : Copies → Type 0 = λ c. (0 < c.count) × (c.count ≤ 65535) in
-    let all = recursion_from_All (λ (x : NameItem). P (copies_with x.count x.dead)) out (λ j d lt. let is = each j d lt in let most = is.most in let chunk = is.chunk in (is.some, omega (arith, most, chunk))) in
+    let P : Copies → Type 0 = λ c. (0 < c.count) × (c.count ≤ 255) in
+    let all = recursion_from_All (λ (x : NameItem). P (copies_with x.count x.dead (item_spot x))) out (λ j d lt. let is = each j d lt in let most = is.most in let chunk = is.chunk in (is.some, omega (arith, most, chunk))) in
     each_live P out all k v

@@ -24,7 +24,7 @@ invariant_of-self c =
     let k = c.args.name.key in
     let v = c.args.name.version in
     let i = c.in-Some.place in
-    let d : NameItem = record { key = 0; version = 0; count = 0; chunk = 0; dead = false } in
+    let d : NameItem = record { key = 0; version = 0; count = 0; chunk = 0; words = 0; dead = false } in
     let at : IsPlace xs k v i = subst (λ (l : List NameItem). IsPlace l k v i) c.deref.ensures.value c.in-Some.ensures.found in
     let x = c.in-Some-item_of.item in
     let is = c.in-Some-item_of.ensures.item in
@@ -37,7 +37,7 @@ returns-clause-put c = λ _ j w.
     let k = c.args.name.key in
     let v = c.args.name.version in
     let i = c.in-Some.place in
-    let d : NameItem = record { key = 0; version = 0; count = 0; chunk = 0; dead = false } in
+    let d : NameItem = record { key = 0; version = 0; count = 0; chunk = 0; words = 0; dead = false } in
     let at : IsPlace xs k v i = subst (λ (l : List NameItem). IsPlace l k v i) c.deref.ensures.value c.in-Some.ensures.found in
     let x = c.in-Some-item_of.item in
     let is = c.in-Some-item_of.ensures.item in
@@ -50,7 +50,7 @@ returns-clause-count c = λ _.
     let k = c.args.name.key in
     let v = c.args.name.version in
     let i = c.in-Some.place in
-    let d : NameItem = record { key = 0; version = 0; count = 0; chunk = 0; dead = false } in
+    let d : NameItem = record { key = 0; version = 0; count = 0; chunk = 0; words = 0; dead = false } in
     let at : IsPlace xs k v i = subst (λ (l : List NameItem). IsPlace l k v i) c.deref.ensures.value c.in-Some.ensures.found in
     let x = c.in-Some-item_of.item in
     let is = c.in-Some-item_of.ensures.item in
