@@ -57,6 +57,7 @@ class Room:
             sum(region.words[self.layout.first_word(part, chunk)] == plain_reader.FREE for chunk in range(self.layout.chunks))
             for part in range(self.layout.cores)
         ]
+        self.ample = {}
 
     def log_bytes(self, request):
         """The bytes of the lines that the entry of a change takes if it stands alone."""
@@ -84,7 +85,9 @@ class Room:
         return sum(rounded_up(count, (units - 1) >> of) for of, count in counts.items() if of is not None)
 
     def is_ample(self, part):
-        return self.log_chunks(part) + self.data_chunks(part) + 2 <= self.free[part]
+        if part not in self.ample:
+            self.ample[part] = self.log_chunks(part) + self.data_chunks(part) + 2 <= self.free[part]
+        return self.ample[part]
 
 
 class PlainMap:
