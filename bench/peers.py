@@ -1,39 +1,59 @@
 """Other stores, for comparison: puts of 32 bytes, so many of them made durable by each commit. Every store gets the same
 batching: a commit of LevelDB is a write batch with sync, of LMDB a transaction, of SQLite one with a log ahead (WAL) that is
-synced at each commit. A store whose headers or whose compiler are missing is left out.
+synced at each commit. The keys are the numbers from 0 on, or those of a file, and the store at a path is opened where there is
+one. A store whose headers or whose compiler are missing is left out.
 """
 import shutil
 import subprocess
 import time
 
-LEVELDB = r"""
+# The keys: `changes` numbers from 0 on, or those of the file that a fourth word names.
+KEYS = r"""
 #include <cstdlib>
+#include <fstream>
+#include <vector>
+static std::vector<unsigned long> keys_of(char **words) {
+  std::vector<unsigned long> keys;
+  if (words[4]) {
+    std::ifstream file(words[4]);
+    for (unsigned long key; file >> key;) keys.push_back(key);
+  } else {
+    for (long key = 0; key < std::atol(words[2]); key++) keys.push_back(key);
+  }
+  return keys;
+}
+"""
+# A fifth word is how many bytes it keeps in memory before it writes a table of them.
+LEVELDB = KEYS + r"""
 #include <string>
 #include "leveldb/db.h"
 #include "leveldb/write_batch.h"
 int main(int, char **words) {
-  const int changes = std::atoi(words[2]), most = std::atoi(words[3]);
+  const std::vector<unsigned long> keys = keys_of(words);
+  const size_t changes = keys.size(), most = std::atol(words[3]);
   leveldb::DB *db;
   leveldb::Options options;
   options.create_if_missing = true;
+  options.compression = leveldb::kNoCompression;
+  if (words[4] && words[5]) options.write_buffer_size = std::atol(words[5]);
   if (!leveldb::DB::Open(options, words[1], &db).ok()) return 1;
   leveldb::WriteOptions synced;
   synced.sync = true;
-  for (int key = 0; key < changes;) {
+  for (size_t at = 0; at < changes;) {
     leveldb::WriteBatch batch;
-    for (int i = 0; i < most && key < changes; i++, key++) batch.Put(std::to_string(key), std::string(32, 'v'));
+    for (size_t i = 0; i < most && at < changes; i++, at++) batch.Put(std::to_string(keys[at]), std::string(32, 'v'));
     if (!db->Write(synced, &batch).ok()) return 1;
   }
   delete db;
 }
 """
-LMDB = r"""
-#include <cstdlib>
+LMDB = KEYS + r"""
 #include <cstring>
 #include <lmdb.h>
 static void must(int failed) { if (failed) std::exit(1); }
 int main(int, char **words) {
-  const unsigned long changes = std::atol(words[2]), most = std::atol(words[3]);
+  const std::vector<unsigned long> keys = keys_of(words);
+  const size_t changes = keys.size(), most = std::atol(words[3]);
   MDB_env *env;
   MDB_dbi dbi;
   must(mdb_env_create(&env));
@@ -41,11 +61,12 @@ int main(int, char **words) {
   must(mdb_env_open(env, words[1], MDB_NOSUBDIR, 0644));
   char value[32];
   std::memset(value, 'v', sizeof value);
-  for (unsigned long key = 0; key < changes;) {
+  for (size_t at = 0; at < changes;) {
     MDB_txn *txn;
     must(mdb_txn_begin(env, nullptr, 0, &txn));
     must(mdb_dbi_open(txn, nullptr, MDB_INTEGERKEY, &dbi));
-    for (unsigned long i = 0; i < most && key < changes; i++, key++) {
+    for (size_t i = 0; i < most && at < changes; i++, at++) {
+      unsigned long key = keys[at];
       MDB_val k{sizeof key, &key}, v{sizeof value, value};
       must(mdb_put(txn, dbi, &k, &v, 0));
     }
@@ -54,13 +75,13 @@ int main(int, char **words) {
   mdb_env_close(env);
 }
 """
-SQLITE = r"""
-#include <cstdlib>
+SQLITE = KEYS + r"""
 #include <cstring>
 #include <sqlite3.h>
 static void must(bool done) { if (!done) std::exit(1); }
 int main(int, char **words) {
-  const long changes = std::atol(words[2]), most = std::atol(words[3]);
+  const std::vector<unsigned long> keys = keys_of(words);
+  const size_t changes = keys.size(), most = std::atol(words[3]);
   sqlite3 *db;
   auto run = [&](const char *text) { must(sqlite3_exec(db, text, nullptr, nullptr, nullptr) == SQLITE_OK); };
   must(sqlite3_open(words[1], &db) == SQLITE_OK);
@@ -71,10 +92,10 @@ int main(int, char **words) {
   must(sqlite3_prepare_v2(db, "insert or replace into pairs values (?, ?)", -1, &put, nullptr) == SQLITE_OK);
   char value[32];
   std::memset(value, 'v', sizeof value);
-  for (long key = 0; key < changes;) {
+  for (size_t at = 0; at < changes;) {
     run("begin");
-    for (long i = 0; i < most && key < changes; i++, key++) {
-      sqlite3_bind_int64(put, 1, key);
+    for (size_t i = 0; i < most && at < changes; i++, at++) {
+      sqlite3_bind_int64(put, 1, keys[at]);
       sqlite3_bind_blob(put, 2, value, sizeof value, SQLITE_STATIC);
       must(sqlite3_step(put) == SQLITE_DONE);
       sqlite3_reset(put);
