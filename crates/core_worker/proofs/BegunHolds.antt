@@ -1,5 +1,5 @@
 -- A cleaning that begins: what it leaves of a worker's ties, of its order and of the room rule.
-use Rattle.std.proofs.Common.{◌≡◌, ◌≢◌, ◌⊎◌, inl, inr, ⊎_elim, ℕ, zero, suc, ◌+◌, ◌*◌, ◌^◌, ◌≤◌, ◌<◌, ◌||◌, ◌++◌, Bool, true, false, List, [], ◌∷◌, length, map, Option, Some, None, is_some, cond, refl, sym, ◌∙◌, ap, subst, arith}
+use Rattle.std.proofs.Common.{◌≡◌, ◌≢◌, ◌⊎◌, inl, inr, ⊎_elim, ℕ, zero, suc, ◌+◌, ◌*◌, ◌≤◌, ◌<◌, ◌||◌, ◌++◌, Bool, true, false, List, [], ◌∷◌, length, map, Option, Some, is_some, cond, refl, sym, ◌∙◌, ap, subst, arith}
 use Rattle.std.specs.Prelude.{nat_le, option_map, slice_get}
 use Rattle.std.specs.List.{AllByRecursion}
 use Rattle.std.proofs.lemmas.Bool.{and_parts, leb-true}
@@ -10,16 +10,13 @@ use Rattle.chunk_map.specs.Layouts.{payload_lines}
 use Rattle.log_entry.specs.declared.entry.EntryName.{EntryName}
 use Rattle.core_log.specs.Log.{tail_of}
 use Rattle.core_log.specs.Walking.{entries_in}
-use Rattle.core_room.specs.declared.supply.Supply.{Supply}
 use Rattle.core_room.specs.RoomRule.{KeepsRoom, KeepsRoomAtCleaning}
-use Rattle.lazy_alloc.specs.Sets.{free_chunk_count}
 use Rattle.crash_core.specs.declared.names.Notices.{Notices}
 use Rattle.log_standing.specs.NameCounts.{StandingState, count_of, is_told}
 use Rattle.log_standing.specs.Tallies.{TallyState}
 use Rattle.log_entry.specs.declared.entry.Entry.{Entry}
-use Rattle.log_cleaner.specs.Choosing.{copy_lines, has_room}
+use Rattle.log_cleaner.specs.Choosing.{copy_lines}
 use Rattle.log_cleaner.specs.Clearing.{ClearingState}
-use Rattle.log_cleaner.specs.CopyBatch.{Bounds}
 use Rattle.log_cleaner.specs.Copying.{words_sum}
 use Rattle.log_cleaner.specs.Floors.{HasFloors}
 use Rattle.log_cleaner.proofs.ChoiceLaws.{tail_small}
@@ -27,7 +24,7 @@ use Rattle.log_cleaner.proofs.Parts.{chunk_of}
 use Rattle.log_cleaner.proofs.FloorLaws.{floors_tally, left_alike, left_searched}
 use Rattle.log_cleaner.proofs.SettledLaws.{settled_alike}
 use Rattle.log_cleaner.proofs.Tallies.{tally_begins}
-use Rattle.group_laws.specs.Places.{Place, members}
+use Rattle.group_laws.specs.Places.{Place}
 use Rattle.group_laws.specs.State.{Group}
 use Rattle.group_laws.specs.Updates.{has}
 use Rattle.group_laws.specs.MemberViews.{View}
@@ -38,15 +35,14 @@ use Rattle.core_worker.specs.declared.types.Cleaning.{Cleaning}
 use Rattle.core_worker.specs.declared.types.Cleaning.TheVariants.{Nothing, Copying}
 use Rattle.core_worker.specs.declared.worker.Worker.{Worker}
 use Rattle.core_worker.specs.BeginsCleaning.{waiting_of, BeginsNone, BeginsOne, LooksForOne, MakesPlaces}
-use Rattle.core_worker.specs.CleaningLeft.{box_left, clears_left, most_words}
-use Rattle.core_worker.specs.KeepsCleaning.{Cleans, IsBegun}
+use Rattle.core_worker.specs.CleaningLeft.{box_left, clears_left}
+use Rattle.core_worker.specs.KeepsCleaning.{Cleans}
 use Rattle.core_worker.specs.KeyTies.{KnowsKey}
 use Rattle.core_worker.specs.Left.{serves_left, left}
-use Rattle.core_worker.specs.LogNames.{CopiesIn, IsCleanedBy, NamesStand}
+use Rattle.core_worker.specs.LogNames.{IsCleanedBy, NamesStand}
 use Rattle.core_worker.specs.Order.{InOrder}
-use Rattle.core_worker.specs.Outbox.{mailing, waiting_dead, AreToSend, HasSpare, KeepsMail, MayTell, TellsNothing}
+use Rattle.core_worker.specs.Outbox.{mailing, waiting_dead, AreToSend, HasSpare, KeepsMail}
 use Rattle.core_worker.specs.OwnChunks.{IsTaken}
-use Rattle.core_worker.specs.OwnPlaces.{own}
 use Rattle.core_worker.specs.Supplies.{supply_of, room_for, under_way, rest, counted_by, left_in, no_more_than, KeepsRule, HasKeptRoom}
 use Rattle.core_worker.specs.Ties.{HasSpaceFor, Holds, HoldsAt, LeadsNothing, Stands, StandsAt}
 use Rattle.core_worker.specs.Turning.{KeepsTurn, TurnMoves}

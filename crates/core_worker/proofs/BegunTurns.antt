@@ -1,7 +1,6 @@
 -- The turn in which a cleaning begins, or for which there is no memory.
-use Rattle.std.proofs.Common.{◌≡◌, ◌⊎◌, ⊎_elim, ℕ, Bool, true, false, List, [], Option, refl, sym, ◌∙◌, ap, subst}
-use Rattle.std.specs.Prelude.{IfSome, Result, Ok, Err}
-use Rattle.fs_errors.specs.declared.Memory.{Memory}
+use Rattle.std.proofs.Common.{◌≡◌, ⊎_elim, ℕ, Bool, true, false, List, [], Option, refl, sym, ◌∙◌, ap, subst}
+use Rattle.std.specs.Prelude.{IfSome, Ok}
 use Rattle.pm_region.specs.State.{State}
 use Rattle.group_laws.specs.declared.types.Seen.{Seen}
 use Rattle.group_laws.specs.State.{Group}
@@ -10,14 +9,10 @@ use Rattle.group_laws.specs.MemberViews.{View, view_of}
 use Rattle.group_board.specs.Seats.{SeatAt}
 use Rattle.core_worker.specs.declared.worker.Worker.{Worker}
 use Rattle.log_cleaner.specs.Floors.{Searches}
-use Rattle.log_standing.specs.NameCounts.{StandingState}
 use Rattle.core_worker.specs.BeginsCleaning.{Begins, BeginsNone, BeginsOne, LooksForOne}
-use Rattle.core_worker.specs.Left.{Lowers}
 use Rattle.core_worker.specs.Mails.{NoneTold, PassesMail}
-use Rattle.core_worker.specs.Order.{InOrder}
 use Rattle.core_worker.specs.Readying.{PassesSending, SendsShort, TakesDead}
-use Rattle.core_worker.specs.Sending.{KeepsTies}
-use Rattle.core_worker.specs.Ties.{Holds, HoldsAt, LeadsNothing, Stands, StandsAt}
+use Rattle.core_worker.specs.Ties.{HoldsAt, StandsAt}
 use Rattle.core_worker.specs.Turning.{Did, KeepsTurn, at_entry}
 use Rattle.core_worker.specs.Turning.Did.{winds}
 use Rattle.core_worker.specs.Turns.{InOrderAt, PassesItems, PassesPost}

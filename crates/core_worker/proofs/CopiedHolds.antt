@@ -1,6 +1,6 @@
 -- A batch of copies: what it leaves of a worker's ties and of its order.
-use Rattle.std.proofs.Common.{◌≡◌, ◌≢◌, inr, ℕ, ◌≤◌, ◌<◌, Bool, true, false, length, Option, Some, None, refl, sym, ◌∙◌, ap, subst, arith}
-use Rattle.std.specs.Prelude.{is_some, vec_capacity}
+use Rattle.std.proofs.Common.{◌≡◌, ◌≢◌, inr, ℕ, ◌<◌, Bool, true, false, length, Option, Some, None, refl, sym, ◌∙◌, ap, subst, arith}
+use Rattle.std.specs.Prelude.{is_some}
 use Rattle.chunk_map.specs.Layouts.{payload_lines}
 use Rattle.core_log.specs.Log.{LogState, IsOwn, tail_of}
 use Rattle.core_log.proofs.Clients.{open_has}
@@ -9,13 +9,11 @@ use Rattle.log_cleaner.specs.declared.types.Victim.{Victim}
 use Rattle.group_laws.specs.Places.{Place}
 use Rattle.group_laws.specs.MemberViews.{View}
 use Rattle.batch_leader.specs.Persisting.{opened_for}
-use Rattle.core_worker.specs.declared.types.Cleaning.{Cleaning}
 use Rattle.core_worker.specs.declared.types.Cleaning.TheVariants.{Copying}
 use Rattle.core_worker.specs.declared.worker.Worker.{Worker}
 use Rattle.core_worker.specs.CopyItems.{CopiesOn, needs_chunk}
 use Rattle.core_worker.specs.CopyTurns.{left_of}
-use Rattle.core_worker.specs.GoneMail.{HasPlacesFor}
-use Rattle.core_worker.specs.KeepsCleaning.{Cleans, IsBegun, may_go}
+use Rattle.core_worker.specs.KeepsCleaning.{Cleans, IsBegun}
 use Rattle.core_worker.specs.Order.{InOrder}
 use Rattle.core_worker.specs.OwnChunks.{AreChunks, IsTaken}
 use Rattle.core_worker.specs.Supplies.{under_way}

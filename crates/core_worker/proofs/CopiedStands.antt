@@ -35,7 +35,7 @@ use Rattle.core_worker.specs.Counted.{MayOpen}
 use Rattle.core_worker.specs.TakenChunks.{TakesFor}
 use Rattle.core_worker.specs.CopyTurns.{CopiesInRegion, left_of}
 use Rattle.core_worker.specs.KeepsCleaning.{Cleans}
-use Rattle.core_worker.specs.LogNames.{CopiesIn, IsCleanedBy, IsClosed, NamesStand}
+use Rattle.core_worker.specs.LogNames.{IsClosed, NamesStand}
 use Rattle.core_worker.specs.OwnChunks.{IsFreeOrData}
 use Rattle.core_worker.specs.Supplies.{under_way}
 use Rattle.core_worker.specs.Ties.{LeadsAt, Holds, Stands}

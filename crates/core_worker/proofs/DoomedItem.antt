@@ -26,8 +26,8 @@ use Rattle.core_worker.specs.declared.worker.Worker.{Worker}
 use Rattle.core_worker.specs.CleaningLeft.{clears_left}
 use Rattle.core_worker.specs.DoomsNames.{DoomsIn}
 use Rattle.core_worker.specs.Left.{serves_left, left, Lowers}
-use Rattle.core_worker.specs.KeepsCleaning.{IsBegun, may_go, Cleans}
-use Rattle.core_worker.specs.LogNames.{AreOwnOf, CopiesIn, IsCleanedBy}
+use Rattle.core_worker.specs.KeepsCleaning.{IsBegun, Cleans}
+use Rattle.core_worker.specs.LogNames.{AreOwnOf, CopiesIn}
 use Rattle.core_worker.specs.Order.{InOrder}
 use Rattle.core_worker.specs.OwnPlaces.{own}
 use Rattle.core_worker.specs.Supplies.{supply_of, under_way, rest, KeepsRule, HasKeptRoom, counted_by, left_in}

@@ -1,11 +1,9 @@
 -- What is left of the chunk that is copied is counted exactly.
-use Rattle.std.proofs.Common.{◌≡◌, ℕ, ◌≤◌, Bool, true, false, cond, length, Option, Some, None, refl, sym, ◌∙◌, ap, subst, arith}
-use Rattle.std.specs.Prelude.{option_map, min}
+use Rattle.std.proofs.Common.{◌≡◌, ℕ, Bool, false, length, Option, Some, ◌∙◌, ap, arith}
+use Rattle.std.specs.Prelude.{option_map}
 use Rattle.std.proofs.Math.Nat.{min-le_right}
-use Rattle.std.proofs.lemmas.Bool.{or_parts}
 use Rattle.pm_region.specs.State.{State, IsTelling}
 use Rattle.core_log.specs.Walking.{entries_in}
-use Rattle.log_standing.specs.declared.types.Amount.{Amount}
 use Rattle.log_standing.specs.Tallies.{TallyState}
 use Rattle.log_cleaner.specs.Copying.{left_to_copy, to_copy, words_sum}
 use Rattle.log_cleaner.specs.declared.types.Victim.{Victim}
@@ -13,7 +11,6 @@ use Rattle.group_laws.specs.Places.{Place}
 use Rattle.group_laws.specs.MemberViews.{View}
 use Rattle.core_worker.specs.declared.types.Cleaning.TheVariants.{Copying}
 use Rattle.core_worker.specs.declared.worker.Worker.{Worker}
-use Rattle.core_worker.specs.LogNames.{CopiesIn, IsCleanedBy}
 use Rattle.core_worker.specs.Supplies.{under_way, no_more_than}
 use Rattle.core_worker.specs.Ties.{Holds, Stands}
 use Rattle.core_worker.proofs.DoomedHolds.{cleans, raw, copies_in}

@@ -1,11 +1,9 @@
 -- Notices with more room, of which the same names wait.
-use Rattle.std.proofs.Common.{◌≡◌, ℕ, zero, suc, ◌+◌, ◌≤◌, ◌<◌, List, [], ◌∷◌, ◌++◌, length, map, take, get_or, Some, refl, sym, ◌∙◌, ap, subst, arith}
-use Rattle.std.specs.Prelude.{slice_get}
+use Rattle.std.proofs.Common.{◌≡◌, ℕ, zero, suc, ◌+◌, ◌≤◌, ◌<◌, List, [], ◌∷◌, ◌++◌, length, map, take, get_or, refl, sym, ◌∙◌, ap, subst, arith}
 use Rattle.std.specs.List.{AllByRecursion}
 use Rattle.std.proofs.Math.Seq.{take-suc}
 use Rattle.std.proofs.lemmas.List.{map-append}
 use Rattle.log_entry.specs.declared.entry.EntryName.{EntryName}
-use Rattle.crash_core.specs.Names.{NameList}
 use Rattle.crash_core.specs.declared.names.Notices.{Notices}
 use Rattle.core_worker.specs.BeginsCleaning.{waiting_of, MakesPlaces}
 use Rattle.core_worker.specs.GoneMail.{HasPlacesFor}

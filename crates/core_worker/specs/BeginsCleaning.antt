@@ -1,5 +1,5 @@
 -- A worker begins a cleaning, or finds why it begins none.
-use Rattle.std.specs.Prelude.{◌≡◌, ◌⊎◌, ℕ, ◌≤◌, ◌<◌, Bool, true, false, List, map, length, Option, Some, None, Result, Ok, Err, vec_capacity}
+use Rattle.std.specs.Prelude.{◌≡◌, ◌⊎◌, ℕ, ◌≤◌, ◌<◌, Bool, true, false, List, map, length, Some, None, Result, Ok, Err, vec_capacity}
 use Rattle.std.specs.List.{AllByRecursion}
 use Rattle.pm_region.specs.State.{State, IsTelling}
 use Rattle.log_entry.specs.declared.entry.EntryName.{EntryName}

@@ -1,28 +1,26 @@
 -- A chunk is read for a search, entry by entry.
 use Rattle.std.proofs.Common.{◌≡◌, ◌≢◌, ◌⊎◌, inl, inr, ⊎_elim, ℕ, ◌+◌, ◌-◌, ◌≤◌, ◌<◌, ◌==◌, ◌&&◌, ◌||◌, not, Bool, true, false, cond, List, [], ◌∷◌, ◌++◌, length, Option, Some, None, is_some, refl, sym, ◌∙◌, ap, subst, arith, append_assoc}
 use Rattle.std.specs.List.{AllByRecursion, count_by}
-use Rattle.std.proofs.lemmas.Bool.{and_parts, cond-true, cond-false, eqb-true, eq-eqb, cases_eq}
+use Rattle.std.proofs.lemmas.Bool.{and_parts, cond-true, cond-false, eqb-true, eq-eqb}
 use Rattle.std.proofs.lemmas.List.Sums.{sum_by-append, sum_by-cons}
 use Rattle.pm_region.specs.State.{State}
 use Rattle.log_entry.specs.declared.entry.Entry.{Entry}
 use Rattle.log_entry.specs.Spelling.{words_of}
-use Rattle.core_log.specs.declared.types.LogChunk.{LogChunk}
 use Rattle.core_log.specs.declared.types.Peek.{Peek}
 use Rattle.core_log.specs.Log.{LogState, Spelled, tail_of, without}
 use Rattle.core_log.specs.Walking.{entries_in, words_in, behind, IsFound}
 use Rattle.core_log.proofs.Clients.{ordered, all_behind, without_other}
 use Rattle.log_standing.specs.declared.types.Amount.{Amount}
-use Rattle.log_standing.specs.declared.types.Spot.{Spot}
 use Rattle.log_standing.specs.NameCounts.{StandingState, name_eq, count_of, floor_at, is_told, spot_of, wants}
 use Rattle.log_standing.specs.ChunkCounts.{is_named, has_name, IsStandingOf}
 use Rattle.log_standing.proofs.Clients.{name_same, same_name}
 use Rattle.log_standing.proofs.Filled.{append_none}
 use Rattle.log_cleaner.specs.declared.types.Victim.{Victim}
-use Rattle.log_cleaner.specs.Copying.{left_to_copy, to_copy, words_sum}
+use Rattle.log_cleaner.specs.Copying.{left_to_copy, words_sum}
 use Rattle.log_cleaner.specs.Floors.{HasFloors, IsClosed, IsCounted, IsFoundIn, IsSeen, Searches, spot_at}
 use Rattle.log_cleaner.specs.Searching.{IsRead, Looks}
 use Rattle.log_cleaner.proofs.CountLaws.{Counted, count_ends, count_on, count_starts}
-use Rattle.log_cleaner.proofs.FloorLaws.{all_in, and_last, both_so, each_so, left_searched, none_named, searches_both}
+use Rattle.log_cleaner.proofs.FloorLaws.{all_in, and_last, both_so, each_so, left_searched, none_named}
 use Rattle.log_cleaner.proofs.Parts.{count_has, count_without, in_named}
 use Rattle.store_image.specs.Facts.{In}
 

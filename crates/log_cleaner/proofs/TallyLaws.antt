@@ -1,5 +1,5 @@
 -- What is left of a chunk, as names are noted of it and wanted no more.
-use Rattle.std.proofs.Common.{◌≡◌, ⊎_elim, ℕ, ◌+◌, ◌-◌, ◌*◌, ◌≤◌, ◌<◌, ◌==◌, ◌&&◌, not, Bool, true, false, cond, List, [], ◌∷◌, ◌++◌, length, Option, Some, None, is_some, refl, sym, ◌∙◌, ap, subst, arith, append_assoc}
+use Rattle.std.proofs.Common.{◌≡◌, ⊎_elim, ℕ, ◌+◌, ◌-◌, ◌≤◌, ◌<◌, ◌==◌, ◌&&◌, not, Bool, true, false, cond, List, [], ◌∷◌, ◌++◌, length, Option, Some, None, is_some, refl, sym, ◌∙◌, ap, subst, arith, append_assoc}
 use Rattle.std.specs.Prelude.{option_map}
 use Rattle.std.specs.List.{filter, sum_by, count_by}
 use Rattle.std.proofs.lemmas.Bool.{and_parts, cases_lt, cond-true, cond-false, eq-eqb}
@@ -20,7 +20,7 @@ use Rattle.log_standing.specs.Tallies.{TallyState, amount_at, entries_in as entr
 use Rattle.log_standing.proofs.Clients.{same_name}
 use Rattle.log_standing.proofs.Filled.{append_none}
 use Rattle.log_cleaner.specs.Copying.{awaits, left_to_copy, words_sum}
-use Rattle.log_cleaner.specs.Tallied.{words_named, HasAmounts, NotesIf, IsTallyOf, IsTallied, KeepsTally}
+use Rattle.log_cleaner.specs.Tallied.{words_named, HasAmounts, NotesIf, IsTallyOf, KeepsTally}
 use Rattle.log_cleaner.specs.Floors.{HasFloor, HasFloors, IsCounted, IsFoundIn, IsSeen, spot_at}
 use Rattle.log_cleaner.proofs.Batches.{name_sym, filter_same}
 use Rattle.log_cleaner.proofs.FloorLaws.{SameSpot, each_so, every, floor_kept, none_named, one_named, seen_kept}

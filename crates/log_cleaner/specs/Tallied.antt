@@ -1,12 +1,9 @@
 -- What is left of a chunk, as the names that stand in a log count it between two readings.
-use Rattle.std.specs.Prelude.{◌≡◌, ◌≢◌, ℕ, ◌+◌, ◌-◌, ◌<◌, ◌≤◌, true, List, length, Some, is_some, if◌then◌else◌}
+use Rattle.std.specs.Prelude.{◌≡◌, ℕ, ◌+◌, ◌-◌, ◌<◌, ◌≤◌, true, List, length, Some, is_some, if◌then◌else◌}
 use Rattle.std.specs.List.{sum_by, count_by}
-use Rattle.pm_region.specs.State.{State}
 use Rattle.log_entry.specs.declared.entry.Entry.{Entry}
 use Rattle.log_entry.specs.Spelling.{words_of}
 use Rattle.core_log.specs.declared.types.Peek.{Peek}
-use Rattle.core_log.specs.Log.{LogState, tail_of}
-use Rattle.core_log.specs.Walking.{entries_in}
 use Rattle.log_standing.specs.ChunkCounts.{is_named}
 use Rattle.log_standing.specs.NameCounts.{StandingState, floor_at, name_eq}
 use Rattle.log_standing.specs.Tallies.{TallyState, amount_at, entries_in as entries_of, more, words_in}

@@ -1,5 +1,5 @@
 -- What of one chunk is still to be copied, and what each of its names has there.
-use Rattle.std.specs.Prelude.{ℕ, ◌+◌, ◌-◌, List, Option, Some, None, option_map, if◌then◌else◌}
+use Rattle.std.specs.Prelude.{ℕ, ◌+◌, ◌-◌, List, Option, Some, None}
 use Rattle.std.specs.Map.{lookup}
 use Rattle.log_standing.specs.declared.types.Amount.{Amount}
 use Rattle.log_standing.specs.Names.{name_eq}

@@ -1,4 +1,4 @@
-use Rattle.std.proofs.Common.{◌≡◌, Some, ◌∙◌, ap, subst}
+use Rattle.std.proofs.Common.{Some, ◌∙◌, ap, subst}
 use Rattle.log_cleaner.specs.Choosing.{IsVictim}
 use Rattle.log_cleaner.specs.declared.types.Victim.{Victim}
 use Rattle.core_worker.proofs.begin_cleaning.begin_cleaning.Goals as goal

@@ -1,4 +1,3 @@
-use Rattle.std.proofs.Common.{arith}
 use Rattle.log_cleaner.specs.Copying.{begins}
 use Rattle.log_cleaner.proofs.SettledLaws.{starts, settled_one, settled_same}
 use Rattle.log_cleaner.proofs.TallyLaws.{keeps_both, keeps_same}

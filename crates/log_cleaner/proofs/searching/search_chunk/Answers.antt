@@ -1,4 +1,4 @@
-use Rattle.std.proofs.Common.{◌≡◌, ◌==◌, ℕ, Option, cond, ◌∙◌, ap}
+use Rattle.std.proofs.Common.{◌==◌, ℕ, Option, cond, ◌∙◌, ap}
 use Rattle.log_standing.specs.declared.types.Amount.{Amount}
 use Rattle.log_standing.specs.NameCounts.{floor_at}
 use Rattle.log_cleaner.proofs.SearchLaws.{floors_searched}

@@ -1,7 +1,6 @@
-use Rattle.std.proofs.Common.{refl, ◌∙◌, arith}
-use Rattle.core_log.specs.Walking.{entries_in}
+use Rattle.std.proofs.Common.{refl, ◌∙◌}
 use Rattle.core_log.proofs.Clients.{may_start}
-use Rattle.log_cleaner.proofs.TallyLaws.{below_starts, below_on, tally_starts, tally_on, tally_ends}
+use Rattle.log_cleaner.proofs.TallyLaws.{below_starts, below_on, tally_starts, tally_on}
 use Rattle.log_cleaner.proofs.tallying.note_all.Goals as goal
 
 pub loop-found-init : goal.loop-found-init

@@ -1,4 +1,4 @@
-use Rattle.std.proofs.Common.{◌≡◌, ◌≤◌, ℕ, List, Option, Some, None, true, inl, inr, refl, sym, ◌∙◌, ap, subst, length}
+use Rattle.std.proofs.Common.{◌≡◌, ◌≤◌, ℕ, List, Option, Some, true, refl, sym, ◌∙◌, ap, subst, length}
 use Rattle.std.specs.Prelude.{IfSome, option_map}
 use Rattle.pm_region.specs.State.{IsTelling}
 use Rattle.core_log.specs.declared.types.Room.{Room}

@@ -1,6 +1,5 @@
-use Rattle.std.proofs.Common.{refl, sym, ◌∙◌, ap, subst, arith}
-use Rattle.log_standing.specs.NameCounts.{StandingState}
-use Rattle.core_worker.specs.StandingTies.{HasCopies, SameNames}
+use Rattle.std.proofs.Common.{refl, ◌∙◌, arith}
+use Rattle.core_worker.specs.StandingTies.{SameNames}
 use Rattle.core_worker.proofs.NamesKnown.{heard_later, copies_before}
 use Rattle.core_worker.proofs.worker.Worker.new.Goals as goal
 

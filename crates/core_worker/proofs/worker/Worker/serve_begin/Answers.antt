@@ -1,5 +1,5 @@
 -- A cleaning begins, or the lock is tried.
-use Rattle.std.proofs.Common.{◌≡◌, [], refl, sym, ◌∙◌, ap, arith}
+use Rattle.std.proofs.Common.{[], refl, sym, ◌∙◌, ap, arith}
 use Rattle.batch_leader.proofs.Clients.{no_loads, no_steps, turn_of_loads}
 use Rattle.core_worker.specs.declared.worker.Worker.{Worker}
 use Rattle.core_worker.specs.Turning.Did.{begins}

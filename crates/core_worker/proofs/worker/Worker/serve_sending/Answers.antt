@@ -1,5 +1,5 @@
 -- What waits for a member is sent, or the turn goes on with a cleaning or the lock.
-use Rattle.std.proofs.Common.{◌≡◌, inr, true, false, sym, ◌∙◌, ap, subst}
+use Rattle.std.proofs.Common.{◌≡◌, inr, true, sym, ◌∙◌, ap, subst}
 use Rattle.group_board.specs.Seats.{SeatAt}
 use Rattle.batch_leader.proofs.Clients.{turn_of_loads, turn_of_one, turn_after_loads}
 use Rattle.core_worker.specs.declared.worker.Worker.{Worker}
