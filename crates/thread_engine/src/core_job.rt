@@ -153,8 +153,9 @@ impl<B: Board, P: Region> CoreJob<B, P> {
         }
     }
 
-    // Makes a move. Where the worker finds no memory, it winds down, and the other cores are told to.
-    fn go_on<G: Gate>(&mut self, alloc: Global, gate: &G, short: &AtomicBool)
+    // Makes a move, and says whether there was nothing to do. Where the worker finds no memory, it winds down, and the
+    // other cores are told to.
+    fn go_on<G: Gate>(&mut self, alloc: Global, gate: &G, short: &AtomicBool) -> bool
         requires { IsAtWork (B.seat self.old.seat)
             (stands_at (sight_by B.view B.trail B.at) P.state self.old) }
         ensures seat { B.seat self.new.seat ≡ B.seat self.old.seat }
@@ -166,17 +167,21 @@ impl<B: Board, P: Region> CoreJob<B, P> {
             (stands_at (sight_by B.view B.trail B.at) P.state self.new) }
     {
         match self.step(alloc, gate) {
-            Ok(Turn::Moved) => {}
-            Ok(Turn::Idle) => thread::yield_now(),
+            Ok(Turn::Moved) => false,
+            Ok(Turn::Idle) => {
+                thread::yield_now();
+                true
+            }
             Err(Memory) => {
                 short.store(true, Ordering::SeqCst);
                 self.wind_down();
+                false
             }
         }
     }
 
-    // One round: what the other cores say is heeded, and a move is made.
-    fn round<G: Gate>(&mut self, alloc: Global, gate: &G, short: &AtomicBool)
+    // One round: what the other cores say is heeded, and a move is made. It says whether there was nothing to do.
+    fn round<G: Gate>(&mut self, alloc: Global, gate: &G, short: &AtomicBool) -> bool
         requires { IsAtWork (B.seat self.old.seat)
             (stands_at (sight_by B.view B.trail B.at) P.state self.old) }
         ensures { (first : data_of.CoreJob B P)
@@ -184,7 +189,7 @@ impl<B: Board, P: Region> CoreJob<B, P> {
             → GoesOn B.seat (sight_by B.view B.trail B.at) P.state (G.may_refuse gate.now) first self.new }
     {
         self.heed(short);
-        self.go_on(alloc, gate, short);
+        self.go_on(alloc, gate, short)
     }
 
     // Whether nothing is left to do.
@@ -229,8 +234,9 @@ impl<B: Board, P: Region> CoreJob<B, P> {
         self.give_answers(rt, answers);
     }
 
-    /// Works the requests off, until all are answered and the worker leads nothing. It waits for nobody: where there is
-    /// nothing to do it asks again. A worker that finds no memory says so to the others, and all of them finish what is
+    /// Works the requests off, until all are answered, the worker leads nothing and a turn of it found nothing to do: so a
+    /// cleaning that the last requests allow is made before the end, and a log that filled up has room for the next ones.
+    /// It waits for nobody: where there is nothing to do it asks again. A worker that finds no memory says so to the others, and all of them finish what is
     /// posted or taken and begin nothing more.
     pub fn work<G: Gate>(&mut self, rt: &impl Wait, alloc: Global, gate: &G, short: &AtomicBool)
         requires { IsAtWork (B.seat self.old.seat)
@@ -240,8 +246,7 @@ impl<B: Board, P: Region> CoreJob<B, P> {
         ensures ended { HasEnded (stands_at (sight_by B.view B.trail B.at) P.state self.new) }
     {
         for _ in rt.forever() {
-            self.round(alloc, gate, short);
-            if self.has_ended() {
+            if self.round(alloc, gate, short) && self.has_ended() {
                 return;
             }
         }
