@@ -145,14 +145,14 @@ module _ (p : Place) (m : ℕ) (v u : View) (w x : Worker) (H : Holds p m v w) (
     now_rests runs stop D (drops quiet all E) = absurd (clash w.stopped E.stopped runs)
     now_rests runs stop D (receives quiet R) = absurd (still (ap (λ (z : Worker). z.stopped) R.hears.same) runs stop)
     now_rests runs stop D (sends quiet S) = absurd (still (ap (λ (z : Worker). z.stopped) S.box.same ∙ ap (λ (z : Worker). z.stopped) S.readies.takes.same) runs stop)
-    now_rests runs stop D (winds quiet W) = absurd (still (ap (λ (z : Worker). z.stopped) W.takes.same) runs stop)
+    now_rests runs stop D (winds quiet W) = absurd (still (ap (λ (z : Worker). z.stopped) W.same ∙ ap (λ (z : Worker). z.stopped) W.takes.same) runs stop)
     now_rests runs stop D (dooms quiet E) = absurd (still (ap (λ (z : Worker). z.stopped) E.dooms.same ∙ ap (λ (z : Worker). z.stopped) (passes_is seat.place seat.number w E.ready E.before.looked.looks E.sending)) runs stop)
     now_rests runs stop D (copies C) = absurd (still (⊎_elim (λ K. ap (λ (z : Worker). z.stopped) K.0.same) (λ rest. ⊎_elim (λ L. ap (λ (z : Worker). z.stopped) L.0.same) (λ M. ap (λ (z : Worker). z.stopped) M.0.same ∙ ap (λ (z : Worker). z.stopped) M.0.copies.same) rest) C.copies ∙ ap (λ (z : Worker). z.stopped) (passes_is seat.place seat.number w C.ready C.before.looked.looks C.sending)) runs stop)
     now_rests runs stop D (loses_copies L) = absurd (no_doubt runs (doubted_in _ (L.view ∙ L.before.looked.view) refl D))
     now_rests runs stop D (clears C) = absurd (still (ap (λ (z : Worker). z.stopped) C.ends.same ∙ ap (λ (z : Worker). z.stopped) (passes_is seat.place seat.number w C.ready C.before.looked.looks C.sending)) runs stop)
     now_rests runs stop D (loses_clearing L) = absurd (no_doubt runs (doubted_in _ (L.view ∙ L.before.looked.view) refl D))
     now_rests runs stop D (begins quiet B) = absurd (still (ap (λ (z : Worker). z.stopped) B.begins.same ∙ ap (λ (z : Worker). z.stopped) (passes_is seat.place seat.number w B.ready B.before.looked.looks B.sending)) runs stop)
-    now_rests runs stop D (locks quiet L) = absurd (still (ap (λ (z : Worker). z.stopped) L.same ∙ ap (λ (z : Worker). z.stopped) L.begins.same ∙ ap (λ (z : Worker). z.stopped) (passes_is seat.place seat.number w L.ready L.before.looked.looks L.sending)) runs stop)
+    now_rests runs stop D (locks quiet L) = absurd (still (ap (λ (z : Worker). z.stopped) L.same ∙ ap (λ (z : Worker). z.stopped) L.begins.looks.same ∙ ap (λ (z : Worker). z.stopped) (passes_is seat.place seat.number w L.ready L.before.looked.looks L.sending)) runs stop)
 
     turn_stays : (r : Result Turn Memory) → w.stopped ≡ true → TurnedTo r s t refused before seat (at_entry w v) (at_entry x u) → Stays
     turn_stays (Ok Moved) stop T = stopped_stays stop T
@@ -168,7 +168,7 @@ module _ (p : Place) (m : ℕ) (v u : View) (w x : Worker) (H : Holds p m v w) (
     turn_rests : (r : Result Turn Memory) → w.stopped ≡ false → x.stopped ≡ true → HasDoubt p m u → TurnedTo r s t refused before seat (at_entry w v) (at_entry x u) → u.flying ≡ []
     turn_rests (Ok Moved) runs stop D T = now_rests runs stop D T
     turn_rests (Err e) runs stop D T = now_rests runs stop D T
-    turn_rests (Ok Idle) runs stop D T = absurd (still (ap (λ (z : Worker). z.stopped) T.1.same ∙ ap (λ (z : Worker). z.stopped) T.1.begins.same ∙ ap (λ (z : Worker). z.stopped) (passes_is seat.place seat.number w T.1.ready T.1.before.looked.looks T.1.sending)) runs stop)
+    turn_rests (Ok Idle) runs stop D T = absurd (still (ap (λ (z : Worker). z.stopped) T.1.same ∙ ap (λ (z : Worker). z.stopped) T.1.begins.looks.same ∙ ap (λ (z : Worker). z.stopped) (passes_is seat.place seat.number w T.1.ready T.1.before.looked.looks T.1.sending)) runs stop)
 
 module _ (seat : SeatAt) (refused : Bool) where
   -- a core that has stopped for no call of its own
