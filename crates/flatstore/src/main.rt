@@ -21,8 +21,6 @@ mod audit_tests;
 mod auditing;
 #[cfg(test)]
 mod change_tests;
-#[cfg(test)]
-mod cleaning_tests;
 mod command;
 #[cfg(test)]
 mod dump_tests;

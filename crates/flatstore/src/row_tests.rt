@@ -26,26 +26,17 @@ pub fn fresh_of(alloc: Global, cores: u8, group: u8) -> Result<Vec<u8>, AllocErr
     Ok(bytes)
 }
 
-// What a command that only reads writes of a region.
-pub fn text_of<R: SplitRegion + ReadRegion>(
-    rt: &(impl Threads + AllocGlobal),
-    command: &str,
-    region: &mut R,
-) -> Result<Vec<u8>, Fail> {
-    let alloc = rt.alloc();
-    let mut source = SteadySource::new(Vec::new(alloc), 1);
-    let mut sink = SteadySink::new(alloc, 100_000, 1000)?;
-    let words = ["flatstore", command, "region"];
-    let _ = call(rt, &words, &mut source, &mut sink, region)?;
-    Ok(Vec::from_slice(alloc, sink.text().unwrap_or(b"not kept"))?)
-}
-
 // What `log` writes of a region.
 pub fn log_of<R: SplitRegion + ReadRegion>(
     rt: &(impl Threads + AllocGlobal),
     region: &mut R,
 ) -> Result<Vec<u8>, Fail> {
-    text_of(rt, "log", region)
+    let alloc = rt.alloc();
+    let mut source = SteadySource::new(Vec::new(alloc), 1);
+    let mut sink = SteadySink::new(alloc, 100_000, 1000)?;
+    let words = ["flatstore", "log", "region"];
+    let _ = call(rt, &words, &mut source, &mut sink, region)?;
+    Ok(Vec::from_slice(alloc, sink.text().unwrap_or(b"not kept"))?)
 }
 
 const INTERLEAVINGS: [(u8, &str, &str, &str); 4] = [
