@@ -321,12 +321,16 @@ fn all_dead(rt: HostRuntime) -> Result<(), Fail> {
     };
     assert_eq!(rt; found(alloc, &mut stage)?, Some(chosen));
     let (stage, doomed, gone) = cleared(alloc, stage)?;
-    assert_eq!(rt; doomed, 60);
-    assert_eq!(rt; gone.len(), 60);
-    assert_eq!(rt; gone.last(), Some(&name(60)));
+    assert_eq!(rt;
+        (doomed, gone.len(), gone.last()),
+        (60, 60, Some(&name(60)))
+    );
     assert_eq!(rt; word(&stage.region.region, 512), 0);
-    assert_eq!(rt; stage.standing.copies(name(60)), 0);
-    assert_eq!(rt; stage.standing.copies(name(61)), 1);
+    let standing = &stage.standing;
+    assert_eq!(rt;
+        (standing.copies(name(60)), standing.copies(name(61))),
+        (0, 1)
+    );
     Ok(())
 }
 
@@ -372,13 +376,13 @@ fn one_lives(rt: HostRuntime) -> Result<(), Fail> {
     let (stage, count) = copied(stage)?;
     assert_eq!(rt; count, 0);
     let (stage, doomed, gone) = cleared(alloc, stage)?;
-    assert_eq!(rt; doomed, 59);
-    assert_eq!(rt; gone.len(), 59);
+    assert_eq!(rt; (doomed, gone.len()), (59, 59));
     let end = stage.region.stamp();
     let region = &stage.region.region;
-    assert_eq!(rt; times(region, 60), 1);
-    assert_eq!(rt; times(region, 59), 0);
-    assert_eq!(rt; word(region, 512), 0);
+    assert_eq!(rt;
+        (times(region, 60), times(region, 59), word(region, 512)),
+        (1, 0, 0)
+    );
     assert_eq!(rt; stage.standing.copies(name(60)), 1);
     // the copy of a line makes 13 steps, and the end of the chunk 3: at each of them the living ones stand
     assert_eq!(rt; end.saturating_sub(begin), 16);

@@ -1,7 +1,10 @@
+ghost use Rattle.std.specs.Prelude.{◌<◌, length};
+
 use fs_model::Value;
 use log_entry::{
     Body, Entry, EntryName, Read, WordBuffer, entry_lines, entry_words, read_entry, write_entry,
 };
+use std::alloc::Global;
 use std::test::Fail;
 
 /// The word whose bytes these are, the first the lowest.
@@ -9,31 +12,35 @@ fn word(bytes: [u8; 8]) -> u64 {
     u64::from_le_bytes(bytes)
 }
 
+// What is read at a place: key, version, how many words it has, and what it is; of what is no entry only what it is, and
+// of a bad one the rule as its length.
+fn read(alloc: Global, words: &[u64], at: u64) -> Result<(u64, u32, u64, &'static str), Fail>
+    requires { at < length words.now }
+{
+    Ok(match read_entry(alloc, words, at)? {
+        Read::Entry { entry, length } => (entry.key, entry.version, length, kind_of(&entry.body)),
+        Read::Padding => (0, 0, 0, "padding"),
+        Read::BadEntry { rule } => (0, 0, rule as u64, "bad"),
+    })
+}
+
+fn kind_of(body: &Body) -> &'static str {
+    match body {
+        Body::Embedded(value) if value.bytes() == b"abc".as_slice() => "abc",
+        Body::Embedded(value) if value.bytes() == b"q".as_slice() => "q",
+        Body::Embedded(_) => "another value",
+        Body::Pointer(17) => "block 17",
+        Body::Pointer(_) => "another block",
+        Body::Tombstone => "delete",
+    }
+}
+
 #[test]
-fn embedded_abc(rt: HostRuntime) -> Result<(), Fail> {
+fn the_vectors_are_read(rt: HostRuntime) -> Result<(), Fail> {
     let words = [
         word([0x15, 0, 0, 3, 0, 0, 0, 0]),
         5,
         word([0x61, 0x62, 0x63, 0, 0, 0, 0, 0]),
-    ];
-    match read_entry(rt.alloc(), &words, 0)? {
-        Read::Entry { entry, length } => {
-            assert_eq!(rt; entry.key, 5);
-            assert_eq!(rt; entry.version, 1);
-            assert_eq!(rt; length, 3);
-            match entry.body {
-                Body::Embedded(v) => assert_eq!(rt; v.bytes(), b"abc".as_slice()),
-                _ => assert!(rt; false, "the value stands in the entry"),
-            }
-        }
-        _ => assert!(rt; false, "the first entry is read"),
-    }
-    Ok(())
-}
-
-#[test]
-fn delete_pointer_and_last(rt: HostRuntime) -> Result<(), Fail> {
-    let words = [
         word([0x22, 0, 0, 0, 0, 0, 0, 0]),
         5,
         word([0x11, 0, 0, 0x11, 0, 0, 0, 0]),
@@ -43,36 +50,16 @@ fn delete_pointer_and_last(rt: HostRuntime) -> Result<(), Fail> {
         0x71,
         0,
     ];
-    match read_entry(rt.alloc(), &words, 0)? {
-        Read::Entry { entry, length } => {
-            assert_eq!(rt; entry.version, 2);
-            assert_eq!(rt; length, 2);
-            assert!(rt; matches!(entry.body, Body::Tombstone));
-        }
-        _ => assert!(rt; false, "the delete is read"),
+    for (at, found) in [
+        (0, (5, 1, 3, "abc")),
+        (3, (5, 2, 2, "delete")),
+        (5, (2, 1, 2, "block 17")),
+        (7, (9, 1048574, 3, "q")),
+        (8, (0, 0, 2, "bad")),
+        (10, (0, 0, 0, "padding")),
+    ] {
+        assert_eq!(rt; read(rt.alloc(), &words, at)?, found, "at {at}");
     }
-    match read_entry(rt.alloc(), &words, 2)? {
-        Read::Entry { entry, length } => {
-            assert_eq!(rt; entry.key, 2);
-            assert_eq!(rt; length, 2);
-            assert!(rt; matches!(entry.body, Body::Pointer(17)));
-        }
-        _ => assert!(rt; false, "the put with a block is read"),
-    }
-    match read_entry(rt.alloc(), &words, 4)? {
-        Read::Entry { entry, length } => {
-            assert_eq!(rt; entry.version, 1048574);
-            assert_eq!(rt; length, 3);
-        }
-        _ => assert!(rt; false, "the last version of a put is read"),
-    }
-    assert!(rt; matches!(read_entry(rt.alloc(), &words, 7)?, Read::Padding));
-    assert!(rt;
-        matches!(
-            read_entry(rt.alloc(), &words, 5)?,
-            Read::BadEntry { rule: 2 }
-        )
-    );
     Ok(())
 }
 

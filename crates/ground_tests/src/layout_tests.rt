@@ -1,6 +1,7 @@
 // Layouts by the numbers, and a superblock and heads in a region of memory.
 use chunk_map::*;
 use pm_region::{Region, RegionFault, SplitRegion, SteadyRegion};
+use std::alloc::Global;
 use std::test::Fail;
 
 #[test]
@@ -67,34 +68,46 @@ fn found(region: &SteadyRegion) -> Option<Result<u64, NotARegion>> {
     }
 }
 
-#[test]
-fn superblock_and_heads(rt: HostRuntime) -> Result<(), Fail> {
-    let alloc = rt.alloc();
-    let layout = Layout::new(1, 1, 4, 4096)?;
+// The head that is read behind one that was written.
+fn turned(
+    region: &mut SteadyRegion,
+    layout: &Layout,
+    at: u64,
+    new: Head,
+) -> Option<Result<Head, BadHead>> {
+    match turn(region, at, new)? {
+        Ok(()) => head(region, layout, at),
+        Err(_) => None,
+    }
+}
+
+fn empty_region(alloc: Global) -> Result<SteadyRegion, Fail> {
     let mut region = SteadyRegion::new(alloc, Vec::new(alloc), 100)?;
     region.create(alloc, 2560)?;
+    Ok(region)
+}
+
+#[test]
+fn a_superblock(rt: HostRuntime) -> Result<(), Fail> {
+    let layout = Layout::new(1, 1, 4, 4096)?;
+    let mut region = empty_region(rt.alloc())?;
     assert_eq!(rt; found(&region), Some(Err(NotARegion { rule: 2 })));
     assert_eq!(rt; format(&mut region, &layout), Some(Ok(())));
     assert_eq!(rt; word(&region, 0).to_le_bytes(), *b"FLATST01");
-    assert_eq!(rt; word(&region, 1), 1);
-    assert_eq!(rt; word(&region, 5), 4096);
+    assert_eq!(rt; (word(&region, 1), word(&region, 5)), (1, 4096));
     assert_eq!(rt; found(&region), Some(Ok(20480)));
-    assert_eq!(rt;
-        turn(&mut region, 512, Head::Log { tail: 488 }),
-        Some(Ok(()))
-    );
-    assert!(rt; matches!(head(&region, &layout, 512), Some(Err(BadHead { rule: 5 }))));
-    assert_eq!(rt;
-        turn(&mut region, 1024, Head::Data { class: 1 }),
-        Some(Ok(()))
-    );
+    Ok(())
+}
+
+#[test]
+fn heads(rt: HostRuntime) -> Result<(), Fail> {
+    let layout = Layout::new(1, 1, 4, 4096)?;
+    let mut region = empty_region(rt.alloc())?;
+    let past = turned(&mut region, &layout, 512, Head::Log { tail: 488 });
+    assert!(rt; matches!(past, Some(Err(BadHead { rule: 5 }))));
+    let blocks = turned(&mut region, &layout, 1024, Head::Data { class: 1 });
+    assert!(rt; matches!(blocks, Some(Ok(Head::Data { class: 1 }))));
     assert_eq!(rt; word(&region, 1024), 258);
-    assert!(rt;
-        matches!(
-            head(&region, &layout, 1024),
-            Some(Ok(Head::Data { class: 1 }))
-        )
-    );
     assert!(rt; matches!(head(&region, &layout, 1536), Some(Ok(Head::Free))));
     Ok(())
 }

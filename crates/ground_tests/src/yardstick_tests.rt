@@ -59,17 +59,26 @@ fn superblocks(rt: HostRuntime) -> Result<(), Fail> {
 #[test]
 fn chunks(rt: HostRuntime) -> Result<(), Fail> {
     let alloc = rt.alloc();
-    // class 0, and a class that 4,096 bytes don't have
-    assert!(rt; found(alloc, &[(1536, 2)])? == damaged(0, 2, 4));
-    assert!(rt; found(alloc, &[(1536, 770)])? == damaged(0, 2, 4));
-    assert!(rt; found(alloc, &[(1024, 1), (1025, 12)])? == damaged(0, 1, 5));
-    assert!(rt; found(alloc, &[(1024, 1), (1025, 488)])? == damaged(0, 1, 5));
-    // a line of zeros, an entry past the tail, a delete of version 1
-    assert!(rt; found(alloc, &[(1024, 1), (1025, 8)])? == damaged(0, 1, 6));
-    let too_long = [(1024, 1), (1025, 8), (1056, 0xff00_0015)];
-    assert!(rt; found(alloc, &too_long)? == damaged(0, 1, 6));
-    let first_delete = [(512, 1), (513, 8), (544, 0x12), (545, 1)];
-    assert!(rt; found(alloc, &first_delete)? == damaged(0, 0, 6));
+    let rows: [(&[(usize, u64)], Option<Fault>); 7] = [
+        // class 0, and a class that 4,096 bytes don't have
+        (&[(1536, 2)], damaged(0, 2, 4)),
+        (&[(1536, 770)], damaged(0, 2, 4)),
+        (&[(1024, 1), (1025, 12)], damaged(0, 1, 5)),
+        (&[(1024, 1), (1025, 488)], damaged(0, 1, 5)),
+        // a line of zeros, an entry past the tail, a delete of version 1
+        (&[(1024, 1), (1025, 8)], damaged(0, 1, 6)),
+        (
+            &[(1024, 1), (1025, 8), (1056, 0xff00_0015)],
+            damaged(0, 1, 6),
+        ),
+        (
+            &[(512, 1), (513, 8), (544, 0x12), (545, 1)],
+            damaged(0, 0, 6),
+        ),
+    ];
+    for (writes, fault) in rows {
+        assert!(rt; found(alloc, writes)? == fault);
+    }
     Ok(())
 }
 

@@ -10,7 +10,7 @@ ghost use Rattle.batch_leader.specs.Leading.{IsBatchOf};
 ghost use Rattle.group_tests.specs.LeadTrials.{put_of, IsUnwritten, FitsFresh, KeepsOthers, LeavesOthers};
 ghost use Rattle.group_tests.specs.EightTrials.{eight_words, eight_fresh, key_at, IsPosted, HasBatch};
 
-use crate::leader_tests::{empty_room, put, word};
+use crate::leader_tests::{empty_room, has_words, name_in, put};
 use crate::no_region::NoRegion;
 use crate::two_leaders::write_at;
 use batch_leader::{Batch, BatchBuffer, Collected, Released, lead};
@@ -162,21 +162,21 @@ fn a_batch_of_64_changes_from_eight_members(rt: HostRuntime) -> Result<(), Fail>
         return Ok(());
     };
     // own slots first, then member after member
-    assert_eq!(rt; batch.name_at(0).map(|n| (n.key, n.version)), Some((0, 1)));
-    assert_eq!(rt; batch.name_at(8).map(|n| (n.key, n.version)), Some((1, 1)));
     assert_eq!(rt;
-        batch.name_at(63).map(|n| (n.key, n.version)),
-        Some((63, 1))
+        (name_in(&batch, 0), name_in(&batch, 8)),
+        (Some((0, 1)), Some((1, 1)))
     );
-    assert!(rt; batch.name_at(64).is_none());
+    assert_eq!(rt;
+        (name_in(&batch, 63), name_in(&batch, 64)),
+        (Some((63, 1)), None)
+    );
     if !write_at(&mut region, &mut log, &mut board, 0, batch) {
         assert!(rt; false, "the batch is written");
         return Ok(());
     }
     assert!(rt; all_done(&mut board));
     // chunk 2 of part 0: a log of 24 lines, 64 entries of three words
-    assert_eq!(rt; word(&region, 1536), 1);
-    assert_eq!(rt; word(&region, 1537), 192);
-    assert_eq!(rt; word(&region, 1568 + 3 * 63 + 1), 63);
+    let words = [(1536, 1), (1537, 192), (1568 + 3 * 63 + 1, 63)];
+    assert!(rt; has_words(&region, &words));
     Ok(())
 }

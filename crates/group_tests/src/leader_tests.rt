@@ -7,13 +7,13 @@ ghost use Rattle.group_laws.specs.Places.{members};
 ghost use Rattle.group_board.specs.Journals.{state};
 ghost use Rattle.group_board.specs.Conditions.{MayPost, MayLock};
 ghost use Rattle.group_tests.specs.BoardTrials.{small_words, fresh};
-ghost use Rattle.batch_leader.specs.Leading.{IsBatchOf};
+ghost use Rattle.batch_leader.specs.Leading.{IsBatchOf, IsCertain};
 ghost use Rattle.batch_leader.specs.Persisting.{HasRoom, WritesPart};
 ghost use Rattle.batch_leader.specs.Rounds.{words_in};
 ghost use Rattle.group_tests.specs.LeadTrials.{put_of, empty_room, IsUnwritten, LeavesOthers, FitsFresh};
 
 use crate::no_region::NoRegion;
-use batch_leader::{Batch, BatchBuffer, Collected, Released, lead};
+use batch_leader::{Batch, BatchBuffer, Collected, Persisted, Released, lead};
 use chunk_map::Layout;
 use core_log::{CoreLog, Room};
 use fs_model::model::Value;
@@ -144,6 +144,33 @@ pub(crate) fn word(region: &SteadyRegion, at: u64) -> u64 {
     }
 }
 
+/// Whether a region has these words, each by its number.
+pub(crate) fn has_words(region: &SteadyRegion, words: &[(u64, u64)]) -> bool {
+    for (at, value) in words {
+        if word(region, *at) != *value {
+            return false;
+        }
+    }
+    true
+}
+
+/// The key and the version of a batch's entry with this number.
+pub(crate) fn name_in(batch: &Batch, at: u64) -> Option<(u64, u32)> {
+    batch.name_at(at).map(|name| (name.key, name.version))
+}
+
+/// Whether just one change is marked, and all are then.
+fn marks_one<B: Board>(done: &mut Persisted, board: &mut B) -> bool
+    requires { IsCertain (B.seat board.old) (B.view board.old) done.old.left.taken.items }
+    ensures seat { B.seat board.new ≡ B.seat board.old }
+    ensures none { done.new.left.taken.items ≡ [] }
+{
+    let first = done.mark_one(board);
+    let second = done.mark_one(board);
+    done.mark_all(board);
+    first && !second && done.is_done()
+}
+
 #[test]
 fn a_batch_of_one_change(rt: HostRuntime) -> Result<(), Fail> {
     let alloc = rt.alloc();
@@ -163,22 +190,19 @@ fn a_batch_of_one_change(rt: HostRuntime) -> Result<(), Fail> {
         return Ok(());
     };
     assert!(rt; batch.needs_chunk());
-    assert_eq!(rt; batch.name_at(0).map(|n| (n.key, n.version)), Some((1, 1)));
-    assert!(rt; batch.name_at(1).is_none());
+    assert_eq!(rt;
+        (name_in(&batch, 0), name_in(&batch, 1)),
+        (Some((1, 1)), None)
+    );
     let Ok(mut done) = batch.persist(&mut region, &mut log, &mut seat, Some(2)) else {
         assert!(rt; false, "the batch is written");
         return Ok(());
     };
-    assert!(rt; done.mark_one(&mut seat));
-    assert!(rt; !done.mark_one(&mut seat));
-    done.mark_all(&mut seat);
-    assert!(rt; done.is_done());
+    assert!(rt; marks_one(&mut done, &mut seat));
     let _buffer = done.done();
     assert_eq!(rt; settle(&mut seat), Some(1));
     // chunk 2 of part 1: a log of one line, with the entry's first word
-    assert_eq!(rt; word(&region, 3584), 1);
-    assert_eq!(rt; word(&region, 3585), 8);
-    assert_eq!(rt; word(&region, 3616), 0x100_0015);
-    assert_eq!(rt; word(&region, 3617), 1);
+    let words = [(3584, 1), (3585, 8), (3616, 0x100_0015), (3617, 1)];
+    assert!(rt; has_words(&region, &words));
     Ok(())
 }

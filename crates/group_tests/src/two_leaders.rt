@@ -8,7 +8,7 @@ ghost use Rattle.group_board.specs.Journals.{state};
 ghost use Rattle.group_tests.specs.BoardTrials.{fresh};
 ghost use Rattle.group_tests.specs.LeadTrials.{put_of, small_place, IsBlankRegion, IsEmptyLog, MayGather, Gathered, MayWrite, Wrote, HaveBatches};
 
-use crate::leader_tests::{gather, open_small, put, settle, word, write_back};
+use crate::leader_tests::{gather, name_in, open_small, put, settle, word, write_back};
 use batch_leader::{Batch, BatchBuffer};
 use chunk_map::Layout;
 use core_log::CoreLog;
@@ -154,14 +154,33 @@ fn batches_at(
     Ok(batches_in(&image))
 }
 
-/// Whether each image of this stamp has a prefix of the batches, in the order in which they were written.
-fn are_prefixes(alloc: Global, region: &SteadyRegion, stamp: u64) -> Result<bool, Fail> {
+/// Whether each image of this stamp has a prefix of the batches, in the order in which they were written: of so many
+/// batches, where a number is given.
+fn are_prefixes(
+    alloc: Global,
+    region: &SteadyRegion,
+    stamp: u64,
+    count: Option<u32>,
+) -> Result<bool, Fail> {
     for pick in PICKS {
-        if batches_at(alloc, region, stamp, pick)?.is_none() {
+        let found = batches_at(alloc, region, stamp, pick)?;
+        if found.is_none() || count.is_some() && found != count {
             return Ok(false);
         }
     }
     Ok(true)
+}
+
+/// Whether the images are of no batch at the first stamp, of both at the last, and of a prefix at each between.
+fn are_written_in_order(alloc: Global, region: &SteadyRegion, start: u64) -> Result<bool, Fail> {
+    for stamp in start..region.stamp() {
+        if !are_prefixes(alloc, region, stamp, None)? {
+            return Ok(false);
+        }
+    }
+    let first = are_prefixes(alloc, region, start, Some(0))?;
+    let last = are_prefixes(alloc, region, region.stamp(), Some(2))?;
+    Ok(first && last)
 }
 
 #[test]
@@ -176,8 +195,10 @@ fn a_second_leader_before_the_first_wrote(rt: HostRuntime) -> Result<(), Fail> {
         assert!(rt; false, "both leaders gather");
         return Ok(());
     };
-    assert_eq!(rt; first.name_at(0).map(|n| (n.key, n.version)), Some((0, 1)));
-    assert_eq!(rt; second.name_at(0).map(|n| (n.key, n.version)), Some((1, 1)));
+    assert_eq!(rt;
+        (name_in(&first, 0), name_in(&second, 0)),
+        (Some((0, 1)), Some((1, 1)))
+    );
     let mut log = open_log(alloc, 0)?;
     let mut next_log = open_log(alloc, 1)?;
     let mut region = SteadyRegion::new(alloc, Vec::new(alloc), 100)?;
@@ -194,14 +215,8 @@ fn a_second_leader_before_the_first_wrote(rt: HostRuntime) -> Result<(), Fail> {
         assert!(rt; false, "both batches are written");
         return Ok(());
     }
-    assert_eq!(rt; settle_at(&mut board, 0), Some(0));
-    assert_eq!(rt; settle_at(&mut board, 1), Some(1));
-    for stamp in start..region.stamp() {
-        assert!(rt; are_prefixes(alloc, &region, stamp)?);
-    }
-    for pick in PICKS {
-        assert_eq!(rt; batches_at(alloc, &region, start, pick)?, Some(0));
-        assert_eq!(rt; batches_at(alloc, &region, region.stamp(), pick)?, Some(2));
-    }
+    let homes = (settle_at(&mut board, 0), settle_at(&mut board, 1));
+    assert_eq!(rt; homes, (Some(0), Some(1)));
+    assert!(rt; are_written_in_order(alloc, &region, start)?);
     Ok(())
 }

@@ -44,14 +44,41 @@ fn number_and_key(held: &Option<Held>) -> Option<(u64, Key)> {
     }
 }
 
+// Whether a get of the key is held by each of these numbers.
+fn holds(queue: &mut ConflictQueue, from: u64, to: u64, key: Key) -> bool {
+    for number in from..to {
+        if queue.hold(number, Request::Get { key }).is_err() {
+            return false;
+        }
+    }
+    true
+}
+
+// Whether requests of the key are released, the first by this number, and each further one by a number so much higher.
+fn releases(queue: &mut ConflictQueue, key: Key, first: u64, step: u64, count: u64) -> bool {
+    for round in 0..count {
+        let number = first.saturating_add(step.saturating_mul(round));
+        if number_and_key(&queue.release(key)) != Some((number, key)) {
+            return false;
+        }
+    }
+    true
+}
+
+// Whether a queue takes 64 requests of keys 1, 2 and 3 in turn.
+fn fills(queue: &mut ConflictQueue) -> bool {
+    for number in 0..64 {
+        if !holds(queue, number, number + 1, number % 3 + 1) {
+            return false;
+        }
+    }
+    true
+}
+
 #[test]
 fn three_keys_in_turn(rt: HostRuntime) -> Result<(), Fail> {
     let mut queue = ConflictQueue::open(rt.alloc())?;
-    assert_eq!(rt; queue.free_nodes(), 64);
-    for number in 0..64 {
-        let key = number % 3 + 1;
-        assert!(rt; queue.hold(number, Request::Get { key }).is_ok());
-    }
+    assert!(rt; fills(&mut queue));
     assert_eq!(rt; queue.free_nodes(), 0);
     match queue.hold(64, Request::Delete { key: 9 }) {
         Err(
@@ -61,23 +88,23 @@ fn three_keys_in_turn(rt: HostRuntime) -> Result<(), Fail> {
         ) => assert_eq!(rt; key, 9),
         _ => assert!(rt; false, "the queue is full"),
     }
-    for round in 0..21 {
-        assert_eq!(rt; number_and_key(&queue.release(2)), Some((3 * round + 1, 2)));
-    }
-    assert!(rt; queue.release(2).is_none());
-    assert_eq!(rt; queue.free_nodes(), 21);
-    for number in 100..121 {
-        assert!(rt; queue.hold(number, Request::Get { key: 2 }).is_ok());
-    }
-    assert!(rt; queue.hold(121, Request::Get { key: 2 }).is_err());
-    for round in 0..22 {
-        assert_eq!(rt; number_and_key(&queue.release(1)), Some((3 * round, 1)));
-    }
-    for round in 0..21 {
-        assert_eq!(rt; number_and_key(&queue.release(3)), Some((3 * round + 2, 3)));
-        assert_eq!(rt; number_and_key(&queue.release(2)), Some((100 + round, 2)));
-    }
+    assert!(rt; releases(&mut queue, 1, 0, 3, 22));
+    assert!(rt; releases(&mut queue, 2, 1, 3, 21));
+    assert!(rt; releases(&mut queue, 3, 2, 3, 21));
     assert_eq!(rt; queue.free_nodes(), 64);
+    Ok(())
+}
+
+// What one key gives back another one takes, behind what waits for that.
+#[test]
+fn places_of_another_key(rt: HostRuntime) -> Result<(), Fail> {
+    let mut queue = ConflictQueue::open(rt.alloc())?;
+    assert!(rt; fills(&mut queue));
+    assert!(rt; releases(&mut queue, 2, 1, 3, 21) && queue.release(2).is_none());
+    assert_eq!(rt; queue.free_nodes(), 21);
+    assert!(rt; holds(&mut queue, 100, 121, 1) && !holds(&mut queue, 121, 122, 2));
+    assert!(rt; releases(&mut queue, 1, 0, 3, 22) && releases(&mut queue, 1, 100, 1, 21));
+    assert_eq!(rt; queue.free_nodes(), 43);
     Ok(())
 }
 

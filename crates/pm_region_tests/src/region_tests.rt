@@ -55,8 +55,7 @@ fn images_of_a_steady_region(rt: HostRuntime) -> Result<(), Fail> {
     let mut region = SteadyRegion::new(alloc, bytes, 4)?;
     assert_eq!(rt; region.words(), 0);
     region.attach(alloc)?;
-    assert_eq!(rt; region.words(), 16);
-    assert_eq!(rt; region.bytes(), 131);
+    assert_eq!(rt; (region.words(), region.bytes()), (16, 131));
     assert_eq!(rt; get(&region, 1), 0x0200_0000_0000_0001);
     put(&mut region, 0, 5);
     flush_first(&mut region);
@@ -89,6 +88,13 @@ fn images_of_a_steady_region(rt: HostRuntime) -> Result<(), Fail> {
     Ok(())
 }
 
+// Stores word 3, and writes its line.
+fn write_third<R: Region>(region: &mut R, value: u64) -> Result<(), RegionFault> {
+    put(region, 3, value);
+    flush_first(region);
+    region.fence()
+}
+
 #[test]
 fn faults_of_a_region(rt: HostRuntime) -> Result<(), Fail> {
     let alloc = rt.alloc();
@@ -102,16 +108,11 @@ fn faults_of_a_region(rt: HostRuntime) -> Result<(), Fail> {
     ]?;
     let mut region = MemRegion::new(alloc, bytes, 100, Faults { opens, fences })?;
     assert_eq!(rt; region.attach(alloc), Err(AttachError::RegionFault));
-    assert_eq!(rt; region.faults(), 1);
-    assert_eq!(rt; region.words(), 0);
+    assert_eq!(rt; (region.faults(), region.words()), (1, 0));
     assert_eq!(rt; region.attach(alloc), Ok(()));
     assert_eq!(rt; region.words(), 8);
-    put(&mut region, 3, 9);
-    flush_first(&mut region);
-    assert_eq!(rt; region.fence(), Ok(()));
-    put(&mut region, 3, 10);
-    flush_first(&mut region);
-    assert_eq!(rt; region.fence(), Err(RegionFault));
+    assert_eq!(rt; write_third(&mut region, 9), Ok(()));
+    assert_eq!(rt; write_third(&mut region, 10), Err(RegionFault));
     assert_eq!(rt; region.faults(), 2);
     assert_eq!(rt; oldest(alloc, &region), Ok(9));
     assert_eq!(rt; region.fence(), Ok(()));
@@ -198,12 +199,10 @@ fn faults_of_a_piece(rt: HostRuntime) -> Result<(), Fail> {
     region.attach(alloc)?;
     assert_eq!(rt; region.words(), 16);
     assert_eq!(rt; write_part(alloc, &mut region, 16, 77), Ok(false));
-    assert_eq!(rt; region.faults(), 1);
-    assert_eq!(rt; get(&region, 0), 77);
+    assert_eq!(rt; (region.faults(), get(&region, 0)), (1, 77));
     assert_eq!(rt; region.create(alloc, 8), Err(AttachError::RegionFault));
     assert_eq!(rt; region.create(alloc, 8), Ok(()));
-    assert_eq!(rt; region.bytes(), 64);
-    assert_eq!(rt; get(&region, 0), 0);
+    assert_eq!(rt; (region.bytes(), get(&region, 0)), (64, 0));
     Ok(())
 }
 
@@ -216,10 +215,11 @@ fn a_place_that_is_lost(rt: HostRuntime) -> Result<(), Fail> {
     let fences = Vec::new(alloc);
     let mut region = MemRegion::new(alloc, bytes, 100, Faults { opens, fences })?;
     region.attach(alloc)?;
-    assert_eq!(rt; region.revalidate(), Ok(()));
-    assert_eq!(rt; region.faults(), 0);
-    assert_eq!(rt; region.revalidate(), Err(RegionFault));
-    assert_eq!(rt; region.faults(), 1);
+    assert_eq!(rt; (region.revalidate(), region.faults()), (Ok(()), 0));
+    assert_eq!(rt;
+        (region.revalidate(), region.faults()),
+        (Err(RegionFault), 1)
+    );
     assert_eq!(rt; region.words(), 8);
     assert_eq!(rt; region.revalidate(), Ok(()));
     assert_eq!(rt; region.attach(alloc), Err(AttachError::RegionFault));
@@ -236,17 +236,15 @@ fn words_of_a_snapshot(rt: HostRuntime) -> Result<(), Fail> {
     region.create(alloc, 16)?;
     put(&mut region, 3, 9);
     let mut snapshot = Snapshot::of(&region);
-    assert_eq!(rt; snapshot.words(), 16);
-    assert_eq!(rt; snapshot.stamp(), 0);
-    assert_eq!(rt; get(&snapshot, 3), 9);
-    assert_eq!(rt; get(&snapshot, 4), 0);
+    assert_eq!(rt; (snapshot.words(), snapshot.stamp()), (16, 0));
+    assert_eq!(rt; (get(&snapshot, 3), get(&snapshot, 4)), (9, 0));
     put(&mut snapshot, 4, 10);
     flush_first(&mut snapshot);
     assert_eq!(rt; snapshot.fence(), Ok(()));
-    assert_eq!(rt; snapshot.stamp(), 3);
-    assert_eq!(rt; get(&snapshot, 4), 0);
-    assert_eq!(rt; get(&region, 3), 9);
-    assert_eq!(rt; get(&region, 4), 0);
-    assert_eq!(rt; region.stamp(), 1);
+    assert_eq!(rt; (snapshot.stamp(), get(&snapshot, 4)), (3, 0));
+    assert_eq!(rt;
+        (region.stamp(), get(&region, 3), get(&region, 4)),
+        (1, 9, 0)
+    );
     Ok(())
 }
