@@ -4,8 +4,8 @@ docs/FORMAT.md describes it, by `plain_reader.py`; it shares no code with the pr
 The requests of one key go in order, whatever the cores do. So each reply is that of the map, or a refusal that has its cause:
 
 - `too long`: exactly where the value has more bytes than a block takes;
-- `versions spent`: exactly where the key's last change before the put has the last version that a put may have; where that
-  change was a delete, the put may also be stored, since a deleted key is forgotten once no log has an entry of it;
+- `versions spent`: exactly where the key's last change before the put has the last version that a put may have. Which version
+  that is need not be known: a deleted key is forgotten once no log has an entry of it, and its next put has version 1 then;
 - `full`: only where the part of the key's owner has so few free chunks that the trace may need them all;
 - `stopped`: only of a core that may stop, and then for every later request of the key.
 
@@ -16,6 +16,7 @@ import sys
 
 sys.dont_write_bytecode = True
 import plain_reader  # beside this file
+from plain_answers import reply_to
 
 LAST_PUT_VERSION = 1_048_574
 LINE_BYTES, ENTRY_BYTES = 64, 16
@@ -101,9 +102,11 @@ class PlainMap:
         self.doubt = {}
         self.stopped = set()
         self.refused = collections.Counter()
+        # The greatest and the least version that the last change of a key may have.
         self.versions = collections.Counter()
         for entry in entries:
             self.versions[entry.key] = max(self.versions[entry.key], entry.version)
+        self.least = self.versions.copy()
 
     def judge(self, requests, text, may_stop=frozenset()):
         """What is wrong with the text of the replies, or none. `may_stop` are the cores that may have stopped."""
@@ -126,13 +129,15 @@ class PlainMap:
             return self.stop(request) if core in may_stop else f"core {core} had no cause to stop"
         if request.key in self.stopped:
             return "an earlier request of the key was stopped"
-        cause = self.cause_of(request, room)
-        if cause == b"versions spent" and reply == b"stored" and request.key not in self.cells:
-            cause, self.versions[request.key] = None, 0
-        if reply == (cause or b"full") and (cause or self.may_be_full(request, room)):
+        causes, must = self.causes_of(request, room)
+        if reply in causes or reply == b"full" and not must and self.may_be_full(request, room):
             self.refused[reply] += 1
+            if reply == b"versions spent":
+                self.least[request.key] = LAST_PUT_VERSION
             return None
-        wanted = cause or self.expected(request)
+        if must:
+            return f"not '{causes[0]}'"
+        wanted = self.expected(request)
         return None if reply == wanted else f"not '{wanted[:40]}'"
 
     def stop(self, request):
@@ -141,13 +146,16 @@ class PlainMap:
         if request.name != b"get":
             self.doubt.setdefault(request.key, request.value)
 
-    def cause_of(self, request, room):
-        """The refusal that a request must have, or none."""
+    def causes_of(self, request, room):
+        """The refusal that a request may have by its length or its version, in a list, and whether it must have it."""
         if request.name != b"put":
-            return None
+            return [], False
         if room.is_too_long(request):
-            return b"too long"
-        return b"versions spent" if self.versions[request.key] >= LAST_PUT_VERSION else None
+            return [b"too long"], True
+        if request.key not in self.cells:
+            self.least[request.key] = 0
+        spent = self.versions[request.key] >= LAST_PUT_VERSION
+        return [b"versions spent"] if spent else [], self.least[request.key] >= LAST_PUT_VERSION
 
     def may_be_full(self, request, room):
         changes = request.name == b"put" or request.name == b"delete" and request.key in self.cells
@@ -155,14 +163,14 @@ class PlainMap:
 
     def expected(self, request):
         """The map's reply to a request, which changes the map."""
-        if request.name == b"get":
-            return b"value " + self.cells[request.key] if request.key in self.cells else b"absent"
-        if request.name == b"put":
-            self.cells[request.key] = request.value
-        elif self.cells.pop(request.key, None) is None:
-            return b"absent"
-        self.versions[request.key] += 1
-        return b"stored" if request.name == b"put" else b"deleted"
+        reply = reply_to(request, self.cells)
+        if reply == b"stored":
+            # It is the version after the last one, of which there is one.
+            self.versions[request.key] = min(self.versions[request.key], LAST_PUT_VERSION - 1)
+        if reply in (b"stored", b"deleted"):
+            self.versions[request.key] += 1
+            self.least[request.key] += 1
+        return reply
 
     def fault_of(self, pairs):
         """What is wrong with the pairs that a region shows afterwards, or none."""

@@ -1,7 +1,7 @@
 """Reads a region as docs/FORMAT.md describes it: its first broken rule, or its live pairs and its entries.
 
-It shares no code with the program, and goes the plain way: each rule by itself, over all entries. `tests/hostile-bytes`
-and `tests/run-traces` compare the program with it.
+It shares no code with the program, and goes the plain way: each rule by itself, over all entries. The scripts in `tests/`
+compare the program with it.
 """
 import struct
 
@@ -11,6 +11,7 @@ FREE, LOG = 0, 1
 HEAD_WORDS, LINE_WORDS, UNIT_BYTES = 32, 8, 256
 PUT, DELETE = 1, 2
 PLAIN, EMBEDDED = 0, 1
+DAMAGED, NO_REGION = 6, 7
 
 
 class Broken(Exception):
@@ -19,6 +20,13 @@ class Broken(Exception):
     def __init__(self, rule, part=None, chunk=None):
         super().__init__(rule, part, chunk)
         self.place = (rule, part, chunk)
+
+    def end(self):
+        """The exit status and the line on standard error that it comes to."""
+        rule, part, chunk = self.place
+        if part is None:
+            return NO_REGION, f"flatstore: not a region: rule {rule}\n".encode()
+        return DAMAGED, f"flatstore: damaged region: part {part} chunk {chunk} rule {rule}\n".encode()
 
 
 class Layout:
@@ -61,8 +69,8 @@ class Entry:
         self.key, self.version, self.body = key, version, body
 
     def contradicts(self, other):
-        same_name = (self.key, self.version) == (other.key, other.version)
-        return same_name and (self.body, self.part) != (other.body, other.part)
+        """Whether two entries of one key and version may not both stand."""
+        return (self.body, self.part) != (other.body, other.part)
 
 
 def entry_in(words):
@@ -184,6 +192,16 @@ def winners_of(entries):
     return [winners[key] for key in sorted(winners)]
 
 
+def judge_names(entries):
+    """Each entry beside the earlier ones of its key and version."""
+    named = {}
+    for entry in entries:
+        before = named.setdefault((entry.key, entry.version), [])
+        if any(entry.contradicts(other) for other in before):
+            raise Broken(8, entry.part, entry.chunk)
+        before.append(entry)
+
+
 def judge_blocks(region, winners):
     taken = set()
     for winner in winners:
@@ -205,9 +223,7 @@ def read(data):
     a rule."""
     region = Region(data)
     entries = region.entries()
-    for at, entry in enumerate(entries):
-        if any(entry.contradicts(before) for before in entries[:at]):
-            raise Broken(8, entry.part, entry.chunk)
+    judge_names(entries)
     winners = winners_of(entries)
     judge_blocks(region, winners)
     values = {"bytes": lambda value: value, "block": region.value_at}
