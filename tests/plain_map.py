@@ -110,17 +110,25 @@ class PlainMap:
 
     def judge(self, requests, text, may_stop=frozenset()):
         """What is wrong with the text of the replies, or none. `may_stop` are the cores that may have stopped."""
-        replies = text.split(b"\n")
-        if replies.pop() != b"":
+        lines = text.split(b"\n")
+        if lines.pop() != b"":
             return f"the text ends with '{text[-40:]}', and not with a newline"
-        if len(replies) != len(requests):
-            return f"there are {len(replies)} replies to {len(requests)} requests"
-        room = Room(self.region, requests)
-        for number, (request, reply) in enumerate(zip(requests, replies)):
+        room, place = Room(self.region, requests), 0
+        for number, request in enumerate(requests):
+            if place >= len(lines):
+                return f"there are {number} replies to {len(requests)} requests"
+            end = place + self.lines_of_reply(request, lines[place])
+            reply, place = b"\n".join(lines[place:end]), end
             why = self.take(request, reply, room, may_stop)
             if why is not None:
                 return f"request {number}, '{line_of(request)[:40]}', was answered '{reply[:40]}': {why}"
-        return None
+        return None if place == len(lines) else f"behind the replies there are {len(lines) - place} lines more"
+
+    def lines_of_reply(self, request, first):
+        """How many lines a reply has that begins with this one. No trace puts a newline into a value, but a region may have it."""
+        if request.name != b"get" or first == b"stopped":
+            return 1
+        return 1 + self.cells.get(request.key, b"").count(b"\n")
 
     def take(self, request, reply, room, may_stop):
         """What is wrong with a reply, or none. The cells are brought up to date."""
