@@ -78,10 +78,10 @@ fn candidate<R: Region>(
     ensures floors { IsTelling (R.state region.now) → HasFloors (R.state region.now) log.now
         standing.new }
 {
-    if log.opened() == Some(chunk) || tail_of(log, chunk).is_none() {
+    if !is_worth(standing, room, chunk) {
         return None;
     }
-    if !is_worth(standing, room, chunk) {
+    if log.opened() == Some(chunk) || tail_of(log, chunk).is_none() {
         return None;
     }
     let victim = search_chunk(region, log, standing, chunk);
