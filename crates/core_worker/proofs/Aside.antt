@@ -69,7 +69,7 @@ module _ (s t : State) (p : Place) (m : ℕ) (v : View) (w : Worker) (H : Holds 
       fits = subst (λ (f : Frame). f.first + f.words < 2 ^ 64) (sym aside.frame) S.lies.fits;
     };
     licensed = still v S.licensed;
-    landed = λ whole lost. still (grounded v) (S.landed whole lost);
+    landed = λ unlost. still (grounded v) (S.landed unlost);
     log = λ runs. let L = S.log runs in record {
       own = L.own;
       low = subst (λ (f : Frame). f.first ≤ part_first w.log.layout w.log.part) (sym aside.frame) L.low;

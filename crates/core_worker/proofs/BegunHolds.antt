@@ -186,6 +186,7 @@ module _ (s : State) (p : Place) (m : ℕ) (v : View) (w x : Worker) (H : Holds 
     space = λ r. subst (HasSpaceFor begun) (sym nothing.1) tt;
     broken = H.broken;
     lost = H.lost;
+    flight = H.flight;
     cleaning = inr cleans;
     remembers = H.remembers;
     chunks = H.chunks;
@@ -375,6 +376,7 @@ module _ (s : State) (p : Place) (m : ℕ) (v : View) (w x : Worker) (H : Holds 
     space = λ r. subst (HasSpaceFor looked) (sym nothing.1) tt;
     broken = H.broken;
     lost = H.lost;
+    flight = H.flight;
     cleaning = keeps_counts p m v w x.standing B.names.counts H.cleaning;
     remembers = H.remembers;
     chunks = H.chunks;

@@ -195,6 +195,7 @@ module _ (p : Place) (m : ℕ) (v : View) (w : Worker) (H : Holds p m v w) (slot
       remembers = λ r k own idle. H.remembers r k own (⊎_elim (λ same. absurd (let both : Some (record { entry = e; slot = Some slot }) ≡ None = sym (here k same) ∙ idle in cc both)) (λ differs. sym (other k differs) ∙ idle) (cases_eq k e.key));
       chunks = H.chunks;
       lost = H.lost;
+      flight = H.flight;
     }
 
 -- nothing of the region is written, and no place is part of the tie to it

@@ -31,6 +31,7 @@ use Rattle.core_worker.specs.OwnPlaces.{place_at}
 use Rattle.core_worker.specs.Posting.{IsStagedWith}
 use Rattle.core_worker.specs.KeyTies.{IsBlockFor}
 use Rattle.core_worker.specs.Ties.{HasSpaceFor, Holds, Stands}
+use Rattle.core_worker.proofs.Flight.{stops_here}
 use Rattle.core_worker.proofs.Writing.{in_chunks}
 use Rattle.licence.specs.Writes.{IsUnused, WritesBlock}
 use Rattle.licence.proofs.Clients.{block_licensed, block_chunk, block_gained}
@@ -84,6 +85,7 @@ holds_written t p m v w b a q class value H nothing sets wrote = record {
   remembers = H.remembers;
   chunks = λ r j lt. chunk_same w.allocator a w.log.chunks j (wrote.free j) (wrote.classes j) (H.chunks r j lt);
   lost = H.lost;
+  flight = H.flight;
 }
   where
     block : (r n : ℕ) → IsBlockFor w.allocator r n → IsBlockFor a r n
@@ -123,6 +125,7 @@ holds_stopped p m v w H runs = record {
   remembers = λ r. absurd (cc r);
   chunks = λ r. absurd (cc r);
   lost = λ l. refl;
+  flight = stops_here v.flying v.broken w.leading w.lost_batch w.stopped H.flight;
 }
 
 module _ (s t : State) (p : Place) (m : ℕ) (v : View) (w : Worker) (H : Holds p m v w) (S : Stands s p m v w) (runs : w.stopped ≡ false) (q class : ℕ) (at : class_at w.allocator q ≡ Some class) (unused : v.blocks q ≡ None)
@@ -212,7 +215,7 @@ module _ (s t : State) (p : Place) (m : ℕ) (v : View) (w : Worker) (H : Holds 
         fits = subst (λ (f : Frame). f.first + f.words < 2 ^ 64) (sym only_chunk.frame) S.lies.fits;
       };
       licensed = block_gained s t p m v a q class (block v unused S.licensed) writes (after_post slot e value v) b (record { key = e.key; bytes = value }) long wrote (posted_gains v slot q e value points);
-      landed = λ whole still. block_gained s t p m (grounded v) a q class (block (grounded v) unused (S.landed whole still)) writes (after_post slot e value (grounded v)) b (record { key = e.key; bytes = value }) long wrote (posted_gains (grounded v) slot q e value points);
+      landed = λ unlost. block_gained s t p m (grounded v) a q class (block (grounded v) unused (S.landed unlost)) writes (after_post slot e value (grounded v)) b (record { key = e.key; bytes = value }) long wrote (posted_gains (grounded v) slot q e value points);
       log = λ r. log_beside s t w.log j no_tail only_chunk (S.log runs);
       free = λ r k is telling.
           let was_free = sym (wrote.free k) ∙ is in
@@ -245,7 +248,7 @@ module _ (s t : State) (p : Place) (m : ℕ) (v : View) (w : Worker) (H : Holds 
       fits = subst (λ (f : Frame). f.first + f.words < 2 ^ 64) (sym only_chunk.frame) S.lies.fits;
     };
     licensed = λ telling. at_exit s t (Licensed p m v) moments telling;
-    landed = λ whole still telling. at_exit s t (Licensed p m (grounded v)) (block_licensed s t p m (grounded v) a q class (block (grounded v) unused (S.landed whole still)) writes) telling;
+    landed = λ unlost telling. at_exit s t (Licensed p m (grounded v)) (block_licensed s t p m (grounded v) a q class (block (grounded v) unused (S.landed unlost)) writes) telling;
     log = λ r. absurd (cc r);
     free = λ r. absurd (cc r);
     due = λ r. absurd (cc r);

@@ -128,6 +128,7 @@ module _ (p : Place) (m : ℕ) (v : View) (w x : Worker) (victim : Victim) (firs
     space = λ r. subst (HasSpaceFor to) (sym C.idle.1) tt;
     broken = H.broken;
     lost = H.lost;
+    flight = H.flight;
     cleaning = inr cleans_now;
     remembers = H.remembers;
     chunks = λ r. chunks_now;

@@ -211,6 +211,7 @@ module _ (s : State) (p : Place) (m : ℕ) (v : View) (w : Worker) (victim : Vic
     space = λ r. subst (HasSpaceFor leaves) (sym (cleaning.cleans p m v w H victim first way).idle.1) tt;
     broken = H.broken;
     lost = H.lost;
+    flight = H.flight;
     cleaning = inl (none_way leaves refl);
     remembers = H.remembers;
     chunks = H.chunks;
@@ -347,6 +348,7 @@ module _ (s t : State) (p : Place) (m : ℕ) (v : View) (w x : Worker) (victim :
     space = λ r. absurd (cc r);
     broken = λ b. refl;
     lost = λ l. refl;
+    flight = B.flight;
     cleaning = inl refl;
     remembers = λ r. absurd (cc r);
     chunks = λ r. absurd (cc r);
@@ -360,7 +362,7 @@ module _ (s t : State) (p : Place) (m : ℕ) (v : View) (w x : Worker) (victim :
       fits = subst (λ (y : Frame). y.first + y.words < 2 ^ 64) (sym fr) B.fits;
     });
     licensed = exit;
-    landed = λ whole still telling. subst (λ (y : View). Licensed p m y (cell_now t)) (λ i. record v { flying = flying_none p m v w H victim first way i }) (exit telling);
+    landed = λ unlost telling. subst (λ (y : View). Licensed p m y (cell_now t)) (λ i. record v { flying = flying_none p m v w H victim first way i }) (exit telling);
     log = λ r. absurd (cc r);
     free = λ r. absurd (cc r);
     due = λ r. absurd (cc r);

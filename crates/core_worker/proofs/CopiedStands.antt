@@ -207,7 +207,7 @@ module _ (s t : State) (p : Place) (m : ℕ) (v : View) (w x : Worker) (victim :
       fits = subst (λ (y : Frame). y.first + y.words < 2 ^ 64) (sym fr) L.fits;
     });
     licensed = exit;
-    landed = λ whole still telling. subst (λ (y : View). Licensed p m y (cell_now t)) (λ i. record v { flying = flying_none i }) (exit telling);
+    landed = λ unlost telling. subst (λ (y : View). Licensed p m y (cell_now t)) (λ i. record v { flying = flying_none i }) (exit telling);
     log = λ r. R.stands;
     free = λ r j is telling.
         let none = log_lacks j (low j (N.sets.free_in j is).0) (inl is) in

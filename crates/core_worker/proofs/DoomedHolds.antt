@@ -214,6 +214,7 @@ module _ (s : State) (p : Place) (m : ℕ) (v u : View) (w x : Worker) (H : Hold
     space = λ r. subst (HasSpaceFor to) (sym C.idle.1) tt;
     broken = H.broken;
     lost = H.lost;
+    flight = H.flight;
     cleaning = inr cleans_now;
     remembers = H.remembers;
     chunks = H.chunks;
@@ -269,7 +270,7 @@ module _ (s : State) (p : Place) (m : ℕ) (v u : View) (w x : Worker) (H : Hold
   doomed_stands S = subst (λ (y : Worker). Stands s p m u y) (sym D.same) (subst (λ (y : View). Stands s p m y to) (sym D.view) (record {
     lies = S.lies;
     licensed = λ telling image may. allowed p m v now image (record { kept = refl; flying = refl; doomed = more; blocks = λ q b e. e }) (S.licensed telling image may);
-    landed = λ whole still telling image may. allowed p m (grounded v) (grounded now) image (record { kept = refl; flying = refl; doomed = more; blocks = λ q b e. e }) (S.landed whole still telling image may);
+    landed = λ unlost telling image may. allowed p m (grounded v) (grounded now) image (record { kept = refl; flying = refl; doomed = more; blocks = λ q b e. e }) (S.landed unlost telling image may);
     log = S.log;
     free = S.free;
     due = S.due;

@@ -111,9 +111,9 @@ module _ (p : groups.Place) (m : ℕ) (v : View) (w : Worker) (H : Holds p m v w
       leads = H.leads;
       space = λ r. absurd (let both : true ≡ false = sym stopped ∙ r in cc both);
       broken = H.broken;
-      whole = λ is. is;
       lost = H.lost;
-      found = λ is. is;
+      flight = H.flight;
+      unlost = λ off. off;
       names = λ s r. absurd (let both : true ≡ false = sym stopped ∙ r in cc both);
     }
 

@@ -36,7 +36,8 @@ use Rattle.core_worker.specs.EndsCleaning.{EndsIn}
 use Rattle.core_worker.specs.Order.{InOrder}
 use Rattle.core_worker.specs.Outbox.{mailing, waiting_dead, KeepsMail}
 use Rattle.conflict_queue.specs.Waiting.{waiting}
-use Rattle.core_worker.specs.Ties.{LeadsAt, HasSpaceFor, Holds, is_lost}
+use Rattle.core_worker.specs.Ties.{LeadsAt, HasSpaceFor, Holds, in_flight, is_lost}
+use Rattle.core_worker.proofs.Flight.{runs_unlost, unlost_keeps}
 use Rattle.core_worker.proofs.EndedKeys.{knows_all, key_restarted}
 use Rattle.core_worker.proofs.FiledMail.{waiting_is, mail_filed}
 use Rattle.core_worker.proofs.GoneKeys.{knows_after, placed_after}
@@ -298,12 +299,16 @@ module _ (p : Place) (m : ℕ) (v u : View) (w x : Worker) (c : ClearingState) (
     space = λ r. subst (HasSpaceFor x) (sym (leading_is ∙ E.idle.1)) tt;
     broken = λ b. stopped_is ∙ H.broken (sym (ap (λ (y : View). y.broken) view_is) ∙ b);
     lost = λ l. stopped_is ∙ H.lost (sym (ap is_lost leading_is) ∙ l);
+    flight = unlost_keeps u.flying u.broken x.leading x.lost_batch x.stopped (ap (λ (y : Worker). y.lost_batch) E.same ∙ unlost) (ap (λ (y : View). y.flying) view_is ∙ H.flight.led unlost ∙ ap in_flight (sym leading_is));
     cleaning = inl (none_way x (ap (λ (y : Worker). y.cleaning) E.same));
     remembers = λ r k own none. after.remembers k own none;
     chunks = λ r j low. chunk_now j (H.chunks E.runs j low);
   } where
     stopped_is : x.stopped ≡ w.stopped
     stopped_is = ap (λ (y : Worker). y.stopped) E.same
+
+    unlost : w.lost_batch ≡ false
+    unlost = runs_unlost v.flying v.broken w.leading w.lost_batch w.stopped H.flight E.runs
 
     leading_is : x.leading ≡ w.leading
     leading_is = ap (λ (y : Worker). y.leading) E.same

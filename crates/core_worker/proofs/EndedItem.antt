@@ -84,7 +84,7 @@ module _ (s : State) (p : Place) (m : ℕ) (v : View) (w : Worker) (H : Holds p 
   others = others_none s p m v w H S runs
 
   pub agrees : IsTelling s → AgreesIn s w.log
-  agrees = names_agree s p m v w H S runs (runs_whole p m v w H runs) (ap is_lost cleans.idle.1) O.agrees.bodies
+  agrees = names_agree s p m v w H S runs O.agrees.bodies
 
   pub counted : IsTelling s → IsUpToDate s w.log w.standing
   counted telling = (S.names runs cleans.works telling).counted
@@ -193,6 +193,7 @@ module _ (s t : State) (p : Place) (m : ℕ) (v : View) (w : Worker) (H : Holds 
     space = λ r. absurd (cc r);
     broken = N.broken;
     lost = N.lost;
+    flight = N.flight;
     cleaning = inl refl;
     remembers = N.remembers;
     chunks = N.chunks;
@@ -205,7 +206,7 @@ module _ (s t : State) (p : Place) (m : ℕ) (v : View) (w : Worker) (H : Holds 
   lost_stands lies exit = record {
     lies = lies;
     licensed = exit;
-    landed = λ whole still telling. subst (λ (y : View). Licensed p m y (cell_now t)) (λ i. record v { flying = flies i }) (exit telling);
+    landed = λ unlost telling. subst (λ (y : View). Licensed p m y (cell_now t)) (λ i. record v { flying = flies i }) (exit telling);
     log = λ r. absurd (cc r);
     free = λ r. absurd (cc r);
     due = λ r. absurd (cc r);

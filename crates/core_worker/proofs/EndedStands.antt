@@ -69,7 +69,7 @@ module _ (s t : State) (p : Place) (m : ℕ) (v u : View) (w x : Worker) (c : Cl
       fits = subst (λ (y : Frame). y.first + y.words < 2 ^ 64) (sym fr) L.fits;
     });
     licensed = R.exit;
-    landed = λ whole still telling. subst (λ (y : View). Licensed p m y (cell_now t)) (λ i. record u { flying = flying_none i }) (R.exit telling);
+    landed = λ unlost telling. subst (λ (y : View). Licensed p m y (cell_now t)) (λ i. record u { flying = flying_none i }) (R.exit telling);
     log = λ r. R.retired.stands;
     free = λ r j is telling. ⊎_elim
         (λ (here : j ≡ c.chunk). (

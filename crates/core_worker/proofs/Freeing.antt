@@ -32,7 +32,7 @@ use Rattle.core_worker.specs.Supplies.{under_way}
 use Rattle.core_worker.specs.KeepsCleaning.{KeepsCleaning}
 use Rattle.core_worker.specs.LogNames.{NamesStand}
 use Rattle.core_worker.specs.Outbox.{KeepsMail, as_told}
-use Rattle.core_worker.specs.Ties.{Stands, Leads, HasSpaceFor, is_lost}
+use Rattle.core_worker.specs.Ties.{Stands, Leads, HasSpaceFor, KeepsFlight, is_lost}
 use Rattle.core_worker.specs.Beginning.{HoldsAside}
 use Rattle.core_worker.proofs.UnderWay.{Pledges}
 use Rattle.core_worker.proofs.ChunksKept.{chunk_same}
@@ -73,9 +73,9 @@ pub record Frees (p : Place) (m key slot : ℕ) (v u : View) (w x : Worker) : Ty
   pub leads : Leads p m u x.leading
   pub space : x.stopped ≡ false → HasSpaceFor (record x { queue = [] }) x.leading
   pub broken : u.broken ≡ true → x.stopped ≡ true
-  pub whole : u.broken ≡ false → v.broken ≡ false
   pub lost : is_lost x.leading ≡ true → x.stopped ≡ true
-  pub found : is_lost x.leading ≡ false → is_lost w.leading ≡ false
+  pub flight : KeepsFlight u.flying u.broken x.leading x.lost_batch x.stopped
+  pub unlost : x.lost_batch ≡ false → w.lost_batch ≡ false
   -- the names in the log
   pub names : (s : State) → x.stopped ≡ false → x.winds_down ≡ false → IsTelling s
       → (w.stopped ≡ false → w.winds_down ≡ false → IsTelling s → NamesStand s m v.kept v.present v.told v.dead w.log w.standing w.clearing w.cleaning)
@@ -205,6 +205,7 @@ module _ (p : Place) (m key slot : ℕ) (v u : View) (w x : Worker) (H : HoldsAs
     space = F.space;
     broken = F.broken;
     lost = F.lost;
+    flight = F.flight;
     cleaning = F.cleans H.cleaning;
     remembers = F.remembers;
     chunks = λ r j low. subst (λ (l : LogState). HasChunk x.allocator l.chunks j) (sym F.log)
@@ -230,7 +231,7 @@ module _ (p : Place) (m key slot : ℕ) (v u : View) (w x : Worker) (H : HoldsAs
       fits = S.lies.fits;
     };
     licensed = λ telling image may. allowed p m v u image F.allows (S.licensed telling image may);
-    landed = λ whole found telling image may. allowed p m (grounded v) (grounded u) image (record { kept = F.allows.kept; flying = refl; doomed = F.allows.doomed; blocks = F.allows.blocks }) (S.landed (F.whole whole) (F.found found) telling image may);
+    landed = λ unlost telling image may. allowed p m (grounded v) (grounded u) image (record { kept = F.allows.kept; flying = refl; doomed = F.allows.doomed; blocks = F.allows.blocks }) (S.landed (F.unlost unlost) telling image may);
     log = λ r. subst (StandsIn s) (sym F.log) (S.log (F.runs r));
     free = λ r j h telling. subst (λ (l : LogState). (tail_of l.chunks j ≡ None) × Surely (cell_now s (first_of l j)) 0) (sym F.log) (S.free (F.runs r) j (sym (F.chunks.free j) ∙ h) telling);
     due = λ r j h telling. subst (λ (l : LogState). (tail_of l.chunks j ≡ None) × Surely (cell_now s (first_of l j)) 0) (sym F.log) (S.due (F.runs r) j (sym (F.chunks.due j) ∙ h) telling);

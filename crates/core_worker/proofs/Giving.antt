@@ -11,7 +11,7 @@ use Rattle.batch_leader.specs.GivingBack.{GivesBack, GivesFirst}
 use Rattle.core_worker.specs.declared.types.Leading.{Leading}
 use Rattle.core_worker.specs.declared.worker.Worker.{Worker}
 use Rattle.group_board.specs.Seats.{SeatAt}
-use Rattle.core_worker.specs.Ties.{LeadsAt, HasSpaceFor, is_lost}
+use Rattle.core_worker.specs.Ties.{LeadsAt, HasSpaceFor, in_flight, is_lost}
 use Rattle.core_worker.specs.Turns.{persisted_left, failed_left}
 
 pub gives_some : (r : Bool) (gives : Taken → View → View) (kind : ℕ → ℕ → Kind) (m : ℕ) (before after : Option Group) (v u : View) (old new : List Taken) → GivesBack r gives kind m before after v u old new → old ≢ [] → GivesFirst gives kind m before after v u old new
@@ -39,3 +39,10 @@ lost_space w ts l left = ⊎_elim (λ more. subst (HasSpaceFor w) (sym more.1.2)
 
 pub certain_not_lost : (ts : List Taken) (l : Leading) → persisted_left ts l → is_lost l ≡ false
 certain_not_lost ts l left = ⊎_elim (λ more. ap is_lost more.1.2) (λ over. ap is_lost over.1.1) left
+
+-- nothing of a batch that was written, or lost, is in flight by what is led
+pub certain_flies : (ts : List Taken) (l : Leading) → persisted_left ts l → in_flight l ≡ []
+certain_flies ts l left = ⊎_elim (λ more. ap in_flight more.1.2) (λ over. ap in_flight over.1.1) left
+
+pub lost_flies : (ts : List Taken) (l : Leading) → failed_left ts l → in_flight l ≡ []
+lost_flies ts l left = ⊎_elim (λ more. ap in_flight more.1.2) (λ over. ap in_flight over.1.1) left

@@ -113,9 +113,9 @@ module _ (p : Place) (m : ℕ) (v : View) (w : Worker) (H : HoldsAside p m v w) 
       leads = record { seat = H.leads.seat; place = H.leads.place; number = H.leads.number; at = subst (LeadsAt H.leads.seat view) (sym nothing) (let had : LeadsAt H.leads.seat v (leads.Nothing b) = subst (LeadsAt H.leads.seat v) nothing H.leads.at in (had.0, had.1, λ whole. absurd (cc whole))) };
       space = λ r. absurd (cc r);
       broken = λ is. refl;
-      whole = λ is. absurd (cc is);
       lost = λ is. refl;
-      found = λ is. is;
+      flight = record { led = H.flight.led; stops = λ on. refl; fails = λ on. inl refl };
+      unlost = λ off. off;
       names = λ s r. absurd (cc r);
     } where
       slot_or : Option Pending → Option ℕ

@@ -256,6 +256,7 @@ module _ (p : Place) (m from : ℕ) (v : View) (w : Worker) (H : Holds p m v w) 
     space = λ r. subst (HasSpaceFor heard) (sym nothing.1) tt;
     broken = H.broken;
     lost = H.lost;
+    flight = H.flight;
     cleaning = keeps_clean;
     remembers = λ r k own none. knows_now.remembers k own none;
     chunks = H.chunks;

@@ -155,7 +155,7 @@ module _ (p : Place) (m from : ℕ) (v : View) (w : Worker) (H : Holds p m v w) 
   heard_stands s S = record {
     lies = S.lies;
     licensed = λ telling image may. allowed p m v view image (record { kept = refl; flying = refl; doomed = λ k i e. e; blocks = λ q b e. e }) (S.licensed telling image may);
-    landed = λ whole found telling image may. allowed p m (grounded v) (grounded view) image (record { kept = refl; flying = refl; doomed = λ k i e. e; blocks = λ q b e. e }) (S.landed whole found telling image may);
+    landed = λ unlost telling image may. allowed p m (grounded v) (grounded view) image (record { kept = refl; flying = refl; doomed = λ k i e. e; blocks = λ q b e. e }) (S.landed unlost telling image may);
     log = S.log;
     free = S.free;
     due = S.due;

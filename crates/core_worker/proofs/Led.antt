@@ -10,7 +10,8 @@ use Rattle.licence.proofs.Clients.{allowed, flown}
 use Rattle.core_worker.specs.declared.types.Leading.{Leading}
 use Rattle.core_worker.specs.declared.worker.Worker.{Worker}
 use Rattle.core_worker.specs.KeepsCleaning.{KeepsCleaning}
-use Rattle.core_worker.specs.Ties.{Leads, HasSpaceFor, is_lost, Holds, Stands}
+use Rattle.core_worker.specs.Ties.{Leads, HasSpaceFor, KeepsFlight, in_flight, is_lost, Holds, Stands}
+use Rattle.core_worker.proofs.Flight.{failed_on}
 use Rattle.core_worker.proofs.MailKept.{mail_same}
 use Rattle.core_worker.proofs.CleaningKept.{stopped_none}
 
@@ -19,9 +20,9 @@ abbrev pub led_view : View → List Entry → List Entry → (ℕ → ℕ → Op
 led_view v kept flying taken holds looked took = record v { kept = kept; flying = flying; taken = taken; holds = holds; looked = looked; took = took }
 
 pub holds_led : (p : Place) (m : ℕ) (v : View) (w : Worker) (flying : List Entry) (taken : ℕ → ℕ → Option Entry) (holds : Bool) (looked : List Seen) (took : List Entry) (l : Leading) → Holds p m v w
-    → Leads p m (led_view v v.kept flying taken holds looked took) l → KeepsCleaning p m v (record w { leading = l }) → (w.stopped ≡ false → HasSpaceFor w l) → (is_lost l ≡ true → w.stopped ≡ true)
+    → Leads p m (led_view v v.kept flying taken holds looked took) l → KeepsCleaning p m v (record w { leading = l }) → (w.stopped ≡ false → HasSpaceFor w l) → (is_lost l ≡ true → w.stopped ≡ true) → KeepsFlight flying v.broken l w.lost_batch w.stopped
     → Holds p m (led_view v v.kept flying taken holds looked took) (record w { leading = l })
-holds_led p m v w flying taken holds looked took l H leads cleaning space lost = record {
+holds_led p m v w flying taken holds looked took l H leads cleaning space lost flight = record {
   place = H.place;
   member = H.member;
   core = H.core;
@@ -53,17 +54,18 @@ holds_led p m v w flying taken holds looked took l H leads cleaning space lost =
   remembers = H.remembers;
   chunks = H.chunks;
   lost = lost;
+  flight = flight;
 }
 
 -- nothing certain or in flight changes
-pub stands_quiet : (s : State) (p : Place) (m : ℕ) (v : View) (w : Worker) (taken : ℕ → ℕ → Option Entry) (holds : Bool) (looked : List Seen) (took : List Entry) (l : Leading) → (is_lost l ≡ false → is_lost w.leading ≡ false) → Stands s p m v w
+pub stands_quiet : (s : State) (p : Place) (m : ℕ) (v : View) (w : Worker) (taken : ℕ → ℕ → Option Entry) (holds : Bool) (looked : List Seen) (took : List Entry) (l : Leading) → Stands s p m v w
     → Stands s p m (led_view v v.kept v.flying taken holds looked took) (record w { leading = l })
-stands_quiet s p m v w taken holds looked took l landed S =
+stands_quiet s p m v w taken holds looked took l S =
     let u = led_view v v.kept v.flying taken holds looked took in
     record {
       lies = S.lies;
       licensed = λ telling image may. allowed p m v u image (record { kept = refl; flying = refl; doomed = λ k n e. e; blocks = λ q b e. e }) (S.licensed telling image may);
-      landed = λ whole not_lost telling image may. allowed p m (grounded v) (grounded u) image (record { kept = refl; flying = refl; doomed = λ k n e. e; blocks = λ q b e. e }) (S.landed whole (landed not_lost) telling image may);
+      landed = λ unlost telling image may. allowed p m (grounded v) (grounded u) image (record { kept = refl; flying = refl; doomed = λ k n e. e; blocks = λ q b e. e }) (S.landed unlost telling image may);
       log = S.log;
       free = S.free;
       due = S.due;
@@ -73,24 +75,24 @@ stands_quiet s p m v w taken holds looked took l landed S =
 
 -- the same of a view that is known to be such a one
 pub holds_by : (p : Place) (m : ℕ) (v u : View) (w : Worker) (flying : List Entry) (taken : ℕ → ℕ → Option Entry) (holds : Bool) (looked : List Seen) (took : List Entry) (l : Leading) → u ≡ led_view v v.kept flying taken holds looked took → Holds p m v w
-    → Leads p m u l → KeepsCleaning p m v (record w { leading = l }) → (w.stopped ≡ false → HasSpaceFor w l) → (is_lost l ≡ true → w.stopped ≡ true)
+    → Leads p m u l → KeepsCleaning p m v (record w { leading = l }) → (w.stopped ≡ false → HasSpaceFor w l) → (is_lost l ≡ true → w.stopped ≡ true) → KeepsFlight u.flying u.broken l w.lost_batch w.stopped
     → Holds p m u (record w { leading = l })
-holds_by p m v u w flying taken holds looked took l e H leads cleaning space lost =
-    subst (λ (x : View). Holds p m x (record w { leading = l })) (sym e) (holds_led p m v w flying taken holds looked took l H (subst (λ (x : View). Leads p m x l) e leads) cleaning space lost)
+holds_by p m v u w flying taken holds looked took l e H leads cleaning space lost flight =
+    subst (λ (x : View). Holds p m x (record w { leading = l })) (sym e) (holds_led p m v w flying taken holds looked took l H (subst (λ (x : View). Leads p m x l) e leads) cleaning space lost (subst (λ (x : View). KeepsFlight x.flying x.broken l w.lost_batch w.stopped) e flight))
 
-pub stands_by : (s : State) (p : Place) (m : ℕ) (v u : View) (w : Worker) (taken : ℕ → ℕ → Option Entry) (holds : Bool) (looked : List Seen) (took : List Entry) (l : Leading) → u ≡ led_view v v.kept v.flying taken holds looked took → (is_lost l ≡ false → is_lost w.leading ≡ false) → Stands s p m v w
+pub stands_by : (s : State) (p : Place) (m : ℕ) (v u : View) (w : Worker) (taken : ℕ → ℕ → Option Entry) (holds : Bool) (looked : List Seen) (took : List Entry) (l : Leading) → u ≡ led_view v v.kept v.flying taken holds looked took → Stands s p m v w
     → Stands s p m u (record w { leading = l })
-stands_by s p m v u w taken holds looked took l e landed S = subst (λ (x : View). Stands s p m x (record w { leading = l })) (sym e) (stands_quiet s p m v w taken holds looked took l landed S)
+stands_by s p m v u w taken holds looked took l e S = subst (λ (x : View). Stands s p m x (record w { leading = l })) (sym e) (stands_quiet s p m v w taken holds looked took l S)
 
 -- what is taken while no image has what is in flight
 pub stands_taking : (s : State) (p : Place) (m : ℕ) (v u : View) (w : Worker) (flying : List Entry) (taken : ℕ → ℕ → Option Entry) (looked : List Seen) (took : List Entry) (l : Leading) → u ≡ led_view v v.kept flying taken v.holds looked took
-    → v.broken ≡ false → is_lost w.leading ≡ false → Stands s p m v w → Stands s p m u (record w { leading = l })
-stands_taking s p m v u w flying taken looked took l e whole not_lost S =
+    → w.lost_batch ≡ false → Stands s p m v w → Stands s p m u (record w { leading = l })
+stands_taking s p m v u w flying taken looked took l e unlost S =
     let x = led_view v v.kept flying taken v.holds looked took in
     subst (λ (x : View). Stands s p m x (record w { leading = l })) (sym e) (record {
       lies = S.lies;
-      licensed = λ telling image may. flown p m x image (allowed p m (grounded v) (grounded x) image (record { kept = refl; flying = refl; doomed = λ k n e. e; blocks = λ q b e. e }) (S.landed whole not_lost telling image may));
-      landed = λ still other telling image may. allowed p m (grounded v) (grounded x) image (record { kept = refl; flying = refl; doomed = λ k n e. e; blocks = λ q b e. e }) (S.landed whole not_lost telling image may);
+      licensed = λ telling image may. flown p m x image (allowed p m (grounded v) (grounded x) image (record { kept = refl; flying = refl; doomed = λ k n e. e; blocks = λ q b e. e }) (S.landed unlost telling image may));
+      landed = λ off telling image may. allowed p m (grounded v) (grounded x) image (record { kept = refl; flying = refl; doomed = λ k n e. e; blocks = λ q b e. e }) (S.landed unlost telling image may);
       log = S.log;
       free = S.free;
       due = S.due;
@@ -109,8 +111,8 @@ runs_whole p m v w H runs = by_case v.broken refl where
 abbrev pub failed_view : View → (ℕ → ℕ → Option Entry) → View
 failed_view v taken = record v { taken = taken; broken = true; looked = [] }
 
-pub failed_by : (p : Place) (m : ℕ) (v u : View) (w : Worker) (taken : ℕ → ℕ → Option Entry) (l : Leading) → u ≡ failed_view v taken → Holds p m v w → Leads p m u l → HasSpaceFor w l → w.stopped ≡ true → Holds p m u (record w { leading = l })
-failed_by p m v u w taken l e H leads space stopped = subst (λ (x : View). Holds p m x (record w { leading = l })) (sym e) (record {
+pub failed_by : (p : Place) (m : ℕ) (v u : View) (w : Worker) (taken : ℕ → ℕ → Option Entry) (l : Leading) → u ≡ failed_view v taken → Holds p m v w → Leads p m u l → HasSpaceFor w l → w.stopped ≡ true → in_flight l ≡ in_flight w.leading → Holds p m u (record w { leading = l })
+failed_by p m v u w taken l e H leads space stopped flies = subst (λ (x : View). Holds p m x (record w { leading = l })) (sym e) (record {
   place = H.place;
   member = H.member;
   core = H.core;
@@ -142,6 +144,7 @@ failed_by p m v u w taken l e H leads space stopped = subst (λ (x : View). Hold
   remembers = H.remembers;
   chunks = H.chunks;
   lost = λ b. stopped;
+  flight = failed_on v.flying v.broken w.leading w.lost_batch w.stopped H.flight l flies stopped;
 })
 
 pub failed_stands : (s : State) (p : Place) (m : ℕ) (v u : View) (w : Worker) (taken : ℕ → ℕ → Option Entry) (l : Leading) → u ≡ failed_view v taken → Stands s p m v w → Stands s p m u (record w { leading = l })
@@ -150,7 +153,7 @@ failed_stands s p m v u w taken l e S =
     subst (λ (y : View). Stands s p m y (record w { leading = l })) (sym e) (record {
       lies = S.lies;
       licensed = λ telling image may. allowed p m v x image (record { kept = refl; flying = refl; doomed = λ k n e. e; blocks = λ q b e. e }) (S.licensed telling image may);
-      landed = λ whole. absurd (cc whole);
+      landed = λ unlost telling image may. allowed p m (grounded v) (grounded x) image (record { kept = refl; flying = refl; doomed = λ k n e. e; blocks = λ q b e. e }) (S.landed unlost telling image may);
       log = S.log;
       free = S.free;
       due = S.due;

@@ -1,4 +1,5 @@
 mod LeadTies
+mod Flight
 mod Led
 mod Giving
 mod OutboxLaws

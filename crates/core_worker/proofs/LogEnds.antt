@@ -24,7 +24,8 @@ use Rattle.log_cleaner.proofs.Parts.{part_has, placed_has, chunk_lasts}
 use Rattle.group_laws.specs.Places.{Place}
 use Rattle.group_laws.specs.MemberViews.{View}
 use Rattle.core_worker.specs.declared.worker.Worker.{Worker}
-use Rattle.core_worker.specs.Ties.{Holds, Stands, is_lost}
+use Rattle.core_worker.specs.Ties.{Holds, Stands}
+use Rattle.core_worker.proofs.Flight.{runs_unlost}
 use Rattle.core_worker.proofs.ChunkGivenUp.{chunk_within}
 
 -- behind a head that is that of no log nothing is read
@@ -62,14 +63,17 @@ module _ (s : State) (p : Place) (m : ℕ) (v : View) (w : Worker) (H : Holds p 
         by true due = is_free ((S.due runs j due telling).1)
         by false off = data_has_none w.log.layout image w.log.part j c ((S.cut runs j c e off telling).1 (image (first_of w.log j)) here)
 
+  unlost : w.lost_batch ≡ false
+  unlost = runs_unlost v.flying v.broken w.leading w.lost_batch w.stopped H.flight runs
+
   -- an entry of the log is certain
-  pub logged_kept : v.broken ≡ false → is_lost w.leading ≡ false → IsTelling s → (i : ℕ) (x : ℕ × Entry) → is_some (tail_of w.log.chunks i) ≡ true → In x (entries_in s w.log i) → In x.1 v.kept
-  logged_kept whole held telling i x has there =
+  pub logged_kept : IsTelling s → (i : ℕ) (x : ℕ × Entry) → is_some (tail_of w.log.chunks i) ≡ true → In x (entries_in s w.log i) → In x.1 v.kept
+  logged_kept telling i x has there =
       let at = placed_has w.log.part i (entries_in s w.log i) x there in
       let stands = part_has w.log (lasts s) i x.1 (chunk_within w.log (S.log runs).own i has) (subst (λ (ys : List PlacedEntry). In x.1 (map (λ (y : PlacedEntry). y.entry) ys)) (sym (chunk_lasts s w.log (S.log runs) i has telling)) at) in
-      let licence = S.landed whole held telling (lasts s) (λ n low high. may_be_last (cell_now s n) (lasts s n) refl) in
+      let licence = S.landed unlost telling (lasts s) (λ n low high. may_be_last (cell_now s n) (lasts s n) refl) in
       ⊎_elim (λ k. k) (λ none. absurd none)
       (licence.only x.1 (subst (λ (c : ℕ). In x.1 (map (λ (y : PlacedEntry). y.entry) (part_entries p.layout (lasts s) c))) H.log_part (subst (λ (l : Geometry). In x.1 (map (λ (y : PlacedEntry). y.entry) (part_entries l (lasts s) w.log.part))) H.log_layout stands)))
 
-  pub names_agree : v.broken ≡ false → is_lost w.leading ≡ false → ((e f : Entry) → In e v.kept → In f v.kept → e.key ≡ f.key → e.version ≡ f.version → e ≡ f) → IsTelling s → AgreesIn s w.log
-  names_agree whole held one telling i j x y has_i has_j in_i in_j key version = one x.1 y.1 (logged_kept whole held telling i x has_i in_i) (logged_kept whole held telling j y has_j in_j) key version
+  pub names_agree : ((e f : Entry) → In e v.kept → In f v.kept → e.key ≡ f.key → e.version ≡ f.version → e ≡ f) → IsTelling s → AgreesIn s w.log
+  names_agree one telling i j x y has_i has_j in_i in_j key version = one x.1 y.1 (logged_kept telling i x has_i in_i) (logged_kept telling j y has_j in_j) key version

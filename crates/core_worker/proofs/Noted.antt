@@ -37,6 +37,7 @@ holds_noted p m v w H = record {
   space = H.space;
   broken = H.broken;
   lost = H.lost;
+  flight = H.flight;
   cleaning = H.cleaning;
   remembers = H.remembers;
   chunks = H.chunks;

@@ -197,6 +197,7 @@ module _ (p : Place) (m : ℕ) (v : View) (w : Worker) (H : Holds p m v w) (slot
       remembers = λ r k own idle. H.remembers r k own (⊎_elim (λ same. absurd (let both : Some (record { entry = e; slot = Some slot }) ≡ None = sym (here k same) ∙ idle in cc both)) (λ differs. sym (other k differs) ∙ idle) (cases_eq k e.key));
       chunks = H.chunks;
       lost = H.lost;
+      flight = H.flight;
     }
 
 -- nothing of the region is written
@@ -206,7 +207,7 @@ stands_posted s p m v u w slot e ps none is S =
     subst (λ (y : View). Stands s p m y (record w { places = ps })) (sym is) (record {
       lies = S.lies;
       licensed = λ telling image may. allowed p m v x image (record { kept = refl; flying = refl; doomed = λ k n e. e; blocks = λ q b e. e }) (S.licensed telling image may);
-      landed = λ whole still telling image may. allowed p m (grounded v) (grounded x) image (record { kept = refl; flying = refl; doomed = λ k n e. e; blocks = λ q b e. e }) (S.landed whole still telling image may);
+      landed = λ unlost telling image may. allowed p m (grounded v) (grounded x) image (record { kept = refl; flying = refl; doomed = λ k n e. e; blocks = λ q b e. e }) (S.landed unlost telling image may);
       log = S.log;
       free = S.free;
       due = S.due;

@@ -176,6 +176,7 @@ module _ (p : Place) (m to : ℕ) (v : View) (w : Worker) (H : Holds p m v w) (O
     space = λ r. subst (HasSpaceFor taken) (sym nothing.1) tt;
     broken = H.broken;
     lost = H.lost;
+    flight = H.flight;
     cleaning = keeps_boxes p m v (record w { winds_down = x.winds_down }) x.notices (λ most going few had. places_taken most had) (keeps_winds p m v w x.winds_down works H.cleaning);
     remembers = λ r k own none. forgets_told (core_of p to) w.index x.index told k ∙ H.remembers r k own none;
     chunks = H.chunks;

@@ -55,6 +55,7 @@ holds_renewed p m v w st winds works cleaning H = record {
   space = λ r. space w st winds (led_room p m v w st winds works H.cleaning) w.leading refl (H.space r);
   broken = H.broken;
   lost = H.lost;
+  flight = H.flight;
   cleaning = cleaning;
   remembers = H.remembers;
   chunks = H.chunks;

@@ -144,6 +144,7 @@ module _ (p : Place) (m to : ℕ) (v : View) (w : Worker) (H : Holds p m v w) (O
     space = λ r. subst (HasSpaceFor sender) (sym nothing.1) tt;
     broken = H.broken;
     lost = H.lost;
+    flight = H.flight;
     cleaning = keeps_seen p m v view sender (λ k i is. is) (λ k i is. is) (keeps_boxes p m v w x.notices places H.cleaning);
     remembers = H.remembers;
     chunks = H.chunks;
@@ -176,7 +177,7 @@ module _ (p : Place) (m to : ℕ) (v : View) (w : Worker) (H : Holds p m v w) (O
   sent_stands s S = record {
     lies = S.lies;
     licensed = λ telling image may. allowed p m v view image (record { kept = refl; flying = refl; doomed = λ k i e. e; blocks = λ q b e. e }) (S.licensed telling image may);
-    landed = λ whole found telling image may. allowed p m (grounded v) (grounded view) image (record { kept = refl; flying = refl; doomed = λ k i e. e; blocks = λ q b e. e }) (S.landed whole found telling image may);
+    landed = λ unlost telling image may. allowed p m (grounded v) (grounded view) image (record { kept = refl; flying = refl; doomed = λ k i e. e; blocks = λ q b e. e }) (S.landed unlost telling image may);
     log = S.log;
     free = S.free;
     due = S.due;

@@ -569,9 +569,9 @@ module _ (p : Place) (m : ℕ) (v : View) (w : Worker) (H : HoldsAside p m v w) 
       leads = record { seat = H.leads.seat; place = H.leads.place; number = H.leads.number; at = subst (LeadsAt H.leads.seat view) (sym nothing) (let had : LeadsAt H.leads.seat v (leads.Nothing b) = subst (LeadsAt H.leads.seat v) nothing H.leads.at in (had.0, had.1, had.2)) };
       space = λ r. subst (HasSpaceFor (record done { queue = [] })) (sym nothing) tt;
       broken = H.broken;
-      whole = λ is. is;
       lost = H.lost;
-      found = λ is. is;
+      flight = H.flight;
+      unlost = λ off. off;
       names = λ s r on telling had. names_heard s m (core_of p m) mid v.kept v.kept v.present mid_view.present v.told told v.dead dead w.log w.standing st w.clearing w.cleaning tells (had r on telling) (knows_names r (had r on telling).knows);
     }
 

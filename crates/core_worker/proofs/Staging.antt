@@ -140,6 +140,7 @@ module _ (p : Place) (m : ℕ) (v : View) (w : Worker) (H : HoldsAside p m v w) 
       space = λ r. subst (HasSpaceFor (record staged { queue = [] })) (sym nothing) tt;
       broken = H.broken;
       lost = H.lost;
+      flight = H.flight;
       cleaning = keeps_few p m v (record w { queue = [] }) a (record { few = A.few; taken = still_taken; uncut = λ j off none. (A.taken j (off, none)).1 }) H.cleaning;
       remembers = H.remembers;
       chunks = λ r j low. chunk_kept w.allocator a w.log.chunks j (A.chunk j) (A.taken j) (H.chunks r j low);

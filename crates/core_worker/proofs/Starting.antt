@@ -52,7 +52,8 @@ use Rattle.core_worker.specs.KeyTies.{KnowsKey, IsPlaced, IsStagedBlock, AreBloc
 use Rattle.core_worker.specs.StandingTies.{KnowsDead}
 use Rattle.core_worker.specs.LogNames.{KnowsNames, IsCleanedBy}
 use Rattle.core_worker.specs.OwnChunks.{AreChunks}
-use Rattle.core_worker.specs.Ties.{Holds, Stands, Leads, LeadsAt, HasSpaceFor, is_lost}
+use Rattle.core_worker.specs.Ties.{Holds, Stands, Leads, LeadsAt, HasSpaceFor, in_flight, is_lost}
+use Rattle.core_worker.proofs.Flight.{unlost_keeps}
 use Rattle.core_worker.specs.Order.{InOrder, PointsAt, count_changes}
 use Rattle.core_worker.specs.Hearing.{is_dead_by, heard_at, last_change}
 use Rattle.log_cleaner.proofs.FloorLaws.{none_floors}
@@ -182,6 +183,7 @@ module _ (p : Place) (m : ℕ) (image : ℕ → ℕ) (start : CoreStart) (layout
     space = λ runs. subst (HasSpaceFor w) (sym N.leading.1) tt;
     broken = λ t. absurd (let two : false ≡ true = t in cc two);
     lost = λ t. absurd (let two : false ≡ true = sym (ap is_lost N.leading.1) ∙ t in cc two);
+    flight = unlost_keeps v.flying v.broken w.leading w.lost_batch w.stopped N.unlost (ap in_flight (sym N.leading.1));
     cleaning = inl (none_way w N.cleaning);
     remembers = λ runs k own idle. start_keys.remembers p image at.place at.rules m at.member start.index at.found.index k own w.index start.core core_is N.index;
     chunks = λ runs. subst (λ (a : Sets). AreChunks p.layout.chunks a w.log.chunks) (sym N.allocator) (subst (λ (g : LogState). AreChunks p.layout.chunks start.allocator g.chunks) (sym N.log) (start_heads.chunks_now p m image start at));
@@ -399,7 +401,7 @@ module _ (p : Place) (m : ℕ) (image : ℕ → ℕ) (start : CoreStart) (layout
     stands_now = record {
       lies = subst (PartLies s.frame) (sym N.allocator) here.lies;
       licensed = start_heads.licensed_now p m image start at s here;
-      landed = λ whole found. start_heads.licensed_now p m image start at s here;
+      landed = λ unlost. start_heads.licensed_now p m image start at s here;
       log = λ runs. subst (StandsIn s) (sym N.log) here.log;
       free = λ runs j free telling. in_log j 0 (start_heads.free_now p m image start at s here j (ap (λ (a : Sets). chunk_is_free a j) (sym N.allocator) ∙ free) telling);
       due = λ runs j due telling. absurd (start_heads.never_due p m image start at j (ap (λ (a : Sets). chunk_is_due a j) (sym N.allocator) ∙ due));

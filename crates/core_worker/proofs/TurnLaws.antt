@@ -29,7 +29,7 @@ use Rattle.core_worker.specs.Order.{MayLeadStopped, InOrder}
 use Rattle.core_worker.specs.Supplies.{HasKeptRoom}
 use Rattle.core_worker.specs.StandingTies.{KnowsDead, NamesAgree, most_names}
 use Rattle.core_worker.proofs.NamesKnown.{dead_added}
-use Rattle.core_worker.specs.Ties.{Leads, LeadsAt, LeadsNothing, HoldsAt, StandsAt, KeepsStanding}
+use Rattle.core_worker.specs.Ties.{Leads, LeadsAt, LeadsNothing, HoldsAt, StandsAt, KeepsFlight, KeepsStanding}
 use Rattle.batch_leader.specs.declared.taken.Taken.{Taken}
 use Rattle.batch_leader.specs.TakenChanges.{entries_in}
 use Rattle.batch_leader.specs.Rounds.{is_first, words_in}
@@ -94,6 +94,27 @@ busy_now [] [] e same k = refl
 busy_now [] (y ∷ ys) e same k = absurd (omega (arith, e))
 busy_now (x ∷ xs) [] e same k = absurd (omega (arith, e))
 busy_now (x ∷ xs) (y ∷ ys) e same k = (λ i. cond (is_of k ((same zero).key i)) true (busy_now xs ys (omega (arith, e)) (λ s. same (suc s)) k i))
+
+-- the order says nothing of a batch that is lost
+order_lost : (seat : SeatAt) (v : View) (w : Worker) → InOrderAt seat v w → InOrderAt seat v (record w { lost_batch = true })
+order_lost seat v w O = record {
+  owned = O.owned;
+  single = O.single;
+  distinct = O.distinct;
+  heard = O.heard;
+  told = O.told;
+  versions = O.versions;
+  mine = O.mine;
+  next = O.next;
+  spelled = O.spelled;
+  recalls = O.recalls;
+  answers = O.answers;
+  hand = O.hand;
+  stops = O.stops;
+  agrees = O.agrees;
+  log = O.log;
+  names = O.names;
+}
 
 -- the batch is written, or lost
 module _ (seat : SeatAt) (s t : State) (before after : Option Group) (v u : View) (w x : Worker) (H : HoldsAt seat v w) (N : HoldsAt seat u x) (T : StandsAt t seat u x) (O : InOrderAt seat v w) (runs : w.stopped ≡ false) (names : x.stopped ≡ false → x.winds_down ≡ false → most_names ≤ x.standing.room) (moments : StaysLicensed s t seat v) (outside : WritesPart s t seat) where
@@ -163,7 +184,7 @@ module _ (seat : SeatAt) (s t : State) (before after : Option Group) (v u : View
     holds = N;
     stands = T;
     order = subst (λ (y : View). InOrder seat.place seat.number y x) (sym P.view) (subst (λ (y : Worker). InOrder seat.place seat.number v y) (sym P.same)
-        (order_as seat.place seat.number v w v.kept v.flying v.taken v.broken v.holds v.looked v.took x.log x.allocator x.leading x.standing true w.winds_down w.places (λ k. refl) refl (λ stopped. subst MayLeadStopped (sym P.leads_now) tt) (λ on. on) (λ r. absurd (cc r)) (λ r. absurd (cc r)) O.agrees O));
+        (order_as seat.place seat.number v (record w { lost_batch = true }) v.kept v.flying v.taken v.broken v.holds v.looked v.took x.log x.allocator x.leading x.standing true w.winds_down w.places (λ k. refl) refl (λ stopped. subst MayLeadStopped (sym P.leads_now) tt) (λ on. on) (λ r. absurd (cc r)) (λ r. absurd (cc r)) O.agrees (order_lost seat v w O)));
     rule = rule;
     moves = nothing_fixed seat s t before after v u w x (ap (λ (y : Worker). y.answers) P.same)
         (subst (λ (a : Option Group). WorkerMoves seat.place seat.number s t before a v u (hands_of v w) (hands_of u x) [] []) (sym group)
@@ -321,9 +342,10 @@ leads_seen seat v v' xs l b nothing is L =
 pub looked_holds : (seat : SeatAt) (v v' : View) (w : Worker) (xs : List Seen) → v' ≡ record v { looked = xs } → LeadsNothing w → HoldsAt seat v w → HoldsAt seat v' w
 looked_holds seat v v' w xs is nothing H =
     holds_by seat.place seat.number v v' w v.flying v.taken v.holds xs v.took w.leading is H (leads_seen seat v v' xs w.leading nothing.0 nothing.1 is H.leads) H.cleaning H.space H.lost
+    (subst (λ (y : View). KeepsFlight y.flying y.broken w.leading w.lost_batch w.stopped) (sym is) H.flight)
 
 pub looked_stands : (s : State) (seat : SeatAt) (v v' : View) (w : Worker) (xs : List Seen) → v' ≡ record v { looked = xs } → StandsAt s seat v w → StandsAt s seat v' w
-looked_stands s seat v v' w xs is S = stands_by s seat.place seat.number v v' w v.taken v.holds xs v.took w.leading is (λ e. e) S
+looked_stands s seat v v' w xs is S = stands_by s seat.place seat.number v v' w v.taken v.holds xs v.took w.leading is S
 
 pub looked_order : (seat : SeatAt) (v v' : View) (w : Worker) (xs : List Seen) → v' ≡ record v { looked = xs } → InOrderAt seat v w → InOrderAt seat v' w
 looked_order seat v v' w xs is O = order_leading seat.place seat.number v v' w w (record { flying = v.flying; taken = v.taken; broken = v.broken; holds = v.holds; looked = xs; took = v.took; is = is }) refl O.stops O

@@ -18,10 +18,11 @@ use Rattle.core_worker.specs.declared.types.Leading.{Leading}
 use Rattle.core_worker.specs.declared.types.Leading.TheVariants as leads
 use Rattle.core_worker.specs.declared.worker.Worker.{Worker}
 use Rattle.core_worker.specs.Order.{InOrder, MayLeadStopped}
-use Rattle.core_worker.specs.Ties.{HoldsAt, LeadsAt, is_lost}
+use Rattle.core_worker.specs.Ties.{HoldsAt, LeadsAt, KeepsFlight, in_flight, is_lost}
 use Rattle.core_worker.specs.Turns.{InOrderAt, led_by}
 use Rattle.core_worker.specs.Stopping.{Unlocks}
 use Rattle.core_worker.proofs.CleaningKept.{stopped_none}
+use Rattle.core_worker.proofs.Flight.{led_on, stopped_flies}
 use Rattle.core_worker.proofs.LeadTies.{leads_of}
 use Rattle.core_worker.proofs.Led.{holds_by, stands_by}
 use Rattle.core_worker.proofs.Made.{one_step, and_then, looks_of, steps_made}
@@ -64,8 +65,9 @@ unlocks seat before middle after v mid u w old new r l H O stopped led found see
     let leading : LeadsAt seat u l = subst (LeadsAt seat u) (sym nothing) (free, none.2.0, none.2.1) in
     let xs = looks_upto m 0 8 in
     record {
-      holds = holds_by p m v u w v.flying v.taken false [] v.took l sees H (leads_of seat u l leading) (inl (stopped_none w stopped)) (λ runs. absurd (let both : true ≡ false = sym stopped ∙ runs in cc both)) (λ lost. absurd (let both : true ≡ false = sym lost ∙ ap is_lost nothing in cc both));
-      stands = λ s S. stands_by s p m v u w v.taken false [] v.took l sees (λ e. ap is_lost led) S;
+      holds = holds_by p m v u w v.flying v.taken false [] v.took l sees H (leads_of seat u l leading) (inl (stopped_none w stopped)) (λ runs. absurd (let both : true ≡ false = sym stopped ∙ runs in cc both)) (λ lost. absurd (let both : true ≡ false = sym lost ∙ ap is_lost nothing in cc both))
+          (subst (λ (x : View). KeepsFlight x.flying x.broken l w.lost_batch w.stopped) (sym sees) (led_on v.flying v.broken w.leading w.lost_batch w.stopped H.flight l (ap in_flight nothing ∙ sym (stopped_flies w.leading (O.stops stopped))) (ap is_lost led)));
+      stands = λ s S. stands_by s p m v u w v.taken false [] v.took l sees S;
       order = subst (λ (x : View). InOrder p m x (record w { leading = l })) (sym sees) (order_unlocked p m v w l O (subst MayLeadStopped (sym nothing) tt));
       mid = mid;
       middle = middle;

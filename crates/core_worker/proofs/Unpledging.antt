@@ -377,6 +377,7 @@ module _ (p : group.Place) (m : ℕ) (v : View) (w : Worker) (H : Holds p m v w)
     space = space;
     broken = H.broken;
     lost = H.lost;
+    flight = H.flight;
     cleaning = H.cleaning;
     remembers = H.remembers;
     chunks = H.chunks;

@@ -57,6 +57,7 @@ aside_other p m v w q h b works H = record {
   space = λ r. by w.leading refl (H.space r);
   broken = H.broken;
   lost = H.lost;
+  flight = H.flight;
   cleaning = keeps_winds p m v w b works H.cleaning;
   remembers = H.remembers;
   chunks = H.chunks;

@@ -59,6 +59,7 @@ wound_holds p m v w H = record {
   space = λ r. space w (led_room p m v w w.standing true (λ on. absurd (cc on)) H.cleaning) w.leading refl (H.space r);
   broken = H.broken;
   lost = H.lost;
+  flight = H.flight;
   cleaning = inl (wound_way w);
   remembers = H.remembers;
   chunks = H.chunks;

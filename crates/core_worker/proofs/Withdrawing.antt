@@ -34,6 +34,7 @@ use Rattle.core_worker.proofs.Dropping.{pointed, pointer_is}
 use Rattle.core_worker.specs.Outbox.{as_told}
 use Rattle.core_worker.proofs.MailKept.{mail_same}
 use Rattle.core_worker.proofs.Freeing.{Frees}
+use Rattle.core_worker.proofs.Flight.{led_on, stopped_flies}
 use Rattle.core_worker.proofs.FreedOrder.{FreesInOrder, room_let_go}
 use Rattle.core_worker.proofs.TakingBack.{Stood, stood, is_freed}
 
@@ -140,9 +141,9 @@ module _ (p : groups.Place) (m : ℕ) (v : View) (w : Worker) (H : Holds p m v w
       leads = leads;
       space = λ r. clash w.stopped stopped r;
       broken = H.broken;
-      whole = λ is. is;
       lost = λ is. clash (is_lost l) is safe;
-      found = λ is. was_safe;
+      flight = led_on v.flying v.broken w.leading w.lost_batch w.stopped H.flight l (stopped_flies l may ∙ sym (stopped_flies w.leading (O.stops stopped))) was_safe;
+      unlost = λ off. off;
       names = λ s r. clash w.stopped stopped r;
     }
 

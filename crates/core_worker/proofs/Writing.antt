@@ -38,7 +38,7 @@ use Rattle.log_standing.specs.NameCounts.{StandingState}
 use Rattle.core_worker.specs.LogNames.{NamesStand}
 use Rattle.core_worker.specs.Supplies.{counted_by, left_in}
 use Rattle.core_worker.proofs.UnderWay.{still_nothing}
-use Rattle.core_worker.specs.Ties.{Leads, HasSpaceFor, is_lost, Holds, Stands}
+use Rattle.core_worker.specs.Ties.{Leads, HasSpaceFor, KeepsFlight, is_lost, Holds, Stands}
 use Rattle.core_worker.specs.Turns.{TakesFor}
 use Rattle.core_worker.proofs.Led.{led_view}
 use Rattle.core_worker.proofs.MailKept.{mail_same}
@@ -115,12 +115,12 @@ placed_led p m v s kept flying taken holds looked took more (Staged n e value) i
 placed_led p m v s kept flying taken holds looked took more (Posted n k lines) is = (is.0, is.1, is.2, is.3, is.4, ⊎_elim (λ full. inl full) (λ none. inr (none.0, more is.0 none.1)) is.5, is.6)
 
 -- the ties of a worker with another log and allocator
-pub holds_wrote : (p : Place) (m : ℕ) (v u : View) (w : Worker) (a : Sets) (log : LogState) (l : Leading) (stopped : Bool) (kept flying : List Entry) (taken : ℕ → ℕ → Option Entry) (holds : Bool) (looked : List Seen) (took : List Entry)
+pub holds_wrote : (p : Place) (m : ℕ) (v u : View) (w : Worker) (a : Sets) (log : LogState) (l : Leading) (stopped lost_batch : Bool) (kept flying : List Entry) (taken : ℕ → ℕ → Option Entry) (holds : Bool) (looked : List Seen) (took : List Entry)
     → u ≡ led_view v kept flying taken holds looked took → ((x : Entry) → In x v.kept → In x kept) → Holds p m v w → Same w.allocator a → AreSets a → log.layout ≡ p.layout → log.part ≡ core_of p m
-    → Leads p m u l → HasSpaceFor (record w { log = log; allocator = a; leading = l; stopped = stopped }) l → (u.broken ≡ true → stopped ≡ true) → (is_lost l ≡ true → stopped ≡ true) → (stopped ≡ false → w.stopped ≡ false) → (w.stopped ≡ true → stopped ≡ true) → (stopped ≡ false → AreChunks p.layout.chunks a log.chunks)
-    → under_way w ≡ Nothing → Holds p m u (record w { log = log; allocator = a; leading = l; stopped = stopped })
-holds_wrote p m v u w a log l stopped kept flying taken holds looked took e more H same sets layout part leads space broken lost running stays chunks none =
-    subst (λ (x : View). Holds p m x (record w { log = log; allocator = a; leading = l; stopped = stopped })) (sym e) (record {
+    → Leads p m u l → HasSpaceFor (record w { log = log; allocator = a; leading = l; stopped = stopped; lost_batch = lost_batch }) l → (u.broken ≡ true → stopped ≡ true) → (is_lost l ≡ true → stopped ≡ true) → KeepsFlight u.flying u.broken l lost_batch stopped → (stopped ≡ false → w.stopped ≡ false) → (w.stopped ≡ true → stopped ≡ true) → (stopped ≡ false → AreChunks p.layout.chunks a log.chunks)
+    → under_way w ≡ Nothing → Holds p m u (record w { log = log; allocator = a; leading = l; stopped = stopped; lost_batch = lost_batch })
+holds_wrote p m v u w a log l stopped lost_batch kept flying taken holds looked took e more H same sets layout part leads space broken lost flight running stays chunks none =
+    subst (λ (x : View). Holds p m x (record w { log = log; allocator = a; leading = l; stopped = stopped; lost_batch = lost_batch })) (sym e) (record {
       place = H.place;
       member = H.member;
       core = H.core;
@@ -152,6 +152,7 @@ holds_wrote p m v u w a log l stopped kept flying taken holds looked took e more
       remembers = λ r. H.remembers (running r);
       chunks = chunks;
       lost = lost;
+      flight = subst (λ (x : View). KeepsFlight x.flying x.broken l lost_batch stopped) e flight;
     })
 
 pub in_chunks : (a : Sets) → AreSets a → (j : ℕ) → is_none (chunk_class a j) ≡ false → j < a.layout.chunks
@@ -245,7 +246,7 @@ module _ (s t : State) (p : Place) (m : ℕ) (v : View) (w : Worker) (a : Sets) 
       fits = subst (λ (y : Frame). y.first + y.words < 2 ^ 64) (sym fr) L.fits;
     });
     licensed = licensed;
-    landed = λ whole still telling. subst (λ (y : View). Licensed p m (grounded y) (cell_now t)) (sym e) (subst (λ (y : View). Licensed p m y (cell_now t)) e (licensed telling));
+    landed = λ unlost telling. subst (λ (y : View). Licensed p m (grounded y) (cell_now t)) (sym e) (subst (λ (y : View). Licensed p m y (cell_now t)) e (licensed telling));
     log = λ running. wrote.stands;
     free = λ running j is telling.
         let was = S.free runs j (same.free j is) (told telling) in

@@ -51,6 +51,7 @@ pub record IsNew (start : CoreStart) (layout : Geometry) (w : Worker) : Type 0 w
   pub own_gone : w.own_gone.items ≡ []
   pub answers : (w.answers.items ≡ []) × (deque_len w.answers ≡ 0)
   pub runs : w.stopped ≡ false
+  pub unlost : w.lost_batch ≡ false
   pub works : w.winds_down ≡ false
   pub fresh : w.accepted ≡ false
 

@@ -1,5 +1,5 @@
 -- What ties a worker to its board and to its region, between two calls.
-use Rattle.std.specs.Prelude.{◌≡◌, ◌≢◌, ◌⊎◌, ℕ, ◌+◌, ◌*◌, ◌<◌, Bool, true, false, [], length, Some, None}
+use Rattle.std.specs.Prelude.{◌≡◌, ◌≢◌, ◌⊎◌, ℕ, ◌+◌, ◌*◌, ◌<◌, Bool, true, false, List, [], length, Some, None}
 use Rattle.group_laws.specs.declared.group_sizes.TheConstants.{SLOTS}
 use Rattle.chunk_map.specs.declared.layout_sizes.TheConstants.{CLASS_FACTOR}
 use Rattle.pm_region.specs.State.{State, IsTelling, cell_now}
@@ -10,6 +10,7 @@ use Rattle.core_index.specs.Index.{known_at, room_at}
 use Rattle.core_index.specs.Records.{is_forgettable}
 use Rattle.lazy_alloc.specs.Sets.{AreSets, chunk_is_free, chunk_class, chunk_is_due}
 use Rattle.lazy_alloc.specs.Written.{PartLies}
+use Rattle.log_entry.specs.declared.entry.Entry.{Entry}
 use Rattle.recover.specs.Starts.{IsSpelledIndex}
 use Rattle.group_laws.specs.Places.{Place, IsPlace, members, core_of, owner}
 use Rattle.group_laws.specs.MemberViews.{View}
@@ -17,7 +18,8 @@ use Rattle.licence.specs.Licence.{Licensed, grounded}
 use Rattle.group_board.specs.Seats.{SeatAt}
 use Rattle.batch_leader.specs.declared.batch_buffer.BatchBuffer.{BatchBuffer}
 use Rattle.batch_leader.specs.Rounds.{words_in}
-use Rattle.batch_leader.specs.Leading.{Collects, IsBatchOf, IsCertain, IsLost, Suits, HasSpace}
+use Rattle.batch_leader.specs.Leading.{Collects, IsBatchOf, IsCertain, IsLost, Suits, HasSpace, taken_by}
+use Rattle.batch_leader.specs.TakenChanges.{entries_in}
 use Rattle.core_worker.specs.declared.types.Leading.{Leading}
 use Rattle.core_worker.specs.declared.types.Leading.TheVariants as leads
 use Rattle.group_laws.specs.declared.types.Pending.{Pending}
@@ -69,6 +71,22 @@ is_lost (leads.Persisted x) = false
 is_lost (leads.Failed x) = true
 is_lost leads.Between = false
 
+-- what is in flight of what the core leads: what it took and has not written
+abbrev pub in_flight : Leading → List Entry
+in_flight (leads.Nothing buffer) = []
+in_flight (leads.Collecting c) = entries_in (taken_by c)
+in_flight (leads.Batch b) = entries_in b.changes.taken.items
+in_flight (leads.Persisted x) = []
+in_flight (leads.Failed x) = []
+in_flight leads.Between = []
+
+-- Until a batch of the core's own is lost, just what it leads and has not written is in flight, whatever other leaders fail. A lost batch stops the core; its changes are still to be given back as failed, or one was.
+pub record KeepsFlight (flying : List Entry) (broken : Bool) (leading : Leading)
+    (lost_batch stopped : Bool) : Type 0 where
+  pub led : lost_batch ≡ false → flying ≡ in_flight leading
+  pub stops : lost_batch ≡ true → stopped ≡ true
+  pub fails : lost_batch ≡ true → (broken ≡ true) ⊎ (is_lost leading ≡ true)
+
 -- The worker is that of member m, and its places, blocks, keys and what it leads are what the view has.
 pub record Holds (p : Place) (m : ℕ) (v : View) (w : Worker) : Type 0 where
   pub place : IsPlace p
@@ -105,6 +123,7 @@ pub record Holds (p : Place) (m : ℕ) (v : View) (w : Worker) : Type 0 where
   -- a core that failed an entry, took one back as failed or could not write a batch has stopped
   pub broken : v.broken ≡ true → w.stopped ≡ true
   pub lost : is_lost w.leading ≡ true → w.stopped ≡ true
+  pub flight : KeepsFlight v.flying v.broken w.leading w.lost_batch w.stopped
   -- no cleaning is under way, or one with which its turns go on
   pub cleaning : KeepsCleaning p m v w
   -- until the core stops, no key has a record that is to be forgotten, but while a change of it is out
@@ -113,12 +132,11 @@ pub record Holds (p : Place) (m : ℕ) (v : View) (w : Worker) : Type 0 where
   -- until the core stops, each chunk of its part is free in the allocator, Data there, or one of the log's
   pub chunks : w.stopped ≡ false → AreChunks p.layout.chunks w.allocator w.log.chunks
 
--- Each image of the part is licensed; until a batch fails, no image has an entry that isn't certain. Until the core stops, its log stands, and each chunk is certainly what allocator and log have it as.
+-- Each image of the part is licensed; until a batch of the core's own is lost, no image has an entry that isn't certain. Until the core stops, its log stands, and each chunk is certainly what allocator and log have it as.
 pub record Stands (s : State) (p : Place) (m : ℕ) (v : View) (w : Worker) : Type 0 where
   pub lies : PartLies s.frame w.allocator
   pub licensed : IsTelling s → Licensed p m v (cell_now s)
-  pub landed : v.broken ≡ false → is_lost w.leading ≡ false → IsTelling s
-      → Licensed p m (grounded v) (cell_now s)
+  pub landed : w.lost_batch ≡ false → IsTelling s → Licensed p m (grounded v) (cell_now s)
   pub log : w.stopped ≡ false → StandsIn s w.log
   pub free : w.stopped ≡ false → (j : ℕ) → chunk_is_free w.allocator j ≡ true → IsTelling s
       → (tail_of w.log.chunks j ≡ None) × Surely (cell_now s (first_of w.log j)) 0

@@ -177,6 +177,7 @@ pub record LosesBatch (a b : Moment) : Type 0 where
   pub leads_now : b.worker.leading ≡ leads.Failed lost
   pub gives : lost.left.taken.items ≡ batch.changes.taken.items
   pub stopped : b.worker.stopped ≡ true
+  pub noted : b.worker.lost_batch ≡ true
   pub stands : length b.worker.standing.entries
       ≤ length a.worker.standing.entries + length batch.changes.taken.items
   pub view : b.view ≡ a.view
@@ -186,6 +187,7 @@ pub record LosesBatch (a b : Moment) : Type 0 where
     leading = b.worker.leading;
     standing = b.worker.standing;
     stopped = true;
+    lost_batch = true;
   }
 
 -- Item 3: the next change is given back. With the last one the core leads no more.

@@ -25,7 +25,7 @@ ghost use Rattle.store_image.specs.Facts.{In};
 ghost use Rattle.group_laws.specs.Places.{Place as PlaceOf};
 ghost use Rattle.group_laws.specs.MemberViews.{View};
 ghost use Rattle.core_worker.specs.declared.worker.Worker.{Worker};
-ghost use Rattle.core_worker.specs.Ties.{Holds, Stands, is_lost};
+ghost use Rattle.core_worker.specs.Ties.{Holds, Stands};
 
 use core_log::CoreLog;
 use group_board::Board;
@@ -113,7 +113,7 @@ pub fn every_log()
     ensures others { (s : State) (p : PlaceOf) (m : ℕ) (v : View) (w : Worker) → Holds p m v w
         → Stands s p m v w → w.stopped ≡ false → NoneElse s w.log }
     ensures agrees { (s : State) (p : PlaceOf) (m : ℕ) (v : View) (w : Worker) → Holds p m v w
-        → Stands s p m v w → w.stopped ≡ false → v.broken ≡ false → is_lost w.leading ≡ false
+        → Stands s p m v w → w.stopped ≡ false
         → ((e f : Entry) → In e v.kept → In f v.kept → e.key ≡ f.key → e.version ≡ f.version
         → e ≡ f) → IsTelling s → AgreesIn s w.log }
 {}

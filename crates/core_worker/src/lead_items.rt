@@ -285,6 +285,7 @@ impl Worker {
                     }
                     Err(lost) => {
                         self.stopped = true;
+                        self.lost_batch = true;
                         self.leading = Leading::Failed(lost);
                     }
                 }

@@ -92,6 +92,7 @@ impl Worker {
             own_gone: Vec::new(alloc),
             answers: VecDeque::new(alloc),
             stopped: false,
+            lost_batch: false,
             winds_down: false,
             accepted: false,
         })

@@ -4,10 +4,10 @@ use Rattle.group_laws.specs.Runs as runs
 use Rattle.group_laws.specs.MemberViews.{View}
 use Rattle.batch_leader.specs.GivingBack.{failed}
 use Rattle.core_worker.specs.declared.types.Leading.TheVariants as leads
-use Rattle.core_worker.specs.Ties.{is_lost}
+use Rattle.core_worker.specs.Ties.{in_flight, is_lost}
 use Rattle.core_worker.proofs.LeadTies.{led_here, leads_of}
 use Rattle.core_worker.proofs.Led.{failed_by, failed_stands}
-use Rattle.core_worker.proofs.Giving.{gives_some, leads_lost, lost_space}
+use Rattle.core_worker.proofs.Giving.{gives_some, leads_lost, lost_space, lost_flies}
 use Rattle.core_worker.proofs.Made.{one_step}
 use Rattle.core_worker.proofs.LeftItems.{fails_lower}
 use Rattle.batch_leader.proofs.Clients.{turn_of_few}
@@ -27,6 +27,7 @@ returns-clause-holds g c =
     (leads_of seat u c.still_lost.result (leads_lost seat u c.fail_one-failed.new.self.left.taken.items c.still_lost.result left c.fail_one-failed.ensures.lost (ap (λ (x : View). x.holds) gave.view ∙ had.1) (ap (λ (x : View). x.broken) gave.view)))
     (lost_space c.args.self.now c.fail_one-failed.new.self.left.taken.items c.still_lost.result left)
     (c.requires.holds.lost (ap is_lost (sym c.in-Failed.ensures.value)))
+    (lost_flies c.fail_one-failed.new.self.left.taken.items c.still_lost.result left ∙ ap in_flight c.in-Failed.ensures.value)
 
 pub returns-clause-stands : goal.returns-clause-stands
 returns-clause-stands g c s S =

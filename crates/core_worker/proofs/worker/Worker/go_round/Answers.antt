@@ -10,6 +10,7 @@ use Rattle.core_worker.specs.Ties.{LeadsAt, is_lost, HasSpaceFor}
 use Rattle.core_worker.specs.Status.{is_leading}
 use Rattle.core_worker.proofs.CleaningKept.{leads_none}
 use Rattle.core_worker.proofs.LeadTies.{leads_of}
+use Rattle.core_worker.proofs.Flight.{led_flies, runs_unlost, unlost_keeps}
 use Rattle.core_worker.proofs.Led.{holds_by, stands_by, stands_taking, runs_whole}
 use Rattle.core_worker.proofs.Rounds.{released_leads, released_space, released_not_lost}
 use Rattle.group_laws.specs.Runs as runs
@@ -27,20 +28,24 @@ returns-in-Took-clause-holds g c =
     let p = (g.B.Board.seat c.args.board.now).place in
     let m = (g.B.Board.seat c.args.board.now).number in
     let v = g.B.Board.view c.args.board.now in
+    let w = c.args.self.now in
+    let l = leads.Collecting c.collect.new.self in
     let u = g.B.Board.view c.collect.new.board in
     let t = c.in-Took.ensures.went.0 in
     holds_by p m v u c.args.self.now (v.flying ++ t.change.change.entry ∷ []) (put2 v.taken t.change.member t.change.slot (Some t.change.change.entry)) v.holds [] (v.took ++ t.change.change.entry ∷ []) (leads.Collecting c.collect.new.self) t.view c.requires.holds
     (leads_of (g.B.Board.seat c.args.board.now) u (leads.Collecting c.collect.new.self) c.in-Took.ensures.collects) (inl (leads_none p m v c.args.self.now c.requires.holds.cleaning (ap is_leading (sym c.in-Collecting.ensures.value)))) (λ runs. subst (λ (r : Room). Suits r c.collect.new.self) c.requires.room c.in-Took.ensures.suits) (λ e. absurd (cc e))
+    (unlost_keeps u.flying u.broken l w.lost_batch w.stopped (runs_unlost v.flying v.broken w.leading w.lost_batch w.stopped c.requires.holds.flight c.requires.runs) (led_flies (g.B.Board.seat c.args.board.now) u l c.in-Took.ensures.collects (ap (λ (x : View). x.broken) t.view ∙ runs_whole p m v w c.requires.holds c.requires.runs) refl))
 
 pub returns-in-Took-clause-stands : goal.returns-in-Took-clause-stands
 returns-in-Took-clause-stands g c s S =
     let p = (g.B.Board.seat c.args.board.now).place in
     let m = (g.B.Board.seat c.args.board.now).number in
     let v = g.B.Board.view c.args.board.now in
+    let w = c.args.self.now in
     let u = g.B.Board.view c.collect.new.board in
     let t = c.in-Took.ensures.went.0 in
     stands_taking s p m v u c.args.self.now (v.flying ++ t.change.change.entry ∷ []) (put2 v.taken t.change.member t.change.slot (Some t.change.change.entry)) [] (v.took ++ t.change.change.entry ∷ []) (leads.Collecting c.collect.new.self) t.view
-    (runs_whole p m v c.args.self.now c.requires.holds c.requires.runs) (ap is_lost (sym c.in-Collecting.ensures.value)) S
+    (runs_unlost v.flying v.broken w.leading w.lost_batch w.stopped c.requires.holds.flight c.requires.runs) S
 
 pub returns-in-Took-clause-went : goal.returns-in-Took-clause-went
 returns-in-Took-clause-went g c =
@@ -59,6 +64,7 @@ returns-in-RoundOver-clause-holds g c =
     let p = (g.B.Board.seat c.args.board.now).place in
     let m = (g.B.Board.seat c.args.board.now).number in
     let v = g.B.Board.view c.args.board.now in
+    let w = c.args.self.now in
     let mid = g.B.Board.view c.collect.new.board in
     let u = g.B.Board.view c.release.new.board in
     let kept = c.in-RoundOver.ensures.went.0 in
@@ -68,11 +74,13 @@ returns-in-RoundOver-clause-holds g c =
     let led = c.led_by.ensures in
     let released = subst (λ (q : SeatAt). IsReleased q u c.collect.new.self c.release.result) seat c.release.ensures.released in
     let suits = subst (λ (r : Room). Suits r c.collect.new.self) c.requires.room c.collect.ensures.suits in
+    let leads_now : LeadsAt here u c.led_by.result = subst (LeadsAt here u) (sym led) (released_leads here u c.collect.new.self c.release.result released (ap (λ (x : View). x.holds) view)) in
     holds_by p m v u c.args.self.now v.flying v.taken false [] v.took c.led_by.result view c.requires.holds
-    (leads_of here u c.led_by.result (subst (LeadsAt here u) (sym led) (released_leads here u c.collect.new.self c.release.result released (ap (λ (x : View). x.holds) view))))
+    (leads_of here u c.led_by.result leads_now)
     (inl (leads_none p m v c.args.self.now c.requires.holds.cleaning (ap is_leading (sym c.in-Collecting.ensures.value))))
     (λ runs. subst (HasSpaceFor c.args.self.now) (sym led) (released_space c.args.self.now here u c.collect.new.self c.release.result released suits))
     (λ e. absurd (let both : true ≡ false = sym e ∙ ap is_lost led ∙ released_not_lost c.release.result in cc both))
+    (unlost_keeps u.flying u.broken c.led_by.result w.lost_batch w.stopped (runs_unlost v.flying v.broken w.leading w.lost_batch w.stopped c.requires.holds.flight c.requires.runs) (led_flies here u c.led_by.result leads_now (ap (λ (x : View). x.broken) view ∙ runs_whole p m v w c.requires.holds c.requires.runs) (ap is_lost led ∙ released_not_lost c.release.result)))
 
 pub returns-in-RoundOver-clause-stands : goal.returns-in-RoundOver-clause-stands
 returns-in-RoundOver-clause-stands g c s S =
@@ -81,7 +89,7 @@ returns-in-RoundOver-clause-stands g c s S =
     let v = g.B.Board.view c.args.board.now in
     let u = g.B.Board.view c.release.new.board in
     let kept = c.in-RoundOver.ensures.went.0 in
-    stands_by s p m v u c.args.self.now v.taken false [] v.took c.led_by.result (c.release.ensures.view ∙ ap after_unlock kept.view.1) (λ e. ap is_lost (sym c.in-Collecting.ensures.value)) S
+    stands_by s p m v u c.args.self.now v.taken false [] v.took c.led_by.result (c.release.ensures.view ∙ ap after_unlock kept.view.1) S
 
 pub returns-in-RoundOver-clause-went : goal.returns-in-RoundOver-clause-went
 returns-in-RoundOver-clause-went g c =

@@ -33,5 +33,6 @@ returns c =
       answers = (c.new-2.ensures.items, c.new-2.ensures.len);
       runs = refl;
       works = refl;
+      unlost = refl;
       fresh = refl;
     }

@@ -1,4 +1,4 @@
-use Rattle.std.proofs.Common.{◌≡◌, inl, ℕ, not, Bool, true, false, [], ◌∷◌, ◌++◌, Option, refl, sym, ◌∙◌, ap, subst, None}
+use Rattle.std.proofs.Common.{◌≡◌, inl, inr, ℕ, not, Bool, true, false, [], ◌∷◌, ◌++◌, Option, refl, sym, ◌∙◌, ap, subst, None}
 use Rattle.std.specs.Prelude.{◌+◌, ◌<◌, List, is_some}
 use Rattle.std.specs.List.{AllByRecursion}
 use Rattle.store_image.specs.Facts.{In}
@@ -28,6 +28,7 @@ use Rattle.group_laws.specs.Runs as runs
 use Rattle.core_worker.specs.Status.{is_leading}
 use Rattle.core_worker.proofs.UnderWay.{none_standing}
 use Rattle.core_worker.proofs.CleaningKept.{leads_none}
+use Rattle.core_worker.proofs.Flight.{runs_unlost, unlost_keeps}
 use Rattle.core_worker.proofs.LeadTies.{led_here, leads_of}
 use Rattle.core_worker.proofs.Made.{one_step}
 use Rattle.core_worker.proofs.ChunksKept.{chunks_wrote}
@@ -72,13 +73,13 @@ returns-in-Ok-clause-holds g c =
     let room = room_ready s p m v w c.requires.stands H.sets (H.allocator_layout ∙ sym H.log_layout) c.requires.runs b.fresh b.own_lines (words_in ts) c.chunk_for-fresh.new.allocator o (subst (HasSpaceFor w) (sym c.in-Batch.ensures.value) (H.space c.requires.runs)) takes in
     let entries : HoldsEntries (spelled ts) = record { entries = entries_in ts; words = refl; batch = batch_of p ts had.0.out.each b.some } in
     let opened : o ≡ None → is_some w.log.opened ≡ true = λ none. room_opens w.log (spelled ts) entries (subst (λ (x : Option ℕ). HasRoom s w.log (words_in ts) x) none room) in
-    let wrote = holds_wrote p m v u w c.chunk_for-fresh.new.allocator c.persist.new.log (leads.Persisted c.in-Ok.done) w.stopped (v.kept ++ v.flying) [] v.taken v.holds [] v.took view (λ x i. In-append_left x v.kept v.flying i) H
+    let wrote = holds_wrote p m v u w c.chunk_for-fresh.new.allocator c.persist.new.log (leads.Persisted c.in-Ok.done) w.stopped w.lost_batch (v.kept ++ v.flying) [] v.taken v.holds [] v.took view (λ x i. In-append_left x v.kept v.flying i) H
     (takes_same b.fresh w.allocator c.chunk_for-fresh.new.allocator c.chunk_for-fresh.result takes) c.chunk_for-fresh.ensures.sets c.in-Ok.ensures.log.layout c.in-Ok.ensures.log.part
     (leads_of seat u (leads.Persisted c.in-Ok.done) (gives.1, ap (λ (x : View). x.holds) view ∙ had.1, (λ whole. ap (λ (x : View). x.flying) view), (λ none. b.some (sym gives.0 ∙ none))))
-    tt (λ broken. absurd (let both : true ≡ false = sym broken ∙ ap (λ (x : View). x.broken) view ∙ had.0.whole in cc both)) (λ lost. absurd (cc lost)) (λ runs. runs) (λ stopped. stopped)
+    tt (λ broken. absurd (let both : true ≡ false = sym broken ∙ ap (λ (x : View). x.broken) view ∙ had.0.whole in cc both)) (λ lost. absurd (cc lost)) (unlost_keeps u.flying u.broken (leads.Persisted c.in-Ok.done) w.lost_batch w.stopped (runs_unlost v.flying v.broken w.leading w.lost_batch w.stopped H.flight c.requires.runs) (ap (λ (x : View). x.flying) view)) (λ runs. runs) (λ stopped. stopped)
     (λ runs. chunks_wrote p.layout.chunks b.fresh w.allocator c.chunk_for-fresh.new.allocator c.chunk_for-fresh.result w.log c.persist.new.log (padded (spelled ts)) H.sets takes (λ none. ap is_some (open_has w.log (c.requires.stands.log c.requires.runs).own (opened none))) c.in-Ok.ensures.wrote.log_is (H.chunks c.requires.runs)) (leads_none p m v w H.cleaning (ap is_leading (sym c.in-Batch.ensures.value))) in
     holds_renewed p m u (record w { log = c.persist.new.log; allocator = c.chunk_for-fresh.new.allocator; leading = leads.Persisted c.in-Ok.done; places = c.unpledge.new.places }) c.note_names.new.standing w.winds_down (λ on. on) (inl (none_standing w c.note_names.new.standing (leads_none p m v w H.cleaning (ap is_leading (sym c.in-Batch.ensures.value)))))
-    (holds_lowered p m u (record w { log = c.persist.new.log; allocator = c.chunk_for-fresh.new.allocator; leading = leads.Persisted c.in-Ok.done; stopped = w.stopped }) wrote c.unpledge.new.places c.unpledge.ensures.count (λ s. is_some (taken_in ts m s))
+    (holds_lowered p m u (record w { log = c.persist.new.log; allocator = c.chunk_for-fresh.new.allocator; leading = leads.Persisted c.in-Ok.done; stopped = w.stopped; lost_batch = w.lost_batch }) wrote c.unpledge.new.places c.unpledge.ensures.count (λ s. is_some (taken_in ts m s))
     (λ s lt. c.unpledge.ensures.each s lt ∙ (λ i. unpledged_if (is_some (taken_in (gives.0 i) (own i) s)) (place_at w.places.items s)))
     (certain_own p m v u w H ts had.0.unlogged (subst (λ (rs : List Taken). AllByRecursion (λ t. In t.change.entry u.kept) rs) gives.0 gives.1.kept) (ap (λ (x : View). x.pending) view)) (λ runs. tt))
 
@@ -122,11 +123,11 @@ returns-in-Err-clause-holds g c =
     let view = c.in-Err.ensures.view in
     let gives = c.in-Err.ensures.gives in
     let takes = subst (λ (f : Bool). TakesFor f w.allocator c.chunk_for-fresh.new.allocator c.chunk_for-fresh.result) c.needs_chunk.ensures c.chunk_for-fresh.ensures.takes in
-    holds_renewed p m u (record w { log = c.persist.new.log; allocator = c.chunk_for-fresh.new.allocator; leading = leads.Failed c.in-Err.lost; stopped = true }) c.note_names.new.standing w.winds_down (λ on. on) (inl refl)
-    (holds_wrote p m v u w c.chunk_for-fresh.new.allocator c.persist.new.log (leads.Failed c.in-Err.lost) true v.kept v.flying v.taken v.holds v.looked v.took view (λ x i. i) H
+    holds_renewed p m u (record w { log = c.persist.new.log; allocator = c.chunk_for-fresh.new.allocator; leading = leads.Failed c.in-Err.lost; stopped = true; lost_batch = true }) c.note_names.new.standing w.winds_down (λ on. on) (inl refl)
+    (holds_wrote p m v u w c.chunk_for-fresh.new.allocator c.persist.new.log (leads.Failed c.in-Err.lost) true true v.kept v.flying v.taken v.holds v.looked v.took view (λ x i. i) H
     (takes_same b.fresh w.allocator c.chunk_for-fresh.new.allocator c.chunk_for-fresh.result takes) c.chunk_for-fresh.ensures.sets c.in-Err.ensures.log.layout c.in-Err.ensures.log.part
     (leads_of seat u (leads.Failed c.in-Err.lost) (gives.1, ap (λ (x : View). x.holds) view ∙ had.1, (λ none. b.some (sym gives.0 ∙ none))))
-    tt (λ broken. refl) (λ lost. refl) (λ runs. absurd (cc runs)) (λ stopped. refl) (λ runs. absurd (cc runs)) (leads_none p m v w H.cleaning (ap is_leading (sym c.in-Batch.ensures.value))))
+    tt (λ broken. refl) (λ lost. refl) (record { led = λ off. absurd (cc off); stops = λ on. refl; fails = λ on. inr refl }) (λ runs. absurd (cc runs)) (λ stopped. refl) (λ runs. absurd (cc runs)) (leads_none p m v w H.cleaning (ap is_leading (sym c.in-Batch.ensures.value))))
 
 pub returns-in-Ok-clause-made : goal.returns-in-Ok-clause-made
 returns-in-Ok-clause-made g c =
@@ -209,6 +210,7 @@ returns-in-Err-clause-persists g c = record {
   leads_now = refl;
   gives = c.in-Err.ensures.gives.0;
   stopped = refl;
+  noted = refl;
   stands = c.note_names.ensures.count;
   view = c.in-Err.ensures.view;
   same = refl;
@@ -228,7 +230,7 @@ returns-in-Ok-clause-less g c =
 pub returns-in-Err-clause-less : goal.returns-in-Err-clause-less
 returns-in-Err-clause-less g c =
     let w = c.args.self.now in
-    let new = record w { log = c.persist.new.log; allocator = c.chunk_for-fresh.new.allocator; leading = leads.Failed c.in-Err.lost; standing = c.note_names.new.standing; stopped = true } in
+    let new = record w { log = c.persist.new.log; allocator = c.chunk_for-fresh.new.allocator; leading = leads.Failed c.in-Err.lost; standing = c.note_names.new.standing; stopped = true; lost_batch = true } in
     loses_lower (g.B.Board.whole c.args.board.now) (g.B.Board.whole c.persist.new.board) (record { worker = w; view = g.B.Board.view c.args.board.now }) (record { worker = new; view = g.B.Board.view c.persist.new.board }) (returns-in-Err-clause-persists g c) c.in-Err.ensures.made
 
 pub returns-in-Ok-clause-steps : goal.returns-in-Ok-clause-steps
