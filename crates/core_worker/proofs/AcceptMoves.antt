@@ -32,7 +32,7 @@ use Rattle.core_worker.specs.declared.types.Place.TheVariants.{Free, Staged}
 use Rattle.core_worker.specs.OwnPlaces.{place_at, key_in, is_busy, Replaces}
 use Rattle.core_worker.specs.Supplies.{supply_of, lacks, why, free_blocks}
 use Rattle.core_worker.specs.Refusals.{reply_to}
-use Rattle.core_worker.specs.Answering.{IsCause, IsSaid, AddsAnswers}
+use Rattle.core_worker.specs.Answering.{IsCause, IsSaid, AddsAnswers, ShowsCause}
 use Rattle.core_worker.proofs.Given.{said_same, given_by, adds_none, adds_one, answer_untold}
 use Rattle.core_worker.specs.Beginning.{answers_of, answer_with, OnlyBegins, IsAnswered, IsStaged, GoesOn, BeginsBy, BeginsAs, Begins}
 use Rattle.core_worker.specs.Ties.{Tie}
@@ -44,7 +44,7 @@ use Rattle.engine_laws.specs.RefusalCauses.{is_too_long}
 use Rattle.engine_laws.proofs.Clients.{raised_low, quiet_refuses, at_least_same}
 use Rattle.store_image.proofs.Clients.{in_back}
 use Rattle.core_worker.proofs.StockFacts.{Stages, still_in, still_stock, stages_spend, staged_stock, stock_small, why_short}
-use Rattle.core_worker.proofs.CauseFacts.{lacks_as_stock, stopped_causeless, answer_causeless, answer_not_full, why_cause, why_full, stock_same}
+use Rattle.core_worker.proofs.CauseFacts.{lacks_as_stock, stopped_causeless, answer_causeless, answer_not_full, why_cause, why_full, why_shows, stock_same}
 use Rattle.core_worker.proofs.HandKeys.{none_for}
 use Rattle.core_worker.proofs.HandPlaces.{held_at, held_beside}
 use Rattle.core_worker.proofs.Pointers.{free_is}
@@ -160,11 +160,11 @@ module _ (s : State) (w b : Worker) (n : ℕ) (r : Request) (works : w.winds_dow
     none_waits = waits_before (key_of r) ∙ ap (map asked_by) (T.holds.waits works (key_of r) idle)
 
     -- it is answered
-    fixes_answered : (a given : Reply) (cause : Option Shortage) → IsSaid (IsTelling s) r a given → IsCause a cause → answers_of b ≡ answers_of w ++ answer_with n given cause ∷ [] → b.stopped ≡ w.stopped → b.places.items ≡ w.places.items → MayReply r (x.view.cell (key_of r)) false a → cell_left r a (x.view.cell (key_of r)) ≡ x.view.cell (key_of r)
+    fixes_answered : (a given : Reply) (cause : Option Shortage) → IsSaid (IsTelling s) r a given → IsCause a cause → ShowsCause r cause → answers_of b ≡ answers_of w ++ answer_with n given cause ∷ [] → b.stopped ≡ w.stopped → b.places.items ≡ w.places.items → MayReply r (x.view.cell (key_of r)) false a → cell_left r a (x.view.cell (key_of r)) ≡ x.view.cell (key_of r)
         → (w.stopped ≡ true → a ≡ replies.Stopped) → (a ≡ replies.Stopped → w.stopped ≡ true)
         → HasCause x.place.layout (x.view.last (key_of r)) r a → (a ≡ replies.Full → LacksRoom x.place.layout (stock_of w) r) → stock_of b ≡ stock_of w → Fixes (record { number = n; request = r; reply = a; refusal = cause } ∷ [])
-    fixes_answered a given cause said because answers stopped places may left by_stop stops has full stock = record {
-      answers = adds_one (IsTelling s) (answers_of w) (answers_of b) (fixed_to n r a cause) (answer_with n given cause) answers (given_by (IsTelling s) n r a given cause said because);
+    fixes_answered a given cause said because shows answers stopped places may left by_stop stops has full stock = record {
+      answers = adds_one (IsTelling s) (answers_of w) (answers_of b) (fixed_to n r a cause) (answer_with n given cause) answers (given_by (IsTelling s) n r a given cause said because shows);
       stopped = stopped;
       keys = λ k own. ⊎_elim
           (λ same. subst (λ j. AnswersKey x.view x.view (hands_of x.view w) (hands_of x.view b) j (requests_for j ((n, r) ∷ [])) (fixed_of j (fixed_to n r a cause ∷ []))) (sym same)
@@ -276,18 +276,18 @@ module _ (s : State) (w b : Worker) (n : ℕ) (r : Request) (works : w.winds_dow
     last_is : u.stopped ≡ false → last_of (known_at u.index (key_of r)) ≡ x.view.last (key_of r)
     last_is runs = ap last_of (B.records (key_of r)) ∙ sym (T.holds.keys (key_of r) T.own (inl (stopped_before ∙ runs))).last
 
-    answered : (a given : Reply) (cause : Option Shortage) → IsSaid (IsTelling s) r a given → IsCause a cause → IsAnswered u b (answer_with n given cause) → MayReply r cell false a → cell_left r a cell ≡ cell → (w.stopped ≡ true → a ≡ replies.Stopped) → (a ≡ replies.Stopped → w.stopped ≡ true)
+    answered : (a given : Reply) (cause : Option Shortage) → IsSaid (IsTelling s) r a given → IsCause a cause → ShowsCause r cause → IsAnswered u b (answer_with n given cause) → MayReply r cell false a → cell_left r a cell ≡ cell → (w.stopped ≡ true → a ≡ replies.Stopped) → (a ≡ replies.Stopped → w.stopped ≡ true)
         → HasCause x.place.layout (x.view.last (key_of r)) r a → (a ≡ replies.Full → LacksRoom x.place.layout (stock_of w) r) → (fs : List Fixed) × Fixes fs
-    answered a given cause said because is may left by_stop stops has full = (
+    answered a given cause said because shows is may left by_stop stops has full = (
       record { number = n; request = r; reply = a; refusal = cause } ∷ [],
-      fixes_answered idle in_hand queue a given cause said because (is.answers ∙ ap (λ (xs : List Answer). xs ++ answer_with n given cause ∷ []) B.answers) halted (is.places ∙ ap (λ (y : Worker). y.places.items) B.rest) may left by_stop stops has full (stock_same u b is.same.log is.allocator is.same.leading ∙ stock_is),
+      fixes_answered idle in_hand queue a given cause said because shows (is.answers ∙ ap (λ (xs : List Answer). xs ++ answer_with n given cause ∷ []) B.answers) halted (is.places ∙ ap (λ (y : Worker). y.places.items) B.rest) may left by_stop stops has full (stock_same u b is.same.log is.allocator is.same.leading ∙ stock_is),
     )
 
     runs_false : (d : Bool) → u.stopped ≡ d → d ≡ false → (a : Reply) → w.stopped ≡ true → a ≡ replies.Stopped
     runs_false d e f a stopped = absurd (let both : true ≡ false = sym stopped ∙ stopped_before ∙ e ∙ f in cc both)
 
     goes_on : (c : Bool) → is_too_long u.layout r ≡ false → u.stopped ≡ false → is_change r cell ≡ c → GoesOn (IsTelling s) c u b cell n r → (fs : List Fixed) × Fixes fs
-    goes_on false short runs e is = answered (answer_to r cell) is.0 None is.1 (answer_untold r cell e) is.2 (inl refl) (still_left r cell e) (runs_false false runs refl (answer_to r cell)) (λ same. absurd (still_runs r cell same)) (answer_causeless x.place.layout (x.view.last (key_of r)) r cell e) (λ full. absurd (answer_not_full r cell e full))
+    goes_on false short runs e is = answered (answer_to r cell) is.0 None is.1 (answer_untold r cell e) tt is.2 (inl refl) (still_left r cell e) (runs_false false runs refl (answer_to r cell)) (λ same. absurd (still_runs r cell same)) (answer_causeless x.place.layout (x.view.last (key_of r)) r cell e) (λ full. absurd (answer_not_full r cell e full))
     goes_on true short runs e is = (
       [],
       fixes_staged idle in_hand queue (is.answers ∙ B.answers) halted (stopped_before ∙ runs) u (ap (λ (y : Worker). y.places) B.rest) is
@@ -297,12 +297,12 @@ module _ (s : State) (w b : Worker) (n : ℕ) (r : Request) (works : w.winds_dow
 
     by_cause : (o : Option Shortage) → u.stopped ≡ false → why u.layout (supply_of u) u.allocator (last_of (known_at u.index (key_of r))) cell r ≡ o → BeginsBy (IsTelling s) o u b cell n r → (fs : List Fixed) × Fixes fs
     by_cause None runs e is = goes_on (is_change r cell) (why_short u.layout (supply_of u) u.allocator (last_of (known_at u.index (key_of r))) cell r e) runs refl is
-    by_cause (Some c) runs e is = answered (reply_to c) (reply_to c) (Some c) (said_same (IsTelling s) r (reply_to c)) refl is (may_refuse_for u.layout (supply_of u) u.allocator (last_of (known_at u.index (key_of r))) cell r c e) (left_by_refusal r cell c) (runs_false false runs refl (reply_to c)) (λ same. absurd (not_stopped c same))
+    by_cause (Some c) runs e is = answered (reply_to c) (reply_to c) (Some c) (said_same (IsTelling s) r (reply_to c)) refl (why_shows u.layout (supply_of u) u.allocator (last_of (known_at u.index (key_of r))) cell r c e) is (may_refuse_for u.layout (supply_of u) u.allocator (last_of (known_at u.index (key_of r))) cell r c e) (left_by_refusal r cell c) (runs_false false runs refl (reply_to c)) (λ same. absurd (not_stopped c same))
         (subst (λ (l : Geometry). HasCause l (x.view.last (key_of r)) r (reply_to c)) layout_is (subst (λ n. HasCause u.layout n r (reply_to c)) (last_is runs) (why_cause u.layout (supply_of u) u.allocator (last_of (known_at u.index (key_of r))) cell r c e)))
         (λ full. subst (λ (t : Stock). LacksRoom x.place.layout t r) stock_is (subst (λ (l : Geometry). LacksRoom l (stock_of u) r) layout_is (lacks_as_stock u.layout u r (why_full u.layout (supply_of u) u.allocator (last_of (known_at u.index (key_of r))) cell r c e full))))
 
     by_stop : (d : Bool) → u.stopped ≡ d → BeginsAs (IsTelling s) d u b cell n r → (fs : List Fixed) × Fixes fs
-    by_stop true e is = answered replies.Stopped replies.Stopped None (said_same (IsTelling s) r replies.Stopped) refl is (inr refl) refl (λ s. refl) (λ s. stopped_before ∙ e) (stopped_causeless x.place.layout (x.view.last (key_of r)) r replies.Stopped refl) (λ full. absurd (cc full))
+    by_stop true e is = answered replies.Stopped replies.Stopped None (said_same (IsTelling s) r replies.Stopped) refl tt is (inr refl) refl (λ s. refl) (λ s. stopped_before ∙ e) (stopped_causeless x.place.layout (x.view.last (key_of r)) r replies.Stopped refl) (λ full. absurd (cc full))
     by_stop false e is = by_cause (why u.layout (supply_of u) u.allocator (last_of (known_at u.index (key_of r))) cell r) e refl is
 
   fixes : HoldsOrBegins (IsTelling s) x.view w b n r → (fs : List Fixed) × Fixes fs

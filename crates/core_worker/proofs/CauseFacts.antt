@@ -1,5 +1,5 @@
 -- The cause of a refusal, as whoever runs several workers is told it.
-use Rattle.std.proofs.Common.{◌≡◌, ◌≢◌, ◌⊎◌, inl, inr, ⊎_elim, ℕ, zero, suc, ◌+◌, ◌-◌, ◌/◌, ◌<◌, ◌≤◌, ◌==◌, ◌&&◌, ◌||◌, not, leb, ltb, Bool, true, false, cond, List, [], ◌∷◌, length, Option, Some, None, refl, sym, ◌∙◌, ap, arith}
+use Rattle.std.proofs.Common.{◌≡◌, ◌≢◌, ◌⊎◌, inl, inr, ⊎_elim, ℕ, zero, suc, ◌+◌, ◌-◌, ◌/◌, ◌<◌, ◌≤◌, ◌==◌, ◌&&◌, ◌||◌, not, leb, ltb, Bool, true, false, cond, List, [], ◌∷◌, length, Option, Some, None, refl, sym, ◌∙◌, ap, subst, arith}
 use Rattle.std.specs.Prelude.{find, unwrap_or}
 use Rattle.std.specs.List.{AllByRecursion}
 use Rattle.std.proofs.lemmas.Bool.{ltb-true, ltb-false, leb-true, le-leb, and_parts, and_from, eqb-true, cases_eq, cases_lt}
@@ -16,14 +16,16 @@ use Rattle.store_image.specs.Facts.{In}
 use Rattle.lazy_alloc.specs.Sets.{Sets, free_chunk_count, free_block_count, class_at, PutsBack}
 use Rattle.core_log.specs.Log.{room_of}
 use Rattle.core_room.specs.Lengths.{lines_needed, class_for}
-use Rattle.core_room.specs.RoomRule.{pledged, lacks_room, lacks_block, counts_at}
+use Rattle.core_room.specs.RoomRule.{pledged, lacks_room, lacks_block, leaves_chunk, counts_at}
 use Rattle.core_room.specs.declared.supply.Supply.{Supply}
+use Rattle.core_room.specs.declared.types.Counts.{Counts}
 use Rattle.core_room.specs.declared.types.Shortage.{Shortage}
 use Rattle.core_room.specs.declared.types.Shortage.TheVariants as causes
 use Rattle.engine_laws.specs.FreeStock.{Stock, IsAtLeast, LacksRoom}
 use Rattle.engine_laws.specs.RefusalCauses.{raised, HasCause, HaveCauses}
 use Rattle.core_worker.specs.declared.worker.Worker.{Worker}
 use Rattle.core_worker.specs.Supplies.{supply_of, lacks, why, free_blocks}
+use Rattle.core_worker.specs.Answering.{is_get, lines_asked, class_asked, CountsFor, ShowsNoRoom, ShowsNoBlock, ShowsCause}
 use Rattle.core_worker.specs.Refusals.{reply_to}
 use Rattle.core_worker.specs.Finishing.{PutsBackIf}
 use Rattle.core_worker.specs.WorkerMoves.{awaits_chunk, lines_free, stock_of}
@@ -188,6 +190,48 @@ why_full l s a last cell (Put k v) c e full = by (ltb (l.chunk_bytes / 4 - 8) (l
   by true d p q is = let same : causes.Length (length v) ≡ c = cc is in absurd (let both = ap reply_to same ∙ full in cc both)
   by false true p q is = let same : causes.Versions last ≡ c = cc is in absurd (let both = ap reply_to same ∙ full in cc both)
   by false false p q is = room p (lacks_as s a (lines_needed (length v)) (class_for (length v)) c is).few
+
+-- and its numbers show it
+none_of : (b : Bool) (n : ℕ) → n ≡ 0 → cond b 0 n ≡ 0
+none_of true n e = refl
+none_of false n e = e
+
+room_shows : (s : Supply) (need class free : ℕ) (q : Request) → CountsFor q (counts_at s need class free) → lacks_room s need ≡ true → ShowsNoRoom q (counts_at s need class free)
+room_shows s need class free q asks t = record {
+  asks = asks;
+  lines = ltb-true s.open_lines (pledged s + need) (and_parts (ltb s.open_lines (pledged s + need)) (ltb s.free_chunks 2) t).0;
+  chunks = ltb-true s.free_chunks 2 (and_parts (ltb s.open_lines (pledged s + need)) (ltb s.free_chunks 2) t).1;
+}
+
+block_shows : (s : Supply) (need class free : ℕ) (q : Request) → CountsFor q (counts_at s need class free) → lacks_block s need class free ≡ true → ShowsNoBlock q (counts_at s need class free)
+block_shows s need class free q asks t =
+    let f = block_few s need class free t in
+    let outer = and_parts (not (class == 0) && free == 0) (not (leaves_chunk s.open_lines s.free_chunks (pledged s + need))) t in
+    record {
+      asks = asks;
+      some = f.some;
+      none = none_of (class == 0) free f.none;
+      uncut = not_is (leaves_chunk s.open_lines s.free_chunks (pledged s + need)) outer.1;
+    }
+
+lacks_shows : (s : Supply) (a : Sets) (need class : ℕ) (q : Request) (c : Shortage) → CountsFor q (counts_at s need class (free_blocks a class)) → lacks s a need class ≡ Some c → ShowsCause q (Some c)
+lacks_shows s a need class q c asks e = by (lacks_room s need) (lacks_block s need class (free_blocks a class)) refl refl e where
+  by : (b d : Bool) → lacks_room s need ≡ b → lacks_block s need class (free_blocks a class) ≡ d
+      → cond b (Some (causes.Room (counts_at s need class (free_blocks a class)))) (cond d (Some (causes.Block (counts_at s need class (free_blocks a class)))) None) ≡ Some c → ShowsCause q (Some c)
+  by true d p t is = subst (λ (x : Shortage). ShowsCause q (Some x)) (let same : causes.Room (counts_at s need class (free_blocks a class)) ≡ c = cc is in same) (room_shows s need class (free_blocks a class) q asks p)
+  by false true p t is = subst (λ (x : Shortage). ShowsCause q (Some x)) (let same : causes.Block (counts_at s need class (free_blocks a class)) ≡ c = cc is in same) (block_shows s need class (free_blocks a class) q asks t)
+  by false false p t is = absurd (cc is)
+
+pub why_shows : (l : Geometry) (s : Supply) (a : Sets) (last : ℕ) (cell : Option (List ℕ)) (r : Request) (c : Shortage) → why l s a last cell r ≡ Some c → ShowsCause r (Some c)
+why_shows l s a last cell (Get k) c e = absurd (cc e)
+why_shows l s a last None (Delete k) c e = absurd (cc e)
+why_shows l s a last (Some v) (Delete k) c e = lacks_shows s a 1 0 (Delete k) c (record { change = refl; lines = refl; class = refl }) e
+why_shows l s a last cell (Put k v) c e = by (ltb (l.chunk_bytes / 4 - 8) (length v)) (leb 1048574 last) refl refl e where
+  by : (b d : Bool) → ltb (l.chunk_bytes / 4 - 8) (length v) ≡ b → leb 1048574 last ≡ d
+      → cond b (Some (causes.Length (length v))) (cond d (Some (causes.Versions last)) (lacks s a (lines_needed (length v)) (class_for (length v)))) ≡ Some c → ShowsCause (Put k v) (Some c)
+  by true d p q is = subst (λ (x : Shortage). ShowsCause (Put k v) (Some x)) (let same : causes.Length (length v) ≡ c = cc is in same) refl
+  by false true p q is = subst (λ (x : Shortage). ShowsCause (Put k v) (Some x)) (let same : causes.Versions last ≡ c = cc is in same) (refl, leb-true 1048574 last q)
+  by false false p q is = lacks_shows s a (lines_needed (length v)) (class_for (length v)) (Put k v) c (record { change = refl; lines = refl; class = refl }) is
 
 -- how many lines of the open chunk count
 pub lines_low : (w : Worker) → lines_free w ≤ room_of w.log

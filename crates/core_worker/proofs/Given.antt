@@ -8,7 +8,7 @@ use Rattle.fs_model.specs.Cells.{answer_to, is_change}
 use Rattle.fs_model.specs.Lawful.{is_finish, is_told}
 use Rattle.core_room.specs.declared.types.Shortage.{Shortage}
 use Rattle.core_worker.specs.declared.types.Answer.{Answer}
-use Rattle.core_worker.specs.Answering.{IsCause, IsSaid, IsGiven, AddsAnswers}
+use Rattle.core_worker.specs.Answering.{IsCause, IsSaid, IsGiven, AddsAnswers, ShowsCause}
 use Rattle.core_worker.specs.Beginning.{answer_with}
 use Rattle.core_worker.specs.WorkerMoves.{Fixed}
 
@@ -19,8 +19,8 @@ module _ (Known : Type 0) where
   pub said_is : (q : Request) (r a : Reply) → a ≡ r → IsSaid Known q r a
   said_is q r a e = record { reply = inl e; known = λ k. e }
 
-  pub given_by : (n : ℕ) (q : Request) (fixed given : Reply) (cause : Option Shortage) → IsSaid Known q fixed given → IsCause fixed cause → IsGiven Known (record { number = n; request = q; reply = fixed; refusal = cause }) (answer_with n given cause)
-  given_by n q fixed given cause said is = record { number = refl; reply = said.reply; known = said.known; cause = is }
+  pub given_by : (n : ℕ) (q : Request) (fixed given : Reply) (cause : Option Shortage) → IsSaid Known q fixed given → IsCause fixed cause → ShowsCause q cause → IsGiven Known (record { number = n; request = q; reply = fixed; refusal = cause }) (answer_with n given cause)
+  given_by n q fixed given cause said is shows = record { number = refl; reply = said.reply; known = said.known; cause = is; shows = shows }
 
   pub adds_none : (xs ys : List Answer) → ys ≡ xs → AddsAnswers Known xs ys []
   adds_none xs ys e = record { more = []; added = e ∙ sym (append-nil xs); given = tt }

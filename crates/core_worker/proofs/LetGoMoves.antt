@@ -239,7 +239,7 @@ module _ (Known : Type 0) (p : Place) (m : ℕ) (v u : View) (w f x : Worker) (k
 
   pub let_go_answers : AddsAnswers Known (answers_of w) (answers_of x) let_go_fixed
   unfolding let_go_fixed
-  let_go_answers = adds_then Known (answers_of w) (answers_of f) (answers_of x) first (answer_with pl.number reply None) fs answers (given_by Known pl.number pl.request reply reply None (said_same Known pl.request reply) (ends_untold reply ends)) L.answers
+  let_go_answers = adds_then Known (answers_of w) (answers_of f) (answers_of x) first (answer_with pl.number reply None) fs answers (given_by Known pl.number pl.request reply reply None (said_same Known pl.request reply) (ends_untold reply ends) tt) L.answers
 
   pub let_go_moves : (s : State) (before after : Option Group) → Stands s p m v w → Stands s p m u x → Steps before after m u → (f.stopped ≡ true → (w.stopped ≡ true) ⊎ (HasDoubt p m u × IfSome before (λ a. (n : ℕ) × (d : Entry) × (a.slot m n ≡ Failed d))))
       → WorkerMoves p m s s before after v u (hands_of v w) (hands_of u x) [] let_go_fixed

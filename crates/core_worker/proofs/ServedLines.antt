@@ -21,7 +21,7 @@ use Rattle.core_worker.specs.declared.worker.Worker.{Worker}
 use Rattle.core_worker.specs.OwnPlaces.{place_at, key_in, is_busy, AreApart, Replaces}
 use Rattle.core_worker.specs.Supplies.{supply_of, why}
 use Rattle.core_worker.specs.Refusals.{reply_to}
-use Rattle.core_worker.specs.Answering.{IsCause, IsSaid, AddsAnswers}
+use Rattle.core_worker.specs.Answering.{IsCause, IsSaid, AddsAnswers, ShowsCause}
 use Rattle.core_worker.proofs.Given.{said_same, given_by, adds_none, adds_then, answer_untold}
 use Rattle.core_worker.specs.Beginning.{answers_of, answer_with, OnlyBegins, IsAnswered, IsStaged, GoesOn, BeginsBy, BeginsAs, Begins, BeginsAll, BeginsShort}
 use Rattle.core_worker.specs.WorkerMoves.{Placed, Fixed, asked, replied, request_placed, placed_in, placed_for, asked_by, stock_of}
@@ -32,7 +32,7 @@ use Rattle.lazy_alloc.specs.Sets.{Sets, AreSets}
 use Rattle.engine_laws.specs.RefusalCauses.{is_too_long}
 use Rattle.engine_laws.proofs.Clients.{raised_low, causes_up, at_least_same}
 use Rattle.core_worker.proofs.StockFacts.{Stages, stages_none, staged_stock, why_short}
-use Rattle.core_worker.proofs.CauseFacts.{lacks_as_stock, stopped_causeless, answer_causeless, answer_not_full, why_cause, why_full, stock_same}
+use Rattle.core_worker.proofs.CauseFacts.{lacks_as_stock, stopped_causeless, answer_causeless, answer_not_full, why_cause, why_full, why_shows, stock_same}
 use Rattle.core_worker.proofs.AcceptMoves.{not_stopped, left_by_refusal, may_refuse_for, still_left, still_runs}
 use Rattle.core_worker.proofs.HandKeys.{none_for}
 use Rattle.core_worker.proofs.HandPlaces.{held_at, held_beside}
@@ -56,6 +56,7 @@ pub record Answers (Known : Type 0) (w u : Worker) (cell : Option (List ℕ)) (n
   pub cause : Option Shortage
   pub said : IsSaid Known r reply given
   pub by_cause : IsCause reply cause
+  pub shows : ShowsCause r cause
   pub is : IsAnswered w u (answer_with n given cause)
   pub may : MayReply r cell w.stopped reply
   pub left : cell_left r reply cell ≡ cell
@@ -65,12 +66,13 @@ pub record Answers (Known : Type 0) (w u : Worker) (cell : Option (List ℕ)) (n
   pub full : reply ≡ replies.Full → LacksRoom w.layout (stock_of w) r
 
 module _ (Known : Type 0) (w u : Worker) (cell : Option (List ℕ)) (n : ℕ) (r : Request) where
-  running : (a given : Reply) (why : Option Shortage) → w.stopped ≡ false → IsSaid Known r a given → IsCause a why → IsAnswered w u (answer_with n given why) → MayReply r cell false a → cell_left r a cell ≡ cell → (a ≢ replies.Stopped) → HasCause w.layout (last_of (known_at w.index (key_of r))) r a → (a ≡ replies.Full → LacksRoom w.layout (stock_of w) r) → Answers Known w u cell n r
-  running a given why runs said because is may left other has full = record {
+  running : (a given : Reply) (why : Option Shortage) → w.stopped ≡ false → IsSaid Known r a given → IsCause a why → ShowsCause r why → IsAnswered w u (answer_with n given why) → MayReply r cell false a → cell_left r a cell ≡ cell → (a ≢ replies.Stopped) → HasCause w.layout (last_of (known_at w.index (key_of r))) r a → (a ≡ replies.Full → LacksRoom w.layout (stock_of w) r) → Answers Known w u cell n r
+  running a given why runs said because shows is may left other has full = record {
     reply = a;
     given = given;
     said = said;
     by_cause = because;
+    shows = shows;
     cause = why;
     is = is;
     may = subst (λ b. MayReply r cell b a) (sym runs) may;
@@ -82,15 +84,15 @@ module _ (Known : Type 0) (w u : Worker) (cell : Option (List ℕ)) (n : ℕ) (r
   }
 
   goes_on : (c : Bool) → is_too_long w.layout r ≡ false → w.stopped ≡ false → is_change r cell ≡ c → GoesOn Known c w u cell n r → Answers Known w u cell n r ⊎ ((w.stopped ≡ false) × IsStaged w u n r × (is_too_long w.layout r ≡ false))
-  goes_on false short runs e is = inl (running (answer_to r cell) is.0 None runs is.1 (answer_untold r cell e) is.2 (inl refl) (still_left r cell e) (still_runs r cell) (answer_causeless w.layout (last_of (known_at w.index (key_of r))) r cell e) (λ full. absurd (answer_not_full r cell e full)))
+  goes_on false short runs e is = inl (running (answer_to r cell) is.0 None runs is.1 (answer_untold r cell e) tt is.2 (inl refl) (still_left r cell e) (still_runs r cell) (answer_causeless w.layout (last_of (known_at w.index (key_of r))) r cell e) (λ full. absurd (answer_not_full r cell e full)))
   goes_on true short runs e is = inr (runs, is, short)
 
   by_cause : (o : Option Shortage) → w.stopped ≡ false → why w.layout (supply_of w) w.allocator (last_of (known_at w.index (key_of r))) cell r ≡ o → BeginsBy Known o w u cell n r → Answers Known w u cell n r ⊎ ((w.stopped ≡ false) × IsStaged w u n r × (is_too_long w.layout r ≡ false))
   by_cause None runs e is = goes_on (is_change r cell) (why_short w.layout (supply_of w) w.allocator (last_of (known_at w.index (key_of r))) cell r e) runs refl is
-  by_cause (Some c) runs e is = inl (running (reply_to c) (reply_to c) (Some c) runs (said_same Known r (reply_to c)) refl is (may_refuse_for w.layout (supply_of w) w.allocator (last_of (known_at w.index (key_of r))) cell r c e) (left_by_refusal r cell c) (not_stopped c) (why_cause w.layout (supply_of w) w.allocator (last_of (known_at w.index (key_of r))) cell r c e) (λ full. lacks_as_stock w.layout w r (why_full w.layout (supply_of w) w.allocator (last_of (known_at w.index (key_of r))) cell r c e full)))
+  by_cause (Some c) runs e is = inl (running (reply_to c) (reply_to c) (Some c) runs (said_same Known r (reply_to c)) refl (why_shows w.layout (supply_of w) w.allocator (last_of (known_at w.index (key_of r))) cell r c e) is (may_refuse_for w.layout (supply_of w) w.allocator (last_of (known_at w.index (key_of r))) cell r c e) (left_by_refusal r cell c) (not_stopped c) (why_cause w.layout (supply_of w) w.allocator (last_of (known_at w.index (key_of r))) cell r c e) (λ full. lacks_as_stock w.layout w r (why_full w.layout (supply_of w) w.allocator (last_of (known_at w.index (key_of r))) cell r c e full)))
 
   by_stop : (d : Bool) → w.stopped ≡ d → BeginsAs Known d w u cell n r → Answers Known w u cell n r ⊎ ((w.stopped ≡ false) × IsStaged w u n r × (is_too_long w.layout r ≡ false))
-  by_stop true e is = inl (record { reply = replies.Stopped; given = replies.Stopped; cause = None; said = said_same Known r replies.Stopped; by_cause = refl; is = is; may = subst (λ b. MayReply r cell b replies.Stopped) (sym e) refl; left = refl; halts = λ s. refl; halted = λ s. e; has_cause = stopped_causeless w.layout (last_of (known_at w.index (key_of r))) r replies.Stopped refl; full = λ full. absurd (cc full) })
+  by_stop true e is = inl (record { reply = replies.Stopped; given = replies.Stopped; cause = None; said = said_same Known r replies.Stopped; by_cause = refl; shows = tt; is = is; may = subst (λ b. MayReply r cell b replies.Stopped) (sym e) refl; left = refl; halts = λ s. refl; halted = λ s. e; has_cause = stopped_causeless w.layout (last_of (known_at w.index (key_of r))) r replies.Stopped refl; full = λ full. absurd (cc full) })
   by_stop false e is = by_cause (why w.layout (supply_of w) w.allocator (last_of (known_at w.index (key_of r))) cell r) e refl is
 
   pub begins_one : Begins Known w u cell n r → Answers Known w u cell n r ⊎ ((w.stopped ≡ false) × IsStaged w u n r × (is_too_long w.layout r ≡ false))
@@ -197,7 +199,7 @@ module _ (Known : Type 0) (v : View) (k : ℕ) (cell : Option (List ℕ)) where
     -- one is answered, and then the others
     line_answered : (fs : List Fixed) → (A : Answers Known next mid cell h.number h.request) → Line Known v mid x k cell hs fs → Line Known v w x k cell (h ∷ hs) (record { number = h.number; request = h.request; reply = A.reply; refusal = A.cause } ∷ fs)
     line_answered fs A L = record {
-      answers = adds_then Known (answers_of w) (answers_of mid) (answers_of x) (record { number = h.number; request = h.request; reply = A.reply; refusal = A.cause }) (answer_with h.number A.given A.cause) fs (A.is.answers ∙ ap (λ (y : Worker). answers_of y ++ answer_with h.number A.given A.cause ∷ []) same) (given_by Known h.number h.request A.reply A.given A.cause A.said A.by_cause) L.answers;
+      answers = adds_then Known (answers_of w) (answers_of mid) (answers_of x) (record { number = h.number; request = h.request; reply = A.reply; refusal = A.cause }) (answer_with h.number A.given A.cause) fs (A.is.answers ∙ ap (λ (y : Worker). answers_of y ++ answer_with h.number A.given A.cause ∷ []) same) (given_by Known h.number h.request A.reply A.given A.cause A.said A.by_cause A.shows) L.answers;
       keys = λ y i. ⊎_elim (λ at. ap (λ (z : Fixed). key_of z.request) at ∙ first_key w.queue next.queue k h T) (λ more. L.keys y more) i;
       line = ap (λ (xs : List (ℕ × Request)). (h.number, h.request) ∷ xs) L.line;
       lawful = (
