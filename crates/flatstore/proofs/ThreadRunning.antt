@@ -2,6 +2,8 @@
 use Rattle.std.proofs.Common.{◌≡◌, ◌≢◌, inl, inr, ℕ, ◌/◌, ◌<◌, ◌≤◌, List, [], ◌++◌, map, refl, sym, ◌∙◌, ap, subst, arith, true, false, Bool, Result, Ok, Err, append-nil}
 use Rattle.std.specs.Prelude.{IfErr}
 use Rattle.std.specs.Result.{IsErrAnd}
+use Rattle.fs_model.specs.declared.model.Request.{Request}
+use Rattle.fs_model.specs.declared.model.Reply.{Reply}
 use Rattle.pm_region.specs.Cell.{Cell}
 use Rattle.pm_region.specs.State.{State, InRange, IsTold, IsTelling, MayLeave, Rose, cell_now, counted}
 use Rattle.pm_region.specs.Split.{Attached, Stays, Refuses, IsOpenedOnceMore}
@@ -21,7 +23,10 @@ use Rattle.group_engine.specs.declared.run_outcome.End.TheVariants as ends
 use Rattle.group_engine.specs.declared.run_outcome.Outcome.{Outcome}
 use Rattle.group_engine.specs.Replayed.{report_in}
 use Rattle.group_engine.specs.Reports.{ReportsOn, reply_in, as_told, told_by}
-use Rattle.thread_engine.specs.RanApart.{Rejoined}
+use Rattle.thread_engine.specs.declared.run_apart.RunOutcome.{RunOutcome}
+use Rattle.thread_engine.specs.Collected.{had_memory}
+use Rattle.thread_engine.specs.Outlets.{HandsOut}
+use Rattle.thread_engine.specs.RanApart.{Rejoined, RanApart, RanInWindows}
 use Rattle.flatstore.specs.Attaching.{GoesOnBy, Asks, AttachesToSplit, MayRejoin}
 use Rattle.flatstore.specs.Ends.{SourceUse, SinkUse, CountsFaults}
 use Rattle.flatstore.specs.LastStates.{told_in}
@@ -59,7 +64,7 @@ attaches_then old s t u found A once granted bytes done r opened asks = record {
 }
 
 -- A split that was refused, or for which there was no memory.
-module _ (s t : State) (word : ℕ → ℕ) (S : Stays s t) (source : SourceUse) (r : Result Outcome AttachError) (R : Refuses s t r) (recovered : Recovered) (lines : List Line) (ready : IsReady s word source recovered lines) where
+module _ (s t : State) (word : ℕ → ℕ) (S : Stays s t) (source : SourceUse) (r : Result RunOutcome AttachError) (R : Refuses s t r) (recovered : Recovered) (lines : List Line) (ready : IsReady s word source recovered lines) where
   why_split : (error : AttachError) → r ≡ Err error → WhyNotRun s word t source (why_of error)
   why_split attach.RegionFault is = let rose = R.fault is in record { recovered = recovered; lines = lines; ready = ready; fault = rose.0; refused = rose.1 }
   why_split attach.Memory is = inr refl
@@ -67,6 +72,20 @@ module _ (s t : State) (word : ℕ → ℕ) (S : Stays s t) (source : SourceUse)
   pub split_refused : (error : AttachError) → r ≡ Err error → {T : Type 0} (x : Result T NotRun) → IsErrAnd x (λ e. e ≡ why_of error) → IfErr x (IsNotRun s word t source)
   split_refused error is (Ok x) e = tt
   split_refused error is (Err x) e = subst (IsNotRun s word t source) (sym e) (record { stays = S; later = R.later; cause = why_split error is })
+
+-- An outlet that takes all was handed the replies of a whole run.
+abbrev TakesAny : {T : Type 0} → (State → T → List Reply → Bool → State → T → Type 0) → Type 0
+TakesAny {T} takes = (s : State) (a : T) (rs : List Reply) (h : Bool) (t : State) (b : T) → takes s a rs h t b → h ≡ true
+
+module _ {T : Type 0} {takes : State → T → List Reply → Bool → State → T → Type 0} where
+  all_heard : (all : Bool) {heard : Bool} {rs : List Reply} {s : State} {a : T} {t : State} {b : T} → HandsOut takes all heard rs s a t b → TakesAny takes → heard ≡ true
+  all_heard true {heard} {rs} {s} {a} {t} {b} H calm = calm H.at H.mid H.last heard t b (H.whole refl).1
+  all_heard false H calm = (H.short refl).1
+
+  pub ran_whole : {s : State} {word : ℕ → ℕ} {refused : Bool} {r : Recovered} {asked : List Request} {t : State} {x : RunOutcome} {a b : T} → RanInWindows takes s word refused r asked t x a b → TakesAny takes → RanApart s word refused r asked t x.outcome
+  ran_whole {s} {word} {refused} {r} {asked} {t} {x} W calm =
+      let none : W.more ≡ [] = W.whole (all_heard (had_memory x.outcome.end) W.hands calm) in
+      subst (λ xs. RanApart s word refused r xs t x.outcome) (sym (W.split ∙ ap (λ xs. W.given ++ xs) none ∙ append-nil W.given)) W.ran
 
 -- No core ran.
 module _ (old s t : State) (found word : ℕ → ℕ) (A : Attached old s s.frame.bytes found) (tells : (w : ℕ) → IsTelling s → lasts s w ≡ word w) (low : old.faults ≤ s.faults) (granted : s.frame.refusals ≡ old.frame.refusals) (source : SourceUse) (why : NotRun)
@@ -335,6 +354,7 @@ module _ (old s t : State) (found word : ℕ → ℕ) (A : Attached old s s.fram
       next = λ telling told latest low each. subst (λ n. n ≤ counted latest) (sym (stays.stamp ∙ ap (λ (z : State). z.stamp) P.ran.region)) (P.ran.next telling told latest low each);
       kept = P.ran.kept;
       keeps = P.ran.keeps;
+      once = P.ran.once;
       finishes = finishes ∙ P.ran.report.finishes;
       refusals = refusals ∙ P.ran.report.refusals;
       told_is = report_told ∙ P.ran.reports.told_is;

@@ -16,7 +16,7 @@ use Rattle.group_engine.specs.declared.types.Stamped.{Stamped}
 use Rattle.group_engine.specs.Reports.{reply_in, finishes_in, refusals_in}
 use Rattle.thread_engine.specs.CoreRuns.{AllRan}
 use Rattle.thread_engine.specs.Cuts.{HoldsInside}
-use Rattle.thread_engine.specs.RanApart.{Rejoined, KeepsAnswers}
+use Rattle.thread_engine.specs.RanApart.{Rejoined, KeepsAnswers, TakesOnce}
 use Rattle.flatstore.specs.Attaching.{GoesOnBy, Asks}
 use Rattle.flatstore.specs.Ends.{SourceUse, SinkUse, IsAllOut}
 use Rattle.flatstore.specs.LastStates.{told_in, NoneHasStopped, Starts}
@@ -52,6 +52,8 @@ pub record CoresRan (old new : State) (found : ℕ → ℕ) (refused : Bool) (co
   -- The report's finishes and refusals are those of what the workers answered, at the joined region's stamp.
   pub kept : List (Option Stamped)
   pub keeps : KeepsAnswers start.origin start.recovered refused f ran.cores kept
+  -- Each of these answers was put into the queue of its window once and taken out once, and no other was.
+  pub once : TakesOnce start.origin start.recovered refused f ran.cores kept
   pub finishes : r.finishes.items ≡ finishes_in 0 kept
   pub refusals : r.refusals.items ≡ refusals_in 0 kept
   pub told_is : told_in r ≡ told_of f

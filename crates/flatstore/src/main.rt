@@ -50,6 +50,8 @@ mod tests;
 #[cfg(test)]
 mod thread_tests;
 mod top;
+#[cfg(test)]
+mod window_tests;
 mod workers;
 
 /// The words of the command line, the program's name first. Words that aren't UTF-8 are no words of the program, and

@@ -20,6 +20,7 @@ use pm_region::{AttachError, ReadRegion, SplitRegion};
 use std::alloc::Global;
 use std::sync::Wait;
 use std::thread::Threads;
+use thread_engine::outlet::Silence;
 use thread_engine::requests::TraceRequests;
 use thread_engine::run_apart;
 
@@ -97,7 +98,17 @@ fn run_cores<T: Threads + Wait + Sync, S: Source, R: SplitRegion + ReadRegion, G
 {
     let (recovered, input) = prepared(alloc, source, region)?;
     let mut requests = TraceRequests::of(input);
-    Ok(run_apart::run(rt, alloc, region, recovered, &mut requests, gate)?)
+    let mut silence = Silence;
+    let ran = run_apart::run(
+        rt,
+        alloc,
+        region,
+        &mut silence,
+        recovered,
+        &mut requests,
+        gate,
+    )?;
+    Ok(ran.outcome)
 }
 
 /// Attaches the region, reads the input, runs a worker for each core in a thread of its own, and writes the replies in

@@ -153,7 +153,7 @@ fn as_a_replay(rt: HostRuntime) -> Result<(), Fail> {
 }
 
 // So many gets of a key, then a put of it and one more get; and their replies.
-fn gets_and_a_put(alloc: Global, gets: u64) -> Result<(String, String), AllocError> {
+pub fn gets_and_a_put(alloc: Global, gets: u64) -> Result<(String, String), AllocError> {
     let mut input = String::new(alloc);
     let mut replies = String::new(alloc);
     for _ in 0..gets {

@@ -5,7 +5,7 @@ use Rattle.std.proofs.lemmas.Bool.{ltb-true, lt-ltb}
 use Rattle.std.proofs.lemmas.Nat.{div-add-mod'}
 use Rattle.fs_model.specs.declared.model.Request.{Request}
 use Rattle.pm_region.specs.State.{State, Frame, IsTold, InRange, cell_now}
-use Rattle.pm_region.specs.Split.{IsPiece, Parted, Joined, TakesPiece, CameFrom, IsBetween, ComesNext}
+use Rattle.pm_region.specs.Split.{IsPiece, Joined, TakesPiece, CameFrom, IsBetween, ComesNext}
 use Rattle.chunk_map.specs.declared.layouts.Geometry.{Geometry}
 use Rattle.chunk_map.specs.Layouts.{layout_of, IsLayout}
 use Rattle.chunk_map.proofs.Clients.{numbers_of}
@@ -36,7 +36,7 @@ use Rattle.thread_engine.specs.declared.run_apart.Supplies.{Supplies}
 use Rattle.thread_engine.specs.CoreRuns.{HasView, LoadsLook}
 use Rattle.thread_engine.specs.Windows.{dealt_from}
 use Rattle.thread_engine.specs.Cuts.{steps_of, IsShown}
-use Rattle.thread_engine.specs.Collected.{restamped, any_stopped, end_by}
+use Rattle.thread_engine.specs.Collected.{AreBlank, restamped, any_stopped, end_by}
 use Rattle.thread_engine.specs.RanApart.{RanApart}
 use Rattle.thread_engine.specs.Manned.{AreTokensOf, AllEnded}
 use Rattle.thread_engine.specs.Returns.{IsCrew, AllAtRest, AllWent, Went, core_stands}
@@ -45,13 +45,13 @@ use Rattle.thread_engine.proofs.Blocks.{tokens_of}
 use Rattle.thread_engine.proofs.CutOrders.{shown_orders, orders_shown, orders_made}
 use Rattle.thread_engine.proofs.Doubts.{one_of}
 use Rattle.thread_engine.proofs.LastState.{CoreEnd, IsEnd, ChainLaw, OpeningKeys, OpeningDoubts, RefusalLaw, MomentLaw, CutLaw, kept_is, ran}
-use Rattle.thread_engine.proofs.Rejoining.{region_rejoined, region_superblock, next_joined}
+use Rattle.thread_engine.proofs.Rejoining.{StillParted, region_rejoined, region_superblock, next_joined}
 use Rattle.thread_engine.proofs.Places.{get_low, get_at, get_index}
 use Rattle.thread_engine.proofs.RunEnds.{shown_groups, shown_reached, shown_view, owns, first_rest, core_end}
 use Rattle.thread_engine.proofs.Stops.{chain_frame, chain_tells}
 use Rattle.thread_engine.proofs.Supplying.{start_there, seat_there}
 
-module _ {P : Type 0} (state : P → State) (refused : Bool) (s : State) (word : ℕ → ℕ) (o : Origin) (r : Recovered) (given : List Request) (x : Supplies) (F : StandsAsFound s word r) (B : BeginsAt s word o) (S : IsSupplied o r (length given) x) where
+module _ {P : Type 0} (state : P → State) (refused : Bool) (s : State) (word : ℕ → ℕ) (o : Origin) (r : Recovered) (given : List Request) (places : ℕ) (x : Supplies) (F : StandsAsFound s word r) (B : BeginsAt s word o) (S : IsSupplied o r places x) where
   abbrev l : Geometry
   l = layout_of o.found
 
@@ -110,7 +110,7 @@ module _ {P : Type 0} (state : P → State) (refused : Bool) (s : State) (word :
     )
 
     -- what they gave back
-    module _ (back : Returned P) (in_all : Bool) (first_kept : List (Option Stamped)) (A : AllWent state refused pieces x.crew given in_all back x.answers.items first_kept) where
+    module _ (back : Returned P) (in_all : Bool) (blanks first_kept : List (Option Stamped)) (A : AllWent state refused pieces x.crew given in_all back blanks first_kept) where
       -- of one core
       abbrev One : ℕ → Type 0
       One c = (p : P) × (t : SeatToken) × (w : Worker) × (q : P) × (u : SeatToken) × (y : Worker)
@@ -144,7 +144,7 @@ module _ {P : Type 0} (state : P → State) (refused : Bool) (s : State) (word :
               ∙ ap (λ p. member_at (id_of b) p m) (sym (ap (λ (w : Group). w.place) (S.manned.opened_on g b at)))
 
       -- the pieces came from the split
-      pub pieces_back : (t : State) → Parted s t x.cuts.items → (i : ℕ) (p : P) → i < length back.pieces.items → CameFrom t i (state (slice_index_or back.pieces.items i p))
+      pub pieces_back : (t : State) → StillParted s t x.cuts.items → (i : ℕ) (p : P) → i < length back.pieces.items → CameFrom t i (state (slice_index_or back.pieces.items i p))
       pieces_back t D i p low =
           let n = piece_count in
           let m = A.pieces_count in
@@ -243,13 +243,13 @@ module _ {P : Type 0} (state : P → State) (refused : Bool) (s : State) (word :
 
         module _ (chain : ChainLaw) (keys_open : OpeningKeys) (doubts_open : OpeningDoubts) where
           -- what it comes to
-          pub run_ran : (mid : State) → Parted s mid x.cuts.items → Joined mid t → ComesNext state mid t back.pieces.items → s.frame.parted ≡ false → mid.frame.opens ≡ s.frame.opens → mid.frame.refusals ≡ s.frame.refusals → t.frame.opens ≡ mid.frame.opens
+          pub run_ran : length blanks ≡ length given → AreBlank blanks → (mid : State) → StillParted s mid x.cuts.items → Joined mid t → ComesNext state mid t back.pieces.items → s.frame.parted ≡ false → mid.frame.opens ≡ s.frame.opens → mid.frame.refusals ≡ s.frame.refusals → t.frame.opens ≡ mid.frame.opens
               → RefusalLaw → MomentLaw → CutLaw → (out : Outcome) → IsReport (restamped t.stamp first_kept) (report_in out) → out.end ≡ end_by in_all (any_stopped back.workers.items) → RanApart s word refused r given t out
-          run_ran mid D J N whole_is opens refusals opens' refusal moment at_cut out report end =
-              ran chain keys_open doubts_open o B.is is_layout r refused t shown given groups ends all back.workers.items x.answers.items (λ c low. (full c low).2.1) few S.places S.blank
+          run_ran places_are blank mid D J N whole_is opens refusals opens' refusal moment at_cut out report end =
+              ran chain keys_open doubts_open o B.is is_layout r refused t shown given groups ends all back.workers.items blanks (λ c low. (full c low).2.1) few places_are blank
               A.outs outs_are outs_few first_kept A.taken
               s word out B (region_rejoined s word r o F B x.cuts.items cuts_are mid t D J whole_is opens refusals opens') (λ g low. (at_group g low).2)
               (region_superblock s word r o F B x.cuts.items cuts_are mid t D J) (λ c low. (full c low).2.0.piece.piece.faults)
               (next_joined s mid t x.cuts.items D J state back.pieces.items l.cores (λ c low. (full c low).0.last.region) N (A.pieces_count ∙ piece_count)
               (λ c low q at. (let f = (full c low).2.2 in ap state (one_of q f.0 (sym at ∙ f.1)) ∙ f.2)))
-              (subst (λ ys. IsReport ys (report_in out)) (kept_is chain keys_open doubts_open o B.is is_layout r refused t shown given groups ends all back.workers.items x.answers.items (λ c low. (full c low).2.1) few S.places S.blank A.outs outs_are outs_few first_kept A.taken) report) in_all end refusal moment at_cut order (λ c low. (full c low).2.3) order_shown (λ is c low. A.memory is c (full c low).0.last.worker (full c low).2.1) (λ is c low. A.wound is c (full c low).0.last.worker (full c low).2.1)
+              (subst (λ ys. IsReport ys (report_in out)) (kept_is chain keys_open doubts_open o B.is is_layout r refused t shown given groups ends all back.workers.items blanks (λ c low. (full c low).2.1) few places_are blank A.outs outs_are outs_few first_kept A.taken) report) in_all end refusal moment at_cut order (λ c low. (full c low).2.3) order_shown (λ is c low. A.memory is c (full c low).0.last.worker (full c low).2.1) (λ is c low. A.wound is c (full c low).0.last.worker (full c low).2.1)

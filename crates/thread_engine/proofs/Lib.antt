@@ -28,6 +28,10 @@ mod WindowSteps
 mod Takings
 mod TakenKept
 mod Places
+mod Handing
+mod Lines
+mod Looks
+mod Printing
 mod Manning
 mod Mustering
 mod Deals

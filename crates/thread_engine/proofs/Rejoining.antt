@@ -15,6 +15,7 @@ use Rattle.recover.specs.declared.types.Recovered.{Recovered}
 use Rattle.engine_laws.specs.Parts.{HasSuperblock}
 use Rattle.engine_laws.specs.Origins.{Origin}
 use Rattle.group_engine.specs.Replayed.{StandsAsFound, BeginsAt}
+use Rattle.thread_engine.specs.Outlets.{IsAsked}
 use Rattle.thread_engine.specs.RanApart.{Rejoined}
 use Rattle.thread_engine.specs.Supplied.{ArePartCuts}
 use Rattle.thread_engine.proofs.Places.{get_there}
@@ -55,7 +56,28 @@ part_cuts l words cuts is total P = record {
 pub words_of_layout : (l : Geometry) (bytes : ℕ) → IsLayout l → total_bytes l ≡ bytes → words_in bytes ≡ bytes / 8
 words_of_layout l bytes is total = ap (λ b. cond {A = ℕ} b (bytes / 8) 0) (le-leb bytes MOST_BYTES (let most = (layout_numbers l is).total in omega (arith, most, total)))
 
-module _ (s mid t : State) (cuts : List ℕ) (P : Parted s mid cuts) (J : Joined mid t) where
+-- A region that was split, and maybe asked since: it says what it said before, but for its counts.
+pub record StillParted (old new : State) (cuts : List ℕ) : Type 0 where
+  pub bytes : new.frame.bytes ≡ old.frame.bytes
+  pub cuts_are : new.frame.cuts ≡ cuts
+  pub faults : old.faults ≤ new.faults
+  pub stamp : new.stamp ≡ old.stamp
+  pub since : new.frame.since ≡ old.frame.since
+  pub told : (t : ℕ) → new.told t ≡ old.told t
+  pub cells : (t w : ℕ) → new.cells t w ≡ old.cells t w
+
+pub still_parted : (s p t : State) (cuts : List ℕ) → Parted s p cuts → IsAsked p t → StillParted s t cuts
+still_parted s p t cuts P A = record {
+  bytes = A.stays.bytes ∙ P.bytes;
+  cuts_are = A.stays.cuts ∙ P.cuts_are;
+  faults = (let same = P.faults in let later = A.later in omega (arith, same, later));
+  stamp = A.stays.stamp ∙ P.stamp;
+  since = A.stays.since ∙ P.since;
+  told = λ n. A.stays.told n ∙ P.told n;
+  cells = λ n w. A.stays.cells n w ∙ P.cells n w;
+}
+
+module _ (s mid t : State) (cuts : List ℕ) (P : StillParted s mid cuts) (J : Joined mid t) where
   told_before : IsTelling t → IsTelling s
   told_before telling =
       let at = J.tells telling in
@@ -142,7 +164,7 @@ module _ (s : State) (word : ℕ → ℕ) (r : Recovered) (o : Origin) (F : Stan
   pub region_cuts : AreCuts s.frame.words cuts
   region_cuts = part_cuts (layout_of o.found) s.frame.words cuts layout_is (let words = F.words in let total = total_is in let end = parts_end (layout_of o.found) (numbers_of (layout_of o.found) layout_is).size in omega (arith, words, total, end)) C
 
-  module _ (mid t : State) (P : Parted s mid cuts) (J : Joined mid t) where
+  module _ (mid t : State) (P : StillParted s mid cuts) (J : Joined mid t) where
     pub region_rejoined : s.frame.parted ≡ false → mid.frame.opens ≡ s.frame.opens → mid.frame.refusals ≡ s.frame.refusals → t.frame.opens ≡ mid.frame.opens → Rejoined s t
     region_rejoined whole opens refusals opens' = rejoined s mid t cuts P J F.first (F.words ∙ sym (words_of_layout (layout_of o.found) s.frame.bytes layout_is total_is)) whole opens refusals opens'
 

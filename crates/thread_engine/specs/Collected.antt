@@ -1,5 +1,5 @@
 -- What is kept of the answers, and how a run ended by its workers.
-use Rattle.std.specs.Prelude.{◌≡◌, ℕ, List, map, Bool, Option, Some, None, if◌then◌else◌}
+use Rattle.std.specs.Prelude.{◌≡◌, ℕ, List, map, Bool, true, false, Option, Some, None, if◌then◌else◌}
 use Rattle.std.specs.List.{list_any, AllByRecursion}
 use Rattle.core_worker.specs.declared.worker.Worker.{Worker}
 use Rattle.group_engine.specs.declared.types.Stamped.{Stamped}
@@ -15,6 +15,7 @@ abbrev pub with_stamp : ℕ → Option Stamped → Option Stamped
 with_stamp t None = None
 with_stamp t (Some x) = Some (record x { stamp = t })
 
+-- all that is kept, each answer with this stamp
 abbrev pub restamped : ℕ → List (Option Stamped) → List (Option Stamped)
 restamped t ys = map (with_stamp t) ys
 
@@ -26,3 +27,9 @@ any_stopped ws = list_any (λ w. w.stopped) ws
 abbrev pub end_by : Bool → Bool → End
 end_by all stopped = if all then (if stopped then ends.RegionFault else ends.Complete)
     else ends.Memory
+
+-- there was memory for all
+abbrev pub had_memory : End → Bool
+had_memory ends.Complete = true
+had_memory ends.RegionFault = true
+had_memory ends.Memory = false

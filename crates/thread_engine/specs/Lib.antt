@@ -8,9 +8,11 @@ pub mod RanApart
 pub mod Manned
 pub mod Requests
 pub mod Windows
+pub mod Outlets
 pub mod WindowJobs
 pub mod Desks
 pub mod Takings
 pub mod Returns
 pub mod Collected
 pub mod Supplied
+pub mod Printed

@@ -1,8 +1,9 @@
 -- What a run on threads comes to.
-use Rattle.std.specs.Prelude.{◌≡◌, ◌≢◌, ℕ, ◌<◌, ◌≤◌, List, [], length, slice_index_or, Bool, true, false, Option, Some, IsPermutation}
+use Rattle.std.specs.Prelude.{◌≡◌, ◌≢◌, ℕ, ◌<◌, ◌≤◌, List, [], ◌++◌, length, slice_index_or, Bool, true, false, Option, Some, IsPermutation}
 use Rattle.fs_model.specs.declared.model.Request.{Request}
+use Rattle.fs_model.specs.declared.model.Reply.{Reply}
 use Rattle.pm_region.specs.State.{State, IsTelling, cell_now, counted, Rose}
-use Rattle.pm_region.specs.Split.{TellsFrom}
+use Rattle.pm_region.specs.Split.{TellsFrom, IsNotRevalidated}
 use Rattle.store_image.specs.Facts.{In}
 use Rattle.recover.specs.declared.types.Recovered.{Recovered}
 use Rattle.engine_laws.specs.Engine.{Engine}
@@ -21,7 +22,9 @@ use Rattle.group_engine.specs.Replayed.{BeginsAt, report_in}
 use Rattle.group_engine.specs.Reports.{IsReport, ReportsOn}
 use Rattle.thread_engine.specs.CoreRuns.{CoreRun, AllRan, gave_at}
 use Rattle.thread_engine.specs.Cuts.{HoldsInside}
-use Rattle.thread_engine.specs.Collected.{AreBlank}
+use Rattle.thread_engine.specs.declared.run_apart.RunOutcome.{RunOutcome}
+use Rattle.thread_engine.specs.Collected.{AreBlank, had_memory}
+use Rattle.thread_engine.specs.Outlets.{IsAsked, HandsOut}
 
 -- A region was split and joined, and between that only its pieces were used.
 pub record Rejoined (old new : State) : Type 0 where
@@ -106,3 +109,22 @@ pub record RanApart (s : State) (word : ℕ → ℕ) (refused : Bool) (r : Recov
       → (ran.cores c low).last.worker.winds_down ≡ false
   pub fault : x.end ≡ ends.RegionFault → HasStopped last
   pub complete : x.end ≡ ends.Complete → (c : ℕ) → c < last.layout.cores → last.stopped c ≡ false
+
+-- A run whose replies were handed to an outlet, each window's behind its window: it is a run of the first of these requests, of all of them unless the outlet did not take a window's replies. Then it is one of the requests up to that window's end, and nothing was begun behind it. Between the split and the join the region said what it said at the split, but for its counts, and neither of the two asked it whether it is in its place.
+pub record RanInWindows {T : Type 0} (takes : State → T → List Reply → Bool → State → T → Type 0)
+    (s : State) (word : ℕ → ℕ) (refused : Bool) (r : Recovered) (asked : List Request) (t : State)
+    (x : RunOutcome) (old new : T) : Type 0 where
+  pub given : List Request
+  pub more : List Request
+  pub split : asked ≡ given ++ more
+  pub whole : x.heard ≡ true → more ≡ []
+  pub ran : RanApart s word refused r given t x.outcome
+  pub before : State
+  pub behind : State
+  pub parted : s.faults ≤ before.faults
+  pub looks : IsAsked before behind
+  pub joined : behind.faults ≤ t.faults
+  pub unasked : IsNotRevalidated s before
+  pub asked_since : IsNotRevalidated behind t
+  pub hands : HandsOut takes (had_memory x.outcome.end) x.heard x.outcome.replies.items
+      before old behind new

@@ -26,17 +26,20 @@ pub record IsAtRest (seat : SeatAt) (x : WorkState) : Type 0 where
 abbrev pub without_queue : WorkState → WorkState
 without_queue x = record x { queue = [] }
 
--- what the passes of jobs have put, and the numbers of the requests that wait, core by core
+-- what a job's pass has put, and nothing where it has none
 abbrev pub put_in : Option (Pass Answer Account) → List Answer
 put_in None = []
 put_in (Some p) = (account_of p).put
 
+-- the numbers of the requests that wait, core by core
 abbrev pub waiting_for : {B P : Type 0} → List (CoreJob B P) → List (List ℕ)
 waiting_for jobs = map (λ j. numbers_in j.queue.items) jobs
 
+-- what the passes of jobs have put, core by core
 abbrev pub puts_of : {B P : Type 0} → List (CoreJob B P) → List (List Answer)
 puts_of jobs = map (λ j. put_in j.pass) jobs
 
+-- the passes that jobs have, in the cores' order
 abbrev pub passes_of : {B P : Type 0} → List (CoreJob B P) → List (Pass Answer Account)
 passes_of [] = []
 passes_of (j ∷ js) = option_to_list j.pass ++ passes_of js

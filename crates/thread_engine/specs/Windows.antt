@@ -1,7 +1,8 @@
 -- The requests of a run, dealt window by window to the cores that own their keys, and worked off.
-use Rattle.std.specs.Prelude.{◌≡◌, ℕ, ◌+◌, ◌%◌, ◌<◌, ◌≤◌, ◌==◌, List, [], ◌++◌, length, filter, slice_index_or, Bool, true, false, Option}
+use Rattle.std.specs.Prelude.{◌≡◌, ℕ, ◌+◌, ◌%◌, ◌<◌, ◌≤◌, ◌==◌, List, [], ◌++◌, map, take, length, filter, slice_index_or, Bool, true, false, Option}
 use Rattle.std.specs.List.{enumerate_from}
 use Rattle.fs_model.specs.declared.model.Request.{Request}
+use Rattle.fs_model.specs.declared.model.Reply.{Reply}
 use Rattle.fs_model.specs.Cells.{key_of}
 use Rattle.pm_region.specs.State.{State}
 use Rattle.group_laws.specs.Places.{owner}
@@ -10,9 +11,12 @@ use Rattle.thread_engine.specs.declared.core_job.CoreJob.{CoreJob}
 use Rattle.core_worker.specs.declared.types.Answer.{Answer}
 use Rattle.core_worker.specs.Beginning.{answers_of}
 use Rattle.group_engine.specs.declared.types.Stamped.{Stamped}
+use Rattle.group_engine.specs.Reports.{reply_in}
+use Rattle.thread_engine.specs.declared.windows.Course.{Course}
 use Rattle.thread_engine.specs.WorkStates.{Sight, IsAtWork, WorksOn, HasEnded, stands_at}
 use Rattle.thread_engine.specs.WindowJobs.{IsAtRest}
 use Rattle.thread_engine.specs.Takings.{TakenAs}
+use Rattle.thread_engine.specs.Outlets.{HandsOut}
 
 -- of some requests, which are numbered from n, those for one of so many cores
 abbrev pub dealt_from : ℕ → ℕ → ℕ → List Request → List (ℕ × Request)
@@ -152,3 +156,14 @@ pub record WorksThrough {B P : Type 0} (seat : B → SeatAt) (sight : B → Sigh
   pub whole : all ≡ true → rest ≡ []
   pub memory : all ≡ true → HaveMemory new
   pub wound : all ≡ false → WindDown new
+
+-- The first of these requests were begun, window by window, and this was done to them; what is kept has a place for each of them alone. Their replies were handed to an outlet, each window's behind its window. All requests were begun unless it did not take a window's replies: then nothing was begun behind that window.
+pub record InWindows {T : Type 0} (takes : State → T → List Reply → Bool → State → T → Type 0)
+    (left : List Request) (x : Course) (Did : List Request → List (Option Stamped) → Type 0)
+    (kept kept' : List (Option Stamped)) (s : State) (old : T) (t : State) (new : T) : Type 0 where
+  pub given : List Request
+  pub more : List Request
+  pub split : left ≡ given ++ more
+  pub whole : x.heard ≡ true → more ≡ []
+  pub did : Did given (take (length given) kept)
+  pub hands : HandsOut takes x.all x.heard (map reply_in kept') s old t new

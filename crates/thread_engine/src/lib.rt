@@ -1,6 +1,7 @@
 //! A run on threads: one worker for each core, each in a thread of its own.
 #![tactic(auto)]
 
+pub mod answer_text;
 pub mod closing;
 pub mod collecting;
 pub mod core_job;
@@ -10,10 +11,13 @@ pub mod desk;
 pub mod group_tables;
 pub mod muster;
 pub mod opening_rules;
+pub mod outlet;
 pub mod passes;
 pub mod refusal_rules;
 pub mod requests;
 pub mod run_apart;
+pub mod run_to_sink;
 pub mod table_end;
+pub mod text_outlet;
 pub mod windows;
 pub mod work_rules;

@@ -1,16 +1,18 @@
 // The jobs of all cores are made, done, and taken apart again.
 ghost use Rattle.std.specs.Prelude.{◌≡◌, ◌≤◌, [], length, vec_capacity, IfOk};
+ghost use Rattle.thread_engine.specs.Outlets.{IsAsked};
+ghost use Rattle.thread_engine.specs.Windows.{InWindows};
 ghost use Rattle.thread_engine.specs.Returns.{IsCrew, HasRoomOf, Gave, AreMade, AllAtRest, AllWent};
 
 use crate::core_job::CoreJob;
+use crate::outlet::Outlet;
 use crate::requests::Requests;
-use crate::windows::work_windows;
+use crate::windows::{Course, work_windows};
 use atomic_board::{CoreSeat, GroupTable, SeatToken};
 use core_worker::{Gate, Worker};
-use fs_errors::Memory;
 use group_engine::types::Stamped;
-use pm_region::Region;
-use std::alloc::Global;
+use pm_region::{Region, SplitRegion};
+use std::alloc::{AllocError, Global};
 use std::collections::VecDeque;
 use std::sync::Wait;
 use std::thread::Threads;
@@ -37,7 +39,7 @@ pub struct Returned<P> {
 
 impl<P: Drop> Returned<P> {
     /// Room for what so many cores give back.
-    pub fn with_room(alloc: Global, cores: usize) -> Result<Returned<P>, Memory>
+    pub fn with_room(alloc: Global, cores: usize) -> Result<Returned<P>, AllocError>
         ensures { IfOk result (HasRoomOf cores) }
     {
         let pieces = Vec::with_capacity(alloc, cores)?;
@@ -111,17 +113,21 @@ fn dismiss<P: Region + Drop>(
 }
 
 /// Lets all cores work on their pieces, each in a thread of its own, until all requests are answered, window by window,
-/// and keeps the answers by their numbers. Gives back what the cores have then, and whether there was memory for all of
-/// it.
+/// keeps the answers by their numbers, and hands those of each window to the outlet. Gives back what the cores have
+/// then, and how the windows came to an end.
 pub fn work_apart<
     'a,
     T: Threads + Wait + Sync,
+    R: SplitRegion,
+    O: Outlet,
     P: Region + Drop + Send,
     G: Gate + Sync,
     Q: Requests,
 >(
     rt: &T,
     alloc: Global,
+    region: &mut R,
+    outlet: &mut O,
     tables: &'a Vec<GroupTable>,
     group: u32,
     pieces: Vec<P>,
@@ -131,16 +137,20 @@ pub fn work_apart<
     requests: &mut Q,
     gate: &G,
     kept: &mut Vec<Option<Stamped>>,
-) -> (Returned<P>, bool)
+) -> (Returned<P>, Course)
     requires crew { IsCrew tables.now.items group (length pieces.items) crew }
     requires rest { AllAtRest P.state pieces.items crew }
     requires places { length (Q.left requests.old) ≡ length kept.old.items }
     requires room { (jobs.items ≡ []) × (length pieces.items ≤ vec_capacity jobs)
         × HasRoomOf (length pieces.items) room }
-    ensures { AllWent P.state (G.may_refuse gate.now) pieces.items crew (Q.left requests.old)
-        result.1 result.0 kept.old.items kept.new.items }
+    ensures went { InWindows O.takes (Q.left requests.old) result.1
+        (λ given places. AllWent P.state (G.may_refuse gate.now) pieces.items crew given
+        result.1.all result.0 places kept.new.items)
+        kept.old.items kept.new.items (R.state region.old) outlet.old (R.state region.new)
+        outlet.new }
+    ensures asked { IsAsked (R.state region.old) (R.state region.new) }
 {
     let mut jobs = make_jobs(alloc, tables, group, pieces, crew, jobs);
-    let all = work_windows(rt, alloc, requests, &mut jobs, gate, kept);
-    (dismiss(jobs, room), all)
+    let course = work_windows(rt, alloc, region, outlet, requests, &mut jobs, gate, kept);
+    (dismiss(jobs, room), course)
 }

@@ -4,13 +4,14 @@ ghost use Rattle.pm_region.specs.Split.{Stays, Refuses, IsNotOpened};
 ghost use Rattle.recover.specs.declared.types.Recovered.{Recovered};
 ghost use Rattle.engine_laws.specs.Origins.{Origin};
 ghost use Rattle.group_engine.specs.Replayed.{StandsAsFound, BeginsAt};
-ghost use Rattle.thread_engine.specs.RanApart.{RanApart};
+ghost use Rattle.thread_engine.specs.RanApart.{RanInWindows};
 ghost use Rattle.thread_engine.specs.Supplied.{IsSupplied, ArePartCuts};
 
 use crate::closing::{close_tables, empty_hands};
 use crate::collecting::{blank_answers, outcome_of};
 use crate::group_tables::open_tables;
 use crate::muster::{Crew, Returned, work_apart};
+use crate::outlet::Outlet;
 use crate::requests::Requests;
 use crate::{cut_rules, opening_rules, refusal_rules, work_rules};
 use atomic_board::{GroupTable, SeatToken};
@@ -45,6 +46,16 @@ pub struct Supplies {
     pub hands: Vec<Vec<SeatToken>>,
     /// Where the parts begin, in words from the region's start, and where the last one ends.
     pub cuts: Vec<u64>,
+}
+
+/// What a run came to.
+#[derive(Drop)]
+pub struct RunOutcome {
+    /// On the requests that were begun, window by window.
+    pub outcome: Outcome,
+    /// Whether the outlet took all replies that it was handed. Where it did not, nothing was begun behind their window,
+    /// and the outcome is that of the requests up to its end.
+    pub heard: bool,
 }
 
 // Where the parts begin, and where the last one ends.
@@ -93,14 +104,21 @@ fn supply<R: ReadRegion>(
 }
 
 // Splits the region, lets the cores work, and joins it. The memory for what comes after the split is taken before it.
-fn run_supplied<T: Threads + Wait + Sync, R: SplitRegion + ReadRegion, G: Gate + Sync, Q: Requests>(
+fn run_supplied<
+    T: Threads + Wait + Sync,
+    R: SplitRegion + ReadRegion,
+    O: Outlet,
+    G: Gate + Sync,
+    Q: Requests,
+>(
     rt: &T,
     alloc: Global,
     region: &mut R,
+    outlet: &mut O,
     supplies: Supplies,
     requests: &mut Q,
     gate: &G,
-) -> Result<Outcome, AttachError>
+) -> Result<RunOutcome, AttachError>
     requires whole { (R.state region.old).frame.parted ≡ false }
     requires supplied { (o : Origin) × (r : Recovered)
         × StandsAsFound (R.state region.old) (R.word region.old) r
@@ -110,11 +128,12 @@ fn run_supplied<T: Threads + Wait + Sync, R: SplitRegion + ReadRegion, G: Gate +
         → StandsAsFound (R.state region.old) (R.word region.old) r
         → BeginsAt (R.state region.old) (R.word region.old) o
         → IsSupplied o r (length (Q.left requests.old)) supplies
-        → RanApart (R.state region.old) (R.word region.old) (G.may_refuse gate.now) r
-        (Q.left requests.old) (R.state region.new) x) }
+        → RanInWindows O.takes (R.state region.old) (R.word region.old) (G.may_refuse gate.now) r
+        (Q.left requests.old) (R.state region.new) x outlet.old outlet.new) }
     ensures stays { OnErr result (Stays (R.state region.old) (R.state region.new)) }
     ensures cause { Refuses (R.state region.old) (R.state region.new) result }
     ensures opens { IsNotOpened (R.state region.old) (R.state region.new) }
+    ensures unheard { OnErr result (outlet.new ≡ outlet.old) }
 {
     opening_rules::every_opening();
     work_rules::every_chain();
@@ -132,16 +151,13 @@ fn run_supplied<T: Threads + Wait + Sync, R: SplitRegion + ReadRegion, G: Gate +
     } = supplies;
     let cores = layout.cores as usize;
     let jobs = Vec::with_capacity(alloc, cores)?;
-    let Ok(room) = Returned::with_room(alloc, cores) else {
-        return Err(AttachError::Memory);
-    };
-    let pieces = match region.split(alloc, &cuts) {
-        Ok(pieces) => pieces,
-        Err(error) => return Err(error),
-    };
-    let (back, all) = work_apart(
+    let room = Returned::with_room(alloc, cores)?;
+    let pieces = region.split(alloc, &cuts)?;
+    let (back, course) = work_apart(
         rt,
         alloc,
+        region,
+        outlet,
         &tables,
         layout.group,
         pieces,
@@ -154,35 +170,47 @@ fn run_supplied<T: Threads + Wait + Sync, R: SplitRegion + ReadRegion, G: Gate +
     );
     close_tables(tables, layout.group, back.tokens, hands);
     region.join(back.pieces);
-    let stamp = region.stamp();
-    Ok(outcome_of(back.workers, answers, report, stamp, all))
+    Ok(RunOutcome {
+        outcome: outcome_of(back.workers, answers, report, region.stamp(), course.all),
+        heard: course.heard,
+    })
 }
 
 /// Runs requests on a region that stands as recovery found it: one worker for each core, each in a thread of its own
-/// and on its own piece of the region. They are made and dealt window by window. The report's stamps are the joined
-/// region's.
+/// and on its own piece of the region. They are made and dealt window by window, and the replies of a window are handed
+/// to the outlet behind it, before the next one is begun. Where it does not take them, the run ends there: it is one of
+/// the requests up to the window's end. The report's stamps are the joined region's.
 ///
-/// Whatever the end of a run, the pieces are joined again. After an `Err` the region is as it was: `RegionFault` comes
-/// where it could not be split, and `Memory` where there was none for what the run needs.
-pub fn run<T: Threads + Wait + Sync, R: SplitRegion + ReadRegion, G: Gate + Sync, Q: Requests>(
+/// Whatever the end of a run, the pieces are joined again. After an `Err` region and outlet are as they were:
+/// `RegionFault` comes where the region could not be split, and `Memory` where there was none for what the run needs.
+pub fn run<
+    T: Threads + Wait + Sync,
+    R: SplitRegion + ReadRegion,
+    O: Outlet,
+    G: Gate + Sync,
+    Q: Requests,
+>(
     rt: &T,
     alloc: Global,
     region: &mut R,
+    outlet: &mut O,
     recovered: Recovered,
     requests: &mut Q,
     gate: &G,
-) -> Result<Outcome, AttachError>
+) -> Result<RunOutcome, AttachError>
     requires whole { (R.state region.old).frame.parted ≡ false }
     requires region { StandsAsFound (R.state region.old) (R.word region.old) recovered }
-    ensures ran { IfOk result (λ x. RanApart (R.state region.old) (R.word region.old)
-        (G.may_refuse gate.now) recovered (Q.left requests.old) (R.state region.new) x) }
+    ensures ran { IfOk result (λ x. RanInWindows O.takes (R.state region.old) (R.word region.old)
+        (G.may_refuse gate.now) recovered (Q.left requests.old) (R.state region.new) x outlet.old
+        outlet.new) }
     ensures stays { OnErr result (Stays (R.state region.old) (R.state region.new)) }
     ensures cause { Refuses (R.state region.old) (R.state region.new) result }
     ensures opens { IsNotOpened (R.state region.old) (R.state region.new) }
+    ensures unheard { OnErr result (outlet.new ≡ outlet.old) }
 {
     let count = requests.count();
     let Ok(supplies) = supply(alloc, &*region, recovered, count) else {
         return Err(AttachError::Memory);
     };
-    run_supplied(rt, alloc, region, supplies, requests, gate)
+    run_supplied(rt, alloc, region, outlet, supplies, requests, gate)
 }

@@ -1,27 +1,38 @@
 // The requests of a run, dealt window by window to the cores that own their keys, and worked off.
-ghost use Rattle.std.specs.Prelude.{◌≡◌, ℕ, ◌+◌, ◌<◌, ◌≤◌, ◌∷◌, [], length, slice_index_or, true, OnOk, OnErr};
+ghost use Rattle.std.specs.Prelude.{◌≡◌, ℕ, ◌+◌, ◌-◌, ◌<◌, ◌≤◌, ◌∷◌, [], map, take, drop, length, slice_index_or, true, OnOk, OnErr};
 ghost use Rattle.std.specs.List.{list_any};
-ghost use Rattle.answer_queue.specs.declared.window_sizes.TheConstants.{PARTS};
+ghost use Rattle.answer_queue.specs.declared.window_sizes.TheConstants.{WINDOW, PARTS};
+ghost use Rattle.group_engine.specs.Reports.{reply_in};
 ghost use Rattle.thread_engine.specs.declared.core_job.CoreJob as data_of;
 ghost use Rattle.thread_engine.specs.WorkStates.{IsAtWork, sight_by, stands_at};
-ghost use Rattle.thread_engine.specs.Windows.{AreDealt, DealsSome, DealsTo, AreAtRest, EachChanges, Winds, WorksOffSome, WorksOffTo, WorksThrough};
+ghost use Rattle.thread_engine.specs.Windows.{AreDealt, DealsSome, DealsTo, AreAtRest, EachChanges, Winds, WorksOffSome, WorksOffTo, WorksThrough, InWindows};
+ghost use Rattle.thread_engine.specs.Outlets.{IsAsked};
 
 use crate::core_job::CoreJob;
 use crate::desk::{Desk, keep_taken, work_at_desk};
+use crate::outlet::Outlet;
 use crate::requests::Requests;
+use answer_queue::WINDOW;
 use core_worker::Gate;
 use fs_errors::Memory;
 use fs_model::Request;
 use group_board::Board;
 use group_engine::backlog::append;
 use group_engine::types::Stamped;
-use pm_region::Region;
+use pm_region::{Region, SplitRegion};
 use std::alloc::Global;
 use std::sync::Wait;
 use std::thread::Threads;
 
-/// The most requests of a window.
-pub const WINDOW: u64 = 4096;
+/// How the windows of a run came to an end.
+#[derive(Clone, Copy, Debug)]
+pub struct Course {
+    /// Whether there was memory for all that was begun. Where there was not, what was posted or taken is finished, and
+    /// every worker winds down.
+    pub all: bool,
+    /// Whether the outlet took all replies that it was handed. Where it did not, nothing was begun behind their window.
+    pub heard: bool,
+}
 
 // Deals a request to the core that owns its key.
 fn deal_one<B, P>(jobs: &mut [CoreJob<B, P>], number: u64, request: Request) -> Result<(), Memory>
@@ -126,19 +137,42 @@ fn window_end(from: u64, count: u64) -> u64
     ensures moves { from < count → from < result }
     ensures few { result ≤ from + WINDOW }
     ensures within { result ≤ count }
+    ensures full { result < count → result ≡ from + WINDOW }
 {
-    if count - from < WINDOW {
+    if count - from < WINDOW as u64 {
         count
     } else {
-        from + WINDOW
+        from + WINDOW as u64
     }
 }
 
-/// Lets all cores work the requests off, window by window, and keeps the answers by their numbers. Answers whether
-/// there was memory for all of them. Where there was not, what was posted or taken is finished, nothing more is begun,
-/// and every worker winds down.
+// Hands a window's answers to the outlet: those from number `from` on, before number `to`.
+fn hand_window<R: SplitRegion, O: Outlet>(
+    alloc: Global,
+    region: &mut R,
+    outlet: &mut O,
+    kept: &Vec<Option<Stamped>>,
+    from: u64,
+    to: u64,
+) -> bool
+    requires order { from ≤ to }
+    requires places { to ≤ length kept.now.items }
+    ensures took { O.takes (R.state region.old) outlet.old
+        (map reply_in (take (to - from) (drop from kept.now.items))) result
+        (R.state region.new) outlet.new }
+    ensures asked { IsAsked (R.state region.old) (R.state region.new) }
+{
+    outlet.take_window(alloc, region, &kept[from as usize..to as usize])
+}
+
+/// Lets all cores work the requests off, window by window, keeps the answers by their numbers, and hands those of each
+/// window to the outlet behind it. Where there was not memory for all of them, what was posted or taken is finished,
+/// nothing more is begun, and every worker winds down; the answers of that window are not handed over. Where the outlet
+/// did not take a window's answers, no window is begun behind it, and no answer has a place behind those of it.
 pub fn work_windows<
     T: Threads + Wait + Sync,
+    R: SplitRegion,
+    O: Outlet,
     B: Board + Send,
     P: Region + Send,
     G: Gate + Sync,
@@ -146,17 +180,23 @@ pub fn work_windows<
 >(
     rt: &T,
     alloc: Global,
+    region: &mut R,
+    outlet: &mut O,
     requests: &mut Q,
     jobs: &mut [CoreJob<B, P>],
     gate: &G,
     kept: &mut Vec<Option<Stamped>>,
-) -> bool
+) -> Course
     requires some { 0 < length jobs.old }
     requires parts { length jobs.old < PARTS }
     requires rest { AreAtRest B.seat (sight_by B.view B.trail B.at) P.state jobs.old }
     requires places { length (Q.left requests.old) ≡ length kept.old.items }
-    ensures { WorksThrough B.seat (sight_by B.view B.trail B.at) P.state (G.may_refuse gate.now)
-        (Q.left requests.old) result jobs.old jobs.new kept.old.items kept.new.items }
+    ensures works { InWindows O.takes (Q.left requests.old) result
+        (λ given places. WorksThrough B.seat (sight_by B.view B.trail B.at) P.state
+        (G.may_refuse gate.now) given result.all jobs.old jobs.new places kept.new.items)
+        kept.old.items kept.new.items (R.state region.old) outlet.old (R.state region.new)
+        outlet.new }
+    ensures asked { IsAsked (R.state region.old) (R.state region.new) }
 {
     let count = requests.count() as u64;
     let mut from = 0;
@@ -164,10 +204,15 @@ pub fn work_windows<
         let to = window_end(from, count);
         if !work_window(rt, alloc, requests, jobs, gate, kept, from, to) {
             wind_all_down(jobs);
-            return false;
+            return Course {
+                all: false,
+                heard: true,
+            };
         }
-        if to == count {
-            return true;
+        let heard = hand_window(alloc, region, outlet, kept, from, to);
+        if !heard || to == count {
+            kept.truncate(to as usize);
+            return Course { all: true, heard };
         }
         from = to;
     }

@@ -1,4 +1,4 @@
-use Rattle.std.proofs.Common.{List, length, sym, ◌∙◌, ap, subst, arith}
+use Rattle.std.proofs.Common.{List, length, take, sym, ◌∙◌, ap, subst, arith}
 use Rattle.atomic_board.specs.declared.token.CoreSeat.{CoreSeat}
 use Rattle.thread_engine.specs.declared.core_job.CoreJob.{CoreJob}
 use Rattle.thread_engine.specs.Returns.{Gave}
@@ -7,8 +7,8 @@ use Rattle.thread_engine.proofs.Places.{map_long}
 use Rattle.thread_engine.proofs.Went.{take_front, jobs_rest, all_went, seat_at, sight_there}
 use Rattle.thread_engine.proofs.muster.work_apart.Goals as goal
 
-pub work_windows-all-requires-clause-some : goal.work_windows-all-requires-clause-some
-work_windows-all-requires-clause-some g c =
+pub work_windows-course-requires-clause-some : goal.work_windows-course-requires-clause-some
+work_windows-course-requires-clause-some g c =
     let jobs = c.make_jobs-jobs.result.items in
     let value = ap length c.deref_mut.ensures.value in
     let long = ap length c.make_jobs-jobs.ensures.pieces_are in
@@ -16,8 +16,8 @@ work_windows-all-requires-clause-some g c =
     let any = c.requires.crew.any in
     omega (arith, value, long, same, any)
 
-pub work_windows-all-requires-clause-parts : goal.work_windows-all-requires-clause-parts
-work_windows-all-requires-clause-parts g c =
+pub work_windows-course-requires-clause-parts : goal.work_windows-course-requires-clause-parts
+work_windows-course-requires-clause-parts g c =
     let jobs = c.make_jobs-jobs.result.items in
     let value = ap length c.deref_mut.ensures.value in
     let long = ap length c.make_jobs-jobs.ensures.pieces_are in
@@ -25,21 +25,30 @@ work_windows-all-requires-clause-parts g c =
     let few = c.requires.crew.few in
     omega (arith, value, long, same, few)
 
-pub work_windows-all-requires-clause-rest : goal.work_windows-all-requires-clause-rest
-work_windows-all-requires-clause-rest g c κs within =
+pub work_windows-course-requires-clause-rest : goal.work_windows-course-requires-clause-rest
+work_windows-course-requires-clause-rest g c κs within =
     subst (AreAtRest seat_at sight_there g.P.Region.state) (sym c.deref_mut.ensures.value) (jobs_rest g.P.Region.state c.args.pieces.items c.args.crew c.make_jobs-jobs.result.items c.make_jobs-jobs.ensures c.requires.rest)
 
-pub returns : goal.returns
-returns g c =
+pub returns-clause-went : goal.returns-clause-went
+returns-clause-went g c =
     let old = c.make_jobs-jobs.result.items in
-    let new = c.work_windows-all.new.jobs in
+    let new = c.work_windows-course.new.jobs in
     let state = g.P.Region.state in
     let refused = g.G.Gate.may_refuse c.args.gate.now in
-    let given = g.Q.Requests.left c.args.requests.now in
     let kept = c.args.kept.now.items in
-    let kept' = c.work_windows-all.new.kept.items in
+    let kept' = c.work_windows-course.new.kept.items in
     let value = c.deref_mut.ensures.value in
-    let W = subst (λ (js : List (CoreJob CoreSeat g.row.P.Denot)). WorksThrough seat_at sight_there state refused given c.work_windows-all.result js new kept kept') value c.work_windows-all.ensures in
+    let all = c.work_windows-course.result.all in
+    let I = c.work_windows-course.ensures.works in
+    let first = take (length I.given) kept in
+    let W = subst (λ (js : List (CoreJob CoreSeat g.row.P.Denot)). WorksThrough seat_at sight_there state refused I.given all js new first kept') value I.did in
     let front = take_front c.make_jobs-jobs.result.len new _ (c.make_jobs-jobs.result.ok.0 ∙ sym W.went.count) in
-    all_went state c.args.pieces.items c.args.crew old c.make_jobs-jobs.ensures refused given c.work_windows-all.result new kept kept' W
-    c.dismiss.result (subst (λ (js : List (CoreJob CoreSeat g.row.P.Denot)). Gave js c.dismiss.result) front c.dismiss.ensures)
+    record {
+      given = I.given;
+      more = I.more;
+      split = I.split;
+      whole = I.whole;
+      did = all_went state c.args.pieces.items c.args.crew old c.make_jobs-jobs.ensures refused I.given all new first kept' W
+          c.dismiss.result (subst (λ (js : List (CoreJob CoreSeat g.row.P.Denot)). Gave js c.dismiss.result) front c.dismiss.ensures);
+      hands = I.hands;
+    }

@@ -1,32 +1,38 @@
-use Rattle.std.proofs.Common.{◌≡◌, ℕ, ◌-◌, ◌<◌, List, length, slice_index_or, Ok, Err, sym, ◌∙◌, ap, subst, arith}
+use Rattle.std.proofs.Common.{◌≡◌, ℕ, ◌-◌, ◌<◌, ◌≤◌, List, ◌++◌, length, length-append, map, take, slice_index_or, Ok, sym, ◌∙◌, ap, subst, arith}
+use Rattle.std.proofs.lemmas.List.{length-take-le}
 use Rattle.pm_region.specs.State.{State}
 use Rattle.pm_region.specs.Split.{AreCuts, IsPiece, Parted, Joined, Refuses}
-use Rattle.pm_region.specs.declared.split.AttachError.{AttachError}
-use Rattle.pm_region.specs.declared.split.AttachError.TheVariants as errors
 use Rattle.thread_engine.proofs.Assembly.{cuts_are, crew_is, all_rest, tokens_back, pieces_back, run_ran}
 use Rattle.group_engine.specs.Replayed.{report_in}
 use Rattle.group_engine.specs.Reports.{IsReport, HasRoomFor}
-use Rattle.thread_engine.specs.Collected.{restamped}
+use Rattle.group_engine.specs.declared.run_report.Report.{Report}
+use Rattle.thread_engine.specs.Collected.{restamped, any_stopped, had_memory}
+use Rattle.thread_engine.specs.Outlets.{IsAsked, HandsOut}
+use Rattle.thread_engine.proofs.Handing.{fewer_blank, same_replies, end_memory}
 use Rattle.thread_engine.proofs.KeptAnswers.{stored_long}
-use Rattle.thread_engine.proofs.Rejoining.{region_cuts}
+use Rattle.thread_engine.proofs.Looks.{as_passed}
+use Rattle.thread_engine.proofs.Rejoining.{region_cuts, still_parted}
 use Rattle.thread_engine.proofs.run_apart.run_supplied.Goals as goal
 
--- a refusal of one call is one of the other
-as_err : {A B : Type 0} (s t : State) (e : AttachError) → Refuses {T = A} s t (Err e) → Refuses {T = B} s t (Err e)
-as_err s t e R = record {
-  later = R.later;
-  fault = λ is. R.fault (let q : e ≡ errors.RegionFault = cc is in ap Err q);
-  else_same = λ no_. R.else_same (λ is. no_ (let q : e ≡ errors.RegionFault = cc is in ap Err q));
-  no_fall = R.no_fall;
+-- what was split and joined was not refused
+as_joined : {A B : Type 0} (s p mid t : State) (cuts : List ℕ) (a : A) (b : B) → Parted s p cuts → IsAsked p mid → Joined mid t → Refuses {T = A} s p (Ok a) → Refuses {T = B} s t (Ok b)
+as_joined s p mid t cuts a b D L X R = record {
+  later = (let up = X.faults in let more = L.later in let same = D.faults in omega (arith, up, more, same));
+  fault = λ is. absurd (cc is);
+  else_same = λ no_. X.refusals ∙ L.refusals ∙ R.else_same (λ is. cc is);
+  no_fall = (let same = X.refusals in let asked = L.refusals in let low = R.no_fall in omega (arith, same, asked, low));
 }
 
--- what was split and joined was not refused
-as_joined : {A B : Type 0} (s mid t : State) (cuts : List ℕ) (a : A) (b : B) → Parted s mid cuts → Joined mid t → Refuses {T = A} s mid (Ok a) → Refuses {T = B} s t (Ok b)
-as_joined s mid t cuts a b D X R = record {
-  later = (let up = X.faults in let same = D.faults in omega (arith, up, same));
-  fault = λ is. absurd (cc is);
-  else_same = λ no_. X.refusals ∙ R.else_same (λ is. cc is);
-  no_fall = (let same = X.refusals in let low = R.no_fall in omega (arith, same, low));
+-- a list's front is no longer than the list
+front_low : {X : Type 0} (xs ys zs : List X) → xs ≡ ys ++ zs → length ys ≤ length xs
+front_low xs ys zs e = (let long = ap length e ∙ length-append ys zs in omega (arith, long))
+
+-- room for more is room for fewer
+less_room : (n m : ℕ) (r : Report) → n ≤ m → HasRoomFor m r → HasRoomFor n r
+less_room n m r low H = record {
+  replies = (let h = H.replies in omega (arith, h, low));
+  finishes = (let h = H.finishes in omega (arith, h, low));
+  refusals = (let h = H.refusals in omega (arith, h, low));
 }
 
 pub split-requires-clause-cuts : goal.split-requires-clause-cuts
@@ -36,10 +42,11 @@ split-requires-clause-cuts g c =
     let z = c.requires.supplied in
     let given = g.Q.Requests.left c.args.requests.now in
     subst (λ cs. AreCuts s.frame.words cs) (sym c.deref.ensures.value)
-    (region_cuts s word z.1 z.0 z.2 z.3 c.args.supplies.cuts.items (cuts_are g.R.Piece.Region.state (g.G.Gate.may_refuse c.args.gate.now) s word z.0 z.1 given c.args.supplies z.2 z.3 z.4))
+    (region_cuts s word z.1 z.0 z.2 z.3 c.args.supplies.cuts.items (cuts_are g.R.Piece.Region.state (g.G.Gate.may_refuse c.args.gate.now) s word z.0 z.1 given (length given) c.args.supplies z.2 z.3 z.4))
 
-pub returns-in-Err-clause-cause : goal.returns-in-Err-clause-cause
-returns-in-Err-clause-cause g c = as_err (g.R.Region.state c.args.region.now) (g.R.Region.state c.split.new.self) c.in-Err.error c.in-Err.ensures.cause
+pub returns-in_err-pieces-clause-cause : goal.returns-in_err-pieces-clause-cause
+returns-in_err-pieces-clause-cause g c =
+    as_passed (g.R.Region.state c.args.region.now) (g.R.Region.state c.split.new.self) c.in_err-pieces.field-0.0 c.in_err-pieces.ensures.cause c.from_residual-in_err-pieces.result c.from_residual-in_err-pieces.ensures.1
 
 pub work_apart-back-requires-clause-crew : goal.work_apart-back-requires-clause-crew
 work_apart-back-requires-clause-crew g c κs within =
@@ -50,10 +57,10 @@ work_apart-back-requires-clause-crew g c κs within =
     let x = c.args.supplies in
     let z = c.requires.supplied in
     let given = g.Q.Requests.left c.args.requests.now in
-    let ps = c.in-Ok-split.pieces.items in
-    let count = c.in-Ok-split.ensures.count ∙ ap (λ (cs : List ℕ). length cs - 1) c.deref.ensures.value in
-    let piece = subst (λ (cs : List ℕ). (i : ℕ) (p : g.row.R-Piece.Denot) → i < length ps → IsPiece s cs i (state (slice_index_or ps i p))) c.deref.ensures.value c.in-Ok-split.ensures.pieces in
-    crew_is state refused s word z.0 z.1 given x z.2 z.3 z.4 ps count piece
+    let ps = c.in_ok-pieces.pieces.items in
+    let count = c.in_ok-pieces.ensures.count ∙ ap (λ (cs : List ℕ). length cs - 1) c.deref.ensures.value in
+    let piece = subst (λ (cs : List ℕ). (i : ℕ) (p : g.row.R-Piece.Denot) → i < length ps → IsPiece s cs i (state (slice_index_or ps i p))) c.deref.ensures.value c.in_ok-pieces.ensures.pieces in
+    crew_is state refused s word z.0 z.1 given (length given) x z.2 z.3 z.4 ps count piece
 
 pub work_apart-back-requires-clause-rest : goal.work_apart-back-requires-clause-rest
 work_apart-back-requires-clause-rest g c κs within =
@@ -64,10 +71,10 @@ work_apart-back-requires-clause-rest g c κs within =
     let x = c.args.supplies in
     let z = c.requires.supplied in
     let given = g.Q.Requests.left c.args.requests.now in
-    let ps = c.in-Ok-split.pieces.items in
-    let count = c.in-Ok-split.ensures.count ∙ ap (λ (cs : List ℕ). length cs - 1) c.deref.ensures.value in
-    let piece = subst (λ (cs : List ℕ). (i : ℕ) (p : g.row.R-Piece.Denot) → i < length ps → IsPiece s cs i (state (slice_index_or ps i p))) c.deref.ensures.value c.in-Ok-split.ensures.pieces in
-    all_rest state refused s word z.0 z.1 given x z.2 z.3 z.4 ps count piece c.every_opening.ensures.doubts
+    let ps = c.in_ok-pieces.pieces.items in
+    let count = c.in_ok-pieces.ensures.count ∙ ap (λ (cs : List ℕ). length cs - 1) c.deref.ensures.value in
+    let piece = subst (λ (cs : List ℕ). (i : ℕ) (p : g.row.R-Piece.Denot) → i < length ps → IsPiece s cs i (state (slice_index_or ps i p))) c.deref.ensures.value c.in_ok-pieces.ensures.pieces in
+    all_rest state refused s word z.0 z.1 given (length given) x z.2 z.3 z.4 ps count piece c.every_opening.ensures.doubts
 
 pub close_tables-requires-clause-tokens : goal.close_tables-requires-clause-tokens
 close_tables-requires-clause-tokens g c =
@@ -77,11 +84,20 @@ close_tables-requires-clause-tokens g c =
     let refused = g.G.Gate.may_refuse c.args.gate.now in
     let x = c.args.supplies in
     let z = c.requires.supplied in
-    let given = g.Q.Requests.left c.args.requests.now in
-    let ps = c.in-Ok-split.pieces.items in
-    let count = c.in-Ok-split.ensures.count ∙ ap (λ (cs : List ℕ). length cs - 1) c.deref.ensures.value in
-    let piece = subst (λ (cs : List ℕ). (i : ℕ) (p : g.row.R-Piece.Denot) → i < length ps → IsPiece s cs i (state (slice_index_or ps i p))) c.deref.ensures.value c.in-Ok-split.ensures.pieces in
-    tokens_back state refused s word z.0 z.1 given x z.2 z.3 z.4 ps count piece c.work_apart-back.result.0 c.work_apart-back.result.1 c.work_apart-back.new.kept.items c.work_apart-back.ensures
+    let left = g.Q.Requests.left c.args.requests.now in
+    let I = c.work_apart-back.ensures.went in
+    let ps = c.in_ok-pieces.pieces.items in
+    let count = c.in_ok-pieces.ensures.count ∙ ap (λ (cs : List ℕ). length cs - 1) c.deref.ensures.value in
+    let piece = subst (λ (cs : List ℕ). (i : ℕ) (p : g.row.R-Piece.Denot) → i < length ps → IsPiece s cs i (state (slice_index_or ps i p))) c.deref.ensures.value c.in_ok-pieces.ensures.pieces in
+    tokens_back state refused s word z.0 z.1 I.given (length left) x z.2 z.3 z.4 ps count piece c.work_apart-back.result.0 c.work_apart-back.result.1.all (take (length I.given) x.answers.items) c.work_apart-back.new.kept.items I.did
+
+pub join-requires-clause-parted : goal.join-requires-clause-parted
+join-requires-clause-parted g c = c.work_apart-back.ensures.asked.stays.parted ∙ c.in_ok-pieces.ensures.ok.parted
+
+pub join-requires-clause-count : goal.join-requires-clause-count
+join-requires-clause-count g c =
+    let cuts = ap (λ (cs : List ℕ). length cs - 1) (c.work_apart-back.ensures.asked.stays.cuts ∙ c.in_ok-pieces.ensures.ok.cuts_are) in
+    c.work_apart-back.ensures.went.did.pieces_count ∙ c.in_ok-pieces.ensures.count ∙ sym cuts
 
 pub join-requires-clause-pieces : goal.join-requires-clause-pieces
 join-requires-clause-pieces g c =
@@ -91,12 +107,15 @@ join-requires-clause-pieces g c =
     let refused = g.G.Gate.may_refuse c.args.gate.now in
     let x = c.args.supplies in
     let z = c.requires.supplied in
-    let given = g.Q.Requests.left c.args.requests.now in
-    let ps = c.in-Ok-split.pieces.items in
-    let count = c.in-Ok-split.ensures.count ∙ ap (λ (cs : List ℕ). length cs - 1) c.deref.ensures.value in
-    let piece = subst (λ (cs : List ℕ). (i : ℕ) (p : g.row.R-Piece.Denot) → i < length ps → IsPiece s cs i (state (slice_index_or ps i p))) c.deref.ensures.value c.in-Ok-split.ensures.pieces in
-    let mid = g.R.Region.state c.split.new.self in
-    pieces_back state refused s word z.0 z.1 given x z.2 z.3 z.4 ps count piece c.work_apart-back.result.0 c.work_apart-back.result.1 c.work_apart-back.new.kept.items c.work_apart-back.ensures mid (subst (λ (cs : List ℕ). Parted s mid cs) c.deref.ensures.value c.in-Ok-split.ensures.ok)
+    let left = g.Q.Requests.left c.args.requests.now in
+    let I = c.work_apart-back.ensures.went in
+    let ps = c.in_ok-pieces.pieces.items in
+    let count = c.in_ok-pieces.ensures.count ∙ ap (λ (cs : List ℕ). length cs - 1) c.deref.ensures.value in
+    let piece = subst (λ (cs : List ℕ). (i : ℕ) (p : g.row.R-Piece.Denot) → i < length ps → IsPiece s cs i (state (slice_index_or ps i p))) c.deref.ensures.value c.in_ok-pieces.ensures.pieces in
+    let split = g.R.Region.state c.split.new.self in
+    let mid = g.R.Region.state c.work_apart-back.new.region in
+    let parted = still_parted s split mid x.cuts.items (subst (λ (cs : List ℕ). Parted s split cs) c.deref.ensures.value c.in_ok-pieces.ensures.ok) c.work_apart-back.ensures.asked in
+    pieces_back state refused s word z.0 z.1 I.given (length left) x z.2 z.3 z.4 ps count piece c.work_apart-back.result.0 c.work_apart-back.result.1.all (take (length I.given) x.answers.items) c.work_apart-back.new.kept.items I.did mid parted
 
 pub work_apart-back-requires-clause-places : goal.work_apart-back-requires-clause-places
 work_apart-back-requires-clause-places g c κs within = (let z = c.requires.supplied in sym z.4.places)
@@ -104,26 +123,59 @@ work_apart-back-requires-clause-places g c κs within = (let z = c.requires.supp
 pub outcome_of-requires-clause-room : goal.outcome_of-requires-clause-room
 outcome_of-requires-clause-room g c =
     let z = c.requires.supplied in
-    let same = stored_long c.work_apart-back.ensures.taken.taken 0 c.args.supplies.answers.items in
-    subst (λ n. HasRoomFor n c.args.supplies.report) (sym (ap length c.work_apart-back.ensures.taken.kept ∙ same)) z.4.room
+    let I = c.work_apart-back.ensures.went in
+    let blanks = take (length I.given) c.args.supplies.answers.items in
+    let few = front_low (g.Q.Requests.left c.args.requests.now) I.given I.more I.split in
+    let places = z.4.places in
+    let same = ap length I.did.taken.kept ∙ stored_long I.did.taken.taken 0 blanks ∙ length-take-le (length I.given) c.args.supplies.answers.items (omega (arith, few, places)) in
+    less_room (length c.work_apart-back.new.kept.items) (length c.args.supplies.answers.items) c.args.supplies.report (omega (arith, same, few, places)) z.4.room
 
 pub returns-clause-ran : goal.returns-clause-ran
 returns-clause-ran g c = λ o r F B S.
-    let given = g.Q.Requests.left c.args.requests.now in
+    let left = g.Q.Requests.left c.args.requests.now in
     let s = g.R.Region.state c.args.region.now in
     let word = g.R.ReadRegion.word c.args.region.now in
     let state = g.R.Piece.Region.state in
     let refused = g.G.Gate.may_refuse c.args.gate.now in
     let x = c.args.supplies in
-    let ps = c.in-Ok-split.pieces.items in
-    let count = c.in-Ok-split.ensures.count ∙ ap (λ (cs : List ℕ). length cs - 1) c.deref.ensures.value in
-    let piece = subst (λ (cs : List ℕ). (i : ℕ) (p : g.row.R-Piece.Denot) → i < length ps → IsPiece s cs i (state (slice_index_or ps i p))) c.deref.ensures.value c.in-Ok-split.ensures.pieces in
-    let mid = g.R.Region.state c.split.new.self in
+    let ps = c.in_ok-pieces.pieces.items in
+    let count = c.in_ok-pieces.ensures.count ∙ ap (λ (cs : List ℕ). length cs - 1) c.deref.ensures.value in
+    let piece = subst (λ (cs : List ℕ). (i : ℕ) (p : g.row.R-Piece.Denot) → i < length ps → IsPiece s cs i (state (slice_index_or ps i p))) c.deref.ensures.value c.in_ok-pieces.ensures.pieces in
+    let split = g.R.Region.state c.split.new.self in
+    let mid = g.R.Region.state c.work_apart-back.new.region in
     let t = g.R.Region.state c.join.new.self in
-    let parted = subst (λ (cs : List ℕ). Parted s mid cs) c.deref.ensures.value c.in-Ok-split.ensures.ok in
-    run_ran state refused s word o r given x F B S ps count piece c.work_apart-back.result.0 c.work_apart-back.result.1 c.work_apart-back.new.kept.items c.work_apart-back.ensures c.close_tables.ensures t c.join.ensures.pieces c.every_chain.ensures c.every_opening.ensures.keys c.every_opening.ensures.doubts
-    mid parted c.join.ensures.whole c.join.ensures.next c.requires.whole c.in-Ok-split.ensures.opens (c.in-Ok-split.ensures.cause.else_same (λ is. cc is)) c.join.ensures.opens c.every_refusal.ensures c.every_moment.ensures c.every_cut.ensures
-    c.outcome_of.result (subst (λ n. IsReport (restamped n c.work_apart-back.new.kept.items) (report_in c.outcome_of.result)) c.stamp-stamp.ensures c.outcome_of.ensures.report) c.outcome_of.ensures.end
+    let cut = subst (λ (cs : List ℕ). Parted s split cs) c.deref.ensures.value c.in_ok-pieces.ensures.ok in
+    let asked = c.work_apart-back.ensures.asked in
+    let I = c.work_apart-back.ensures.went in
+    let course = c.work_apart-back.result.1 in
+    let kept = c.work_apart-back.new.kept.items in
+    let few = front_low left I.given I.more I.split in
+    let blanks = take (length I.given) x.answers.items in
+    let report = c.outcome_of.ensures.report in
+    let all = sym (ap had_memory c.outcome_of.ensures.end ∙ end_memory course.all (any_stopped c.work_apart-back.result.0.workers.items)) in
+    let replies = sym (report.replies ∙ same_replies c.stamp.result kept) in
+    record {
+      given = I.given;
+      more = I.more;
+      split = I.split;
+      whole = I.whole;
+      ran = run_ran state refused s word o r I.given (length left) x F B S ps count piece c.work_apart-back.result.0 course.all blanks kept I.did c.close_tables.ensures t c.join.ensures.pieces c.every_chain.ensures c.every_opening.ensures.keys c.every_opening.ensures.doubts
+          (let places = S.places in length-take-le (length I.given) x.answers.items (omega (arith, few, places))) (fewer_blank (length I.given) x.answers.items S.blank)
+          mid (still_parted s split mid x.cuts.items cut asked) c.join.ensures.whole c.join.ensures.next c.requires.whole (asked.opens ∙ c.in_ok-pieces.ensures.opens) (asked.refusals ∙ c.in_ok-pieces.ensures.cause.else_same (λ is. cc is)) c.join.ensures.opens c.every_refusal.ensures c.every_moment.ensures c.every_cut.ensures
+          c.outcome_of.result (subst (λ n. IsReport (restamped n kept) (report_in c.outcome_of.result)) c.stamp.ensures report) c.outcome_of.ensures.end;
+      before = split;
+      behind = mid;
+      parted = (let same = cut.faults in omega (arith, same));
+      looks = asked;
+      joined = c.join.ensures.whole.faults;
+      unasked = c.in_ok-pieces.ensures.validations;
+      asked_since = c.join.ensures.validations;
+      hands = subst (λ b. HandsOut g.O.Outlet.takes b course.heard c.outcome_of.result.replies.items split c.args.outlet.now mid c.work_apart-back.new.outlet) all
+          (subst (λ rs. HandsOut g.O.Outlet.takes course.all course.heard rs split c.args.outlet.now mid c.work_apart-back.new.outlet) replies I.hands);
+    }
 
 pub returns-clause-cause : goal.returns-clause-cause
-returns-clause-cause g c = as_joined (g.R.Region.state c.args.region.now) (g.R.Region.state c.split.new.self) (g.R.Region.state c.join.new.self) c.deref.result.now c.in-Ok-split.pieces c.outcome_of.result c.in-Ok-split.ensures.ok c.join.ensures.whole c.in-Ok-split.ensures.cause
+returns-clause-cause g c =
+    let D = c.in_ok-pieces.ensures.ok in
+    let asked = c.work_apart-back.ensures.asked in
+    as_joined (g.R.Region.state c.args.region.now) (g.R.Region.state c.split.new.self) (g.R.Region.state c.work_apart-back.new.region) (g.R.Region.state c.join.new.self) c.deref.result.now c.in_ok-pieces.pieces _ D asked c.join.ensures.whole c.in_ok-pieces.ensures.cause

@@ -1,7 +1,12 @@
-use Rattle.std.proofs.Common.{◌++◌, [], length, length-append, refl, sym, ◌∙◌, ap, append_assoc, arith}
-use Rattle.std.proofs.lemmas.List.{nil_from_length}
-use Rattle.thread_engine.specs.Takings.{both_outs}
+use Rattle.std.proofs.Common.{◌≡◌, ◌⊎◌, inl, inr, ◌+◌, ◌-◌, [], ◌∷◌, ◌++◌, length, length-append, map, take, drop, true, false, refl, sym, ◌∙◌, ap, subst, append-nil, append_assoc, arith}
+use Rattle.std.proofs.lemmas.List.{nil_from_length, take_all}
+use Rattle.answer_queue.specs.declared.window_sizes.TheConstants.{WINDOW}
+use Rattle.group_engine.specs.Reports.{reply_in}
+use Rattle.thread_engine.specs.Outlets.{all_replies}
+use Rattle.thread_engine.specs.Windows.{WorksThrough}
+use Rattle.thread_engine.specs.Takings.{both_outs, TakenAs}
 use Rattle.thread_engine.proofs.KeptAnswers.{stored_long}
+use Rattle.thread_engine.proofs.Handing.{all_more, full_more, takes_more, unasked, asked_again, taken_front, own, own_long, handed_more, handed_short}
 use Rattle.thread_engine.proofs.Takings.{nothing_taken, more_taken, taken_below}
 use Rattle.thread_engine.proofs.WindowWork.{none_went, window_more, at_work_on}
 use Rattle.thread_engine.proofs.WindingDown.{wound_went, wound_ended, wound_given, wound_all}
@@ -25,6 +30,11 @@ loop-init g c =
         went = none_went g.B.Board.seat (sight_by g.B.Board.view g.B.Board.trail g.B.Board.at) g.P.Region.state (g.G.Gate.may_refuse c.args.gate.now) 0 c.args.jobs.now c.requires.rest;
         rest = c.requires.rest;
         taken = nothing_taken 0 0 0 c.args.kept.now.items;
+        windows = [];
+        full = tt;
+        handed = refl;
+        heard = (refl, refl);
+        asked = unasked (g.R.Region.state c.args.region.now);
       },
     )
 
@@ -55,8 +65,16 @@ wind_all_down-requires g c =
     let refused = g.G.Gate.may_refuse c.args.gate.now in
     at_work_on g.B.Board.seat (sight_by g.B.Board.view g.B.Board.trail g.B.Board.at) g.P.Region.state refused c.loop.from S.dealt S.outs c.loop.jobs c.work_window.new.jobs S.went
 
-pub returns-then-not-work_window : goal.returns-then-not-work_window
-returns-then-not-work_window g c =
+pub hand_window-heard-requires-clause-places : goal.hand_window-heard-requires-clause-places
+hand_window-heard-requires-clause-places g c =
+    let S = c.work_window.ensures.some_ in
+    let same = ap length S.taken.kept ∙ stored_long S.taken.taken 0 c.loop.kept.items in
+    let places = c.loop.invariant.2.places in
+    let within = c.window_end-to.ensures.within in
+    omega (arith, same, places, within)
+
+pub returns-then-not-work_window-clause-works : goal.returns-then-not-work_window-clause-works
+returns-then-not-work_window-clause-works g c =
     let seat = g.B.Board.seat in
     let sight = sight_by g.B.Board.view g.B.Board.trail g.B.Board.at in
     let state = g.P.Region.state in
@@ -66,27 +84,50 @@ returns-then-not-work_window g c =
     let outs = both_outs I.outs S.outs in
     let went = window_more seat sight state refused c.loop.from I.dealt S.dealt I.outs S.outs c.args.jobs.now c.loop.jobs c.work_window.new.jobs I.number I.went S.went in
     let W = c.wind_all_down.ensures in
+    let from = c.loop.from in
     let to = c.window_end-to.result in
     let after = c.window_end-to.ensures.after in
     let within = c.window_end-to.ensures.within in
     let all = I.all in
+    let left = g.Q.Requests.left c.args.requests.now in
+    let b = c.work_window.new.kept.items in
+    let places = c.requires.places in
     record {
-      dealt = I.dealt ++ S.dealt;
-      rest = S.rest;
-      split = I.split ∙ ap (λ xs. I.dealt ++ xs) S.split ∙ sym (append_assoc I.dealt S.dealt S.rest);
-      outs = outs;
-      went = wound_went seat sight state c.work_window.new.jobs c.wind_all_down.new.jobs W refused 0 (I.dealt ++ S.dealt) outs c.args.jobs.now went;
-      ended = wound_ended seat sight state c.work_window.new.jobs c.wind_all_down.new.jobs W S.ended;
-      none = wound_given seat sight state c.work_window.new.jobs c.wind_all_down.new.jobs W S.none;
-      taken = taken_below 0 0 to (length (g.Q.Requests.left c.args.requests.now)) outs c.args.kept.now.items c.work_window.new.kept.items (omega (arith, within, all))
-          (more_taken 0 0 c.loop.from to I.outs S.outs c.args.kept.now.items c.loop.kept.items c.work_window.new.kept.items (omega arith) after I.taken S.taken);
-      whole = λ all. absurd (cc all);
-      memory = λ all. absurd (cc all);
-      wound = λ short. wound_all seat sight state c.work_window.new.jobs c.wind_all_down.new.jobs W;
+      given = left;
+      more = [];
+      split = sym (append-nil left);
+      whole = λ heard. refl;
+      did = subst (λ ys. WorksThrough seat sight state refused left false c.args.jobs.now c.wind_all_down.new.jobs ys b) (sym (take_all (length left) c.args.kept.now.items (omega (arith, places)))) (record {
+        dealt = I.dealt ++ S.dealt;
+        rest = S.rest;
+        split = I.split ∙ ap (λ xs. I.dealt ++ xs) S.split ∙ sym (append_assoc I.dealt S.dealt S.rest);
+        outs = outs;
+        went = wound_went seat sight state c.work_window.new.jobs c.wind_all_down.new.jobs W refused 0 (I.dealt ++ S.dealt) outs c.args.jobs.now went;
+        ended = wound_ended seat sight state c.work_window.new.jobs c.wind_all_down.new.jobs W S.ended;
+        none = wound_given seat sight state c.work_window.new.jobs c.wind_all_down.new.jobs W S.none;
+        taken = taken_below 0 0 to (length left) outs c.args.kept.now.items b (omega (arith, within, all))
+            (more_taken 0 0 from to I.outs S.outs c.args.kept.now.items c.loop.kept.items b (omega arith) after I.taken S.taken);
+        whole = λ all. absurd (cc all);
+        memory = λ all. absurd (cc all);
+        wound = λ short. wound_all seat sight state c.work_window.new.jobs c.wind_all_down.new.jobs W;
+      });
+      hands = record {
+        windows = I.windows;
+        full = I.full;
+        last = [];
+        few = omega arith;
+        rest = map reply_in (drop from b);
+        split = handed_short from to after S.outs c.loop.kept.items b S.taken I.windows I.handed;
+        at = g.R.Region.state c.loop.region;
+        mid = c.loop.outlet;
+        taken = I.heard;
+        whole = λ all. absurd (cc all);
+        short = λ none. (refl, refl, refl, refl);
+      };
     }
 
-pub returns-then-to-count : goal.returns-then-to-count
-returns-then-to-count g c =
+pub returns-then-not-heard-clause-works : goal.returns-then-not-heard-clause-works
+returns-then-not-heard-clause-works g c =
     let seat = g.B.Board.seat in
     let sight = sight_by g.B.Board.view g.B.Board.trail g.B.Board.at in
     let state = g.P.Region.state in
@@ -94,29 +135,64 @@ returns-then-to-count g c =
     let I = c.loop.invariant.2 in
     let S = c.work_window.ensures.all c.if-not-work_window.false in
     let new = g.Q.Requests.left c.work_window.new.requests in
+    let from = c.loop.from in
     let to = c.window_end-to.result in
     let after = c.window_end-to.ensures.after in
     let within = c.window_end-to.ensures.within in
-    let all = I.all in
+    let few = c.window_end-to.ensures.few in
+    let a = c.loop.kept.items in
+    let b = c.work_window.new.kept.items in
+    let w = own from to after S.outs a b S.taken in
+    let number = I.number in
+    let given = I.dealt ++ S.dealt in
+    let long : length given ≡ to = (let l = length-append I.dealt S.dealt in let d = S.end in omega (arith, l, d, number)) in
+    let taken = taken_front 0 0 to (both_outs I.outs S.outs) c.args.kept.now.items b (more_taken 0 0 from to I.outs S.outs c.args.kept.now.items a b (omega arith) after I.taken S.taken) in
+    let cut = c.truncate.ensures.items in
     record {
-      dealt = I.dealt ++ S.dealt;
-      rest = new;
+      given = given;
+      more = new;
       split = I.split ∙ ap (λ xs. I.dealt ++ xs) S.split ∙ sym (append_assoc I.dealt S.dealt new);
-      outs = both_outs I.outs S.outs;
-      went = window_more seat sight state refused c.loop.from I.dealt S.dealt I.outs S.outs c.args.jobs.now c.loop.jobs c.work_window.new.jobs I.number I.went S.went;
-      ended = λ i d low. (S.rest.rest i d low).ended;
-      none = λ i d low. (S.rest.rest i d low).none;
-      taken = taken_below 0 0 to (length (g.Q.Requests.left c.args.requests.now)) (both_outs I.outs S.outs) c.args.kept.now.items c.work_window.new.kept.items (omega (arith, within, all))
-          (more_taken 0 0 c.loop.from to I.outs S.outs c.args.kept.now.items c.loop.kept.items c.work_window.new.kept.items (omega arith) after I.taken S.taken);
-      whole = λ all. nil_from_length new (
-          let a = ap length S.split ∙ length-append S.dealt new in
-          let b = I.count in
+      whole = λ heard. nil_from_length new (
+          let l = ap length S.split ∙ length-append S.dealt new in
+          let k = I.count in
           let d = S.end in
-          let e = c.if-to-count.true in
-          omega (arith, a, b, d, e));
-      memory = λ all i d low. (S.rest.rest i d low).runs;
-      wound = λ short. absurd (cc short);
+          let e = last c.then-not-heard.either heard in
+          omega (arith, l, k, d, e));
+      did = record {
+        dealt = given;
+        rest = [];
+        split = sym (append-nil given);
+        outs = both_outs I.outs S.outs;
+        went = window_more seat sight state refused from I.dealt S.dealt I.outs S.outs c.args.jobs.now c.loop.jobs c.work_window.new.jobs I.number I.went S.went;
+        ended = λ i d low. (S.rest.rest i d low).ended;
+        none = λ i d low. (S.rest.rest i d low).none;
+        taken = subst (λ n. TakenAs 0 0 n (both_outs I.outs S.outs) (take n c.args.kept.now.items) c.truncate.new.self.items) (sym long) (subst (λ ys. TakenAs 0 0 to (both_outs I.outs S.outs) (take to c.args.kept.now.items) ys) (sym cut) taken);
+        whole = λ all. refl;
+        memory = λ all i d low. (S.rest.rest i d low).runs;
+        wound = λ short. absurd (cc short);
+      };
+      hands = record {
+        windows = I.windows;
+        full = I.full;
+        last = w;
+        few = (let places = I.places in let same = ap length S.taken.kept ∙ stored_long S.taken.taken 0 a in let l = own_long from to after S.outs a b S.taken (omega (arith, places, same, within)) in omega (arith, l, few));
+        rest = [];
+        split = ap (map reply_in) cut ∙ handed_more from to after S.outs a b S.taken I.windows I.handed ∙ ap (λ l. all_replies I.windows ++ l) (sym (append-nil w));
+        at = g.R.Region.state c.loop.region;
+        mid = c.loop.outlet;
+        taken = I.heard;
+        whole = λ all. (refl, c.hand_window-heard.ensures.took);
+        short = λ none. absurd (cc none);
+      };
     }
+  where
+    last : (c.hand_window-heard.result ≡ false) ⊎ ((c.hand_window-heard.result ≡ true) × (c.window_end-to.result ≡ c.count-count.result)) → c.hand_window-heard.result ≡ true → c.window_end-to.result ≡ c.count-count.result
+    last (inl no_) yes_ = absurd (let both : false ≡ true = sym no_ ∙ yes_ in cc both)
+    last (inr end) yes_ = end.1
+
+pub returns-then-not-heard-clause-asked : goal.returns-then-not-heard-clause-asked
+returns-then-not-heard-clause-asked g c =
+    asked_again (g.R.Region.state c.args.region.now) (g.R.Region.state c.loop.region) (g.R.Region.state c.hand_window-heard.new.region) c.loop.invariant.2.asked c.hand_window-heard.ensures.asked
 
 pub loop-preserved : goal.loop-preserved
 loop-preserved g c =
@@ -130,7 +206,13 @@ loop-preserved g c =
     let new = g.Q.Requests.left c.work_window.new.requests in
     let to = c.window_end-to.result in
     let after = c.window_end-to.ensures.after in
-    let places = I.places in (
+    let within = c.window_end-to.ensures.within in
+    let places = I.places in
+    let a = c.loop.kept.items in
+    let b = c.work_window.new.kept.items in
+    let w = own c.loop.from to after S.outs a b S.taken in
+    let same = ap length S.taken.kept ∙ stored_long S.taken.taken 0 a in
+    let full = c.window_end-to.ensures.full (let not_yet = c.if-to-count.false in omega (arith, not_yet, within)) in (
       tt,
       tt,
       record {
@@ -140,9 +222,15 @@ loop-preserved g c =
         number = (let a = length-append I.dealt S.dealt in let d = S.end in omega (arith, a, d, number));
         count = (let a = ap length S.split ∙ length-append S.dealt new in let b = I.count in let d = S.end in omega (arith, a, b, d));
         all = I.all;
-        places = (let same = ap length S.taken.kept ∙ stored_long S.taken.taken 0 c.loop.kept.items in omega (arith, same, places));
+        places = omega (arith, same, places);
         went = window_more seat sight state refused c.loop.from I.dealt S.dealt I.outs S.outs c.args.jobs.now c.loop.jobs c.work_window.new.jobs I.number I.went S.went;
         rest = S.rest;
         taken = more_taken 0 0 c.loop.from to I.outs S.outs c.args.kept.now.items c.loop.kept.items c.work_window.new.kept.items (omega arith) after I.taken S.taken;
+        windows = I.windows ++ w ∷ [];
+        full = full_more I.windows w I.full (let long = own_long c.loop.from to after S.outs a b S.taken (omega (arith, places, same, within)) in omega (arith, long, full));
+        handed = handed_more c.loop.from to after S.outs a b S.taken I.windows I.handed ∙ sym (all_more I.windows w);
+        heard = takes_more g.O.Outlet.takes I.windows w (g.R.Region.state c.args.region.now) c.args.outlet.now (g.R.Region.state c.loop.region) c.loop.outlet (g.R.Region.state c.hand_window-heard.new.region) c.hand_window-heard.new.outlet I.heard
+            (subst (λ h. g.O.Outlet.takes (g.R.Region.state c.loop.region) c.loop.outlet w h (g.R.Region.state c.hand_window-heard.new.region) c.hand_window-heard.new.outlet) c.if-not-heard.false c.hand_window-heard.ensures.took);
+        asked = asked_again (g.R.Region.state c.args.region.now) (g.R.Region.state c.loop.region) (g.R.Region.state c.hand_window-heard.new.region) I.asked c.hand_window-heard.ensures.asked;
       },
     )

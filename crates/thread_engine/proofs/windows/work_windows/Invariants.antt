@@ -1,5 +1,10 @@
-use Rattle.std.proofs.Common.{◌≡◌, ◌+◌, List, ◌++◌, length}
+use Rattle.std.proofs.Common.{◌≡◌, ◌+◌, List, ◌++◌, length, map, take}
+use Rattle.std.specs.List.{AllByRecursion}
 use Rattle.fs_model.specs.declared.model.Request.{Request}
+use Rattle.fs_model.specs.declared.model.Reply.{Reply}
+use Rattle.answer_queue.specs.declared.window_sizes.TheConstants.{WINDOW}
+use Rattle.group_engine.specs.Reports.{reply_in}
+use Rattle.thread_engine.specs.Outlets.{IsAsked, all_replies, TakesAll}
 use Rattle.core_worker.specs.declared.types.Answer.{Answer}
 use Rattle.thread_engine.specs.Takings.{TakenAs}
 use Rattle.thread_engine.specs.Windows.{AreAtRest, AllWentOn}
@@ -20,4 +25,9 @@ invariant-loop g l = (goal.iterator-loop g).can_next l.iterator'
       went : AllWentOn g.B.Board.seat (sight_by g.B.Board.view g.B.Board.trail g.B.Board.at) g.P.Region.state (g.G.Gate.may_refuse l.gate) 0 dealt outs l.fn.jobs l.jobs;
       rest : AreAtRest g.B.Board.seat (sight_by g.B.Board.view g.B.Board.trail g.B.Board.at) g.P.Region.state l.jobs;
       taken : TakenAs 0 0 l.from outs l.fn.kept.items l.kept.items;
+      windows : List (List Reply);
+      full : AllByRecursion (λ w. length w ≡ WINDOW) windows;
+      handed : map reply_in (take l.from l.kept.items) ≡ all_replies windows;
+      heard : TakesAll g.O.Outlet.takes windows (g.R.Region.state l.fn.region) l.fn.outlet (g.R.Region.state l.region) l.outlet;
+      asked : IsAsked (g.R.Region.state l.fn.region) (g.R.Region.state l.region);
     }
