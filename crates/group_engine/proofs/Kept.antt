@@ -134,6 +134,7 @@ stored_shows K asked t (x ∷ xs) (a ∷ more) ans ys are places once of shown n
         ];
         known = are.0.known;
         cause = are.0.cause;
+        shows = (x.request, of x (inl refl), are.0.shows);
       }
 
       now : (k : ℕ) → ShowsAnswer K (asked k) (cond (x.number == k) (Some (record { reply = x.reply; stamp = t })) (ans k)) (kept_at (slice_set ys a.number kept) k)
@@ -151,7 +152,7 @@ pub shows_less : (K L : Type 0) (asked : Option Request) (a : Option engines.Ans
 shows_less K L asked None None f h = tt
 shows_less K L asked None (Some x) f h = h
 shows_less K L asked (Some a) None f h = h
-shows_less K L asked (Some a) (Some x) f h = record { stamp = h.stamp; reply = h.reply; known = λ l. h.known (f l); cause = h.cause }
+shows_less K L asked (Some a) (Some x) f h = record { stamp = h.stamp; reply = h.reply; known = λ l. h.known (f l); cause = h.cause; shows = h.shows }
 
 -- the answers have places where those that were fixed have
 pub places_of : (K : Type 0) (n : ℕ) (xs : List Fixed) (given : List Answer) → AreGiven K xs given → ((y : Fixed) → In y xs → y.number < n) → HavePlaces n given

@@ -18,13 +18,13 @@ use Rattle.engine_laws.specs.Engine.{Engine}
 use Rattle.engine_laws.specs.Stands.{Origin, Stands, start_of}
 use Rattle.engine_laws.specs.Promises.{HasStopped, Promised}
 use Rattle.engine_laws.specs.Reports.{reply_of, replies_from, named_at, named_from, told_of, AllAnswered}
-use Rattle.engine_laws.proofs.Clients.{promised}
+use Rattle.engine_laws.proofs.Clients.{all_append, promised}
 use Rattle.group_engine.specs.declared.types.Stamped.{Stamped}
 use Rattle.group_engine.specs.declared.run_report.Finish.{Finish}
 use Rattle.group_engine.specs.declared.run_report.Refusal.{Refusal}
-use Rattle.group_engine.specs.Answers.{ShowsAnswer, IsCause, reply_to, kept_at, is_read}
+use Rattle.group_engine.specs.Answers.{ShowsAnswer, IsCause, ShowsCause, reply_to, kept_at, is_read}
 use Rattle.group_engine.specs.declared.run_report.Report.{Report}
-use Rattle.group_engine.specs.Reports.{reply_in, finish_in, refusal_in, refusal_of, finishes_in, refusals_in, told_by, IsReport, ReportsOn}
+use Rattle.group_engine.specs.Reports.{reply_in, finish_in, refusal_in, refusal_of, finishes_in, refusals_in, told_by, ShowsWhy, IsReport, ReportsOn}
 
 -- what a get found is no finish, no refusal and no stop, and a get may be answered so
 record Quiet (q : Request) (r : Reply) : Type 0 where
@@ -96,6 +96,24 @@ module _ (K : Type 0) where
     by : (c : Option Shortage) → IsCause a.reply c → map named (refusal_of n c) ≡ cond (is_told a.reply) ((n, a.reply) ∷ []) []
     by None quiet = sym (ap (λ b. cond b ((n, a.reply) ∷ []) []) quiet)
     by (Some s) is = sym (ap (λ b. cond b ((n, a.reply) ∷ []) []) (ap is_told is ∙ told_cause s) ∙ ap (λ r. (n, r) ∷ []) is)
+
+  shows_one : (all : List Request) (n : ℕ) (o : Option engines.Answer) (x : Option Stamped) → ShowsAnswer K (slice_get all n) o x → AllByRecursion (ShowsWhy all) (refusal_in n x)
+  shows_one all n None None h = tt
+  shows_one all n None (Some x) h = absurd h
+  shows_one all n (Some a) None h = absurd h
+  shows_one all n (Some a) (Some x) h = by x.refusal h.shows where
+    by : (c : Option Shortage) → (q : Request) × (slice_get all n ≡ Some q) × ShowsCause q c → AllByRecursion (ShowsWhy all) (refusal_of n c)
+    by None s = tt
+    by (Some why) s = (s, tt)
+
+  -- the refusals of the answers from number n on show their causes
+  shows_from : (all : List Request) (ans : ℕ → Option engines.Answer) (n : ℕ) (ks : List (Option Stamped)) → ((i : ℕ) → ShowsAnswer K (slice_get all (n + i)) (ans (n + i)) (kept_at ks i)) → AllByRecursion (ShowsWhy all) (refusals_in n ks)
+  shows_from all ans n [] h = tt
+  shows_from all ans n (x ∷ ks) h =
+      let here : n + 0 ≡ n = omega arith in
+      all_append (ShowsWhy all) (refusal_in n x) (refusals_in (n + 1) ks)
+      (shows_one all n (ans n) x (subst (λ m. ShowsAnswer K (slice_get all m) (ans m) x) here (h 0)))
+      (shows_from all ans (n + 1) ks (λ i. let on : n + suc i ≡ n + 1 + i = omega arith in subst (λ m. ShowsAnswer K (slice_get all m) (ans m) (kept_at ks i)) on (h (suc i))))
 
   module _ (ans : ℕ → Option engines.Answer) where
     -- of those from number n on
@@ -239,6 +257,8 @@ reports_by s o e ks r P count shown region R = record {
   known = λ telling. R.replies ∙ kept_replies (IsTelling s) e.answer e.given ks (length e.given) (refl, sym count) from telling;
   answers = subst (λ rs. Answers (IsTelling s) (start_of o) e.given (told_of e) (AllAnswered e → HasStopped e) rs) (sym R.replies)
       (kept_answers (IsTelling s) e.answer e.given ks (length e.given) (refl, sym count) from (start_of o) (told_of e) (MayStop e []) (AllAnswered e → HasStopped e) (λ f all. f all refl) refl state);
+  counts = subst (AllByRecursion (ShowsWhy e.given)) (sym R.refusals)
+      (shows_from (IsTelling s) e.given e.answer 0 ks (λ i. let z : 0 + i ≡ i = omega arith in subst (λ m. ShowsAnswer (IsTelling s) (slice_get e.given m) (e.answer m) (kept_at ks i)) (sym z) (shown i)));
 } where
   from : (i : ℕ) → ShowsAnswer (IsTelling s) (slice_get e.given i) (e.answer (0 + i)) (kept_at ks i)
   from i = let z : 0 + i ≡ i = omega arith in subst (λ m. ShowsAnswer (IsTelling s) (slice_get e.given i) (e.answer m) (kept_at ks i)) (sym z) (shown i)

@@ -2,7 +2,7 @@
 use Rattle.std.specs.Prelude.{◌≡◌, ◌⊎◌, ℕ, zero, suc, ◌<◌, List, [], ◌∷◌, true, Option, Some, None, slice_set}
 use Rattle.fs_model.specs.declared.model.Request.{Request}
 pub use Rattle.core_worker.specs.Refusals.{reply_to}
-pub use Rattle.core_worker.specs.Answering.{IsCause, is_get, is_found, is_read, IsGiven, AreGiven, AddsAnswers}
+pub use Rattle.core_worker.specs.Answering.{IsCause, ShowsCause, is_get, is_found, is_read, IsGiven, AreGiven, AddsAnswers}
 use Rattle.engine_laws.specs.Engine as engines
 use Rattle.core_worker.specs.declared.types.Answer.{Answer}
 use Rattle.group_engine.specs.declared.types.Stamped.{Stamped}
@@ -27,6 +27,7 @@ pub record IsShown (Known : Type 0) (asked : Option Request) (a : engines.Answer
       × (is_read q x.reply ≡ true))
   pub known : Known → x.reply ≡ a.reply
   pub cause : IsCause a.reply x.refusal
+  pub shows : (q : Request) × (asked ≡ Some q) × ShowsCause q x.refusal
 
 abbrev pub ShowsAnswer : Type 0 → Option Request → Option engines.Answer → Option Stamped → Type 0
 ShowsAnswer Known asked None None = Unit {0}

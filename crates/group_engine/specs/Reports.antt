@@ -1,6 +1,8 @@
 -- The replies and the report that are made of the answers kept by number.
 use Rattle.std.specs.Prelude.{◌≡◌, ℕ, ◌+◌, ◌≤◌, ◌<◌, List, [], ◌∷◌, ◌++◌, length, map, Option, Some, None, Vec, vec_len, vec_capacity, if◌then◌else◌}
 use Rattle.std.specs.Global.{Global}
+use Rattle.std.specs.List.{AllByRecursion, slice_get}
+use Rattle.fs_model.specs.declared.model.Request.{Request}
 use Rattle.fs_model.specs.declared.model.Reply.{Reply}
 use Rattle.fs_model.specs.declared.model.Reply.TheVariants.{Stopped}
 use Rattle.fs_model.specs.Lawful.{is_finish}
@@ -15,7 +17,11 @@ use Rattle.group_engine.specs.declared.types.Stamped.{Stamped}
 use Rattle.group_engine.specs.declared.run_report.Finish.{Finish}
 use Rattle.group_engine.specs.declared.run_report.Refusal.{Refusal}
 use Rattle.group_engine.specs.declared.run_report.Report.{Report}
-use Rattle.group_engine.specs.Answers.{reply_to}
+use Rattle.group_engine.specs.Answers.{reply_to, ShowsCause}
+
+-- The numbers of a refusal show why its request was refused, whatever the region tells.
+abbrev pub ShowsWhy : List Request → Refusal → Type 0
+ShowsWhy asked x = (q : Request) × (slice_get asked x.request ≡ Some q) × ShowsCause q (Some x.why)
 
 -- what a request's answer adds
 abbrev pub finish_of : ℕ → Reply → ℕ → List Finish
@@ -107,3 +113,4 @@ pub record ReportsOn (s : State) (o : Origin) (e : Engine) (r : Report) : Type 0
   pub known : IsTelling s → r.replies.items ≡ replies_of e
   pub answers : Answers (IsTelling s) (start_of o) e.given (told_of e)
       (AllAnswered e → HasStopped e) r.replies.items
+  pub counts : AllByRecursion (ShowsWhy e.given) r.refusals.items
