@@ -658,6 +658,7 @@ module _ (chain : ChainLaw) (keys_open : OpeningKeys) (doubts_open : OpeningDoub
             reply = elim g.2.reply [ inl same ↦ inl same | inr read ↦ inr (y.request, refl, read.0, read.1) ];
             known = λ telling. g.2.known ((X f.0 f.1).joined.tells telling);
             cause = g.2.cause;
+            shows = (y.request, refl, g.2.shows);
           }))))
 
     gave_is : (c : ℕ) (low : c < l.cores) → given_in (x c low).seat refused (x c low).first (x c low).last (x c low).works ++ answers_of (x c low).last.worker ≡ (x c low).outs

@@ -87,7 +87,7 @@ module _ (s t : State) (p : Place) (m : ℕ) (v : View) (w : Worker) (H : Holds 
       fits = (let b = ends in let h = own_high in let top = S.lies.high in let most = S.lies.fits in omega (arith, b, h, top, most));
     };
     licensed = still v S.licensed;
-    landed = λ whole lost. still (grounded v) (S.landed whole lost);
+    landed = λ unlost. still (grounded v) (S.landed unlost);
     log = λ runs. let L = S.log runs in record {
       own = L.own;
       low = (let a = starts in let l = low_is in omega (arith, a, l));
