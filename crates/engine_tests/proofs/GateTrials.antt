@@ -1,5 +1,5 @@
 -- The worker of core 5 at the board of the second of two groups, which is opened on all words of the region.
-use Rattle.std.proofs.Common.{◌≡◌, ℕ, ◌/◌, ◌%◌, ◌<◌, List, [], ◌∷◌, sym, ◌∙◌, ap, subst, arith}
+use Rattle.std.proofs.Common.{◌≡◌, ℕ, ◌/◌, ◌%◌, ◌<◌, List, refl, sym, ◌∙◌, ap, subst, arith}
 use Rattle.std.specs.Prelude.{slice_index_or}
 use Rattle.pm_region.specs.State.{State}
 use Rattle.pm_region.specs.Words.{lasts}
@@ -12,24 +12,20 @@ use Rattle.recover.specs.declared.types.Recovered.{Recovered}
 use Rattle.recover.specs.Regions.{IsCertain}
 use Rattle.recover.specs.Recovering.{IsMade, IsFound, AllStand}
 use Rattle.group_laws.specs.OpeningImages.{opened}
-use Rattle.group_laws.specs.Places.{Place, owner}
+use Rattle.group_laws.specs.Places.{Place}
 use Rattle.group_laws.specs.Regions.{place_at}
 use Rattle.group_laws.specs.State.{Group}
 use Rattle.group_laws.specs.MemberViews.{View, view_of}
 use Rattle.group_board.specs.Seats.{SeatAt}
 use Rattle.group_board.specs.Journals.{image_of, place_in}
 use Rattle.core_worker.specs.declared.worker.Worker.{Worker}
-use Rattle.fs_model.specs.declared.model.Request.{Request}
-use Rattle.fs_model.specs.Cells.{key_of}
-use Rattle.group_engine.specs.Calls.{AreOwn}
-use Rattle.group_engine.specs.Working.{IsMember}
 use Rattle.core_worker.specs.Accepting.{HasTie, IsTied, StaysTied}
 use Rattle.core_worker.specs.Order.{InOrder}
 use Rattle.core_worker.specs.Supplies.{HasKeptRoom}
 use Rattle.core_worker.specs.Ties.{Holds, Stands}
 use Rattle.core_worker.specs.Openings.{IsNew, IsCertainAt, ByEachImage, opened_view}
 use Rattle.engine_tests.specs.WorkerTrials.{IsSeated, IsAtBoard}
-use Rattle.engine_tests.proofs.WorkerTrials.{seated, own}
+use Rattle.engine_tests.proofs.WorkerTrials.{seated}
 
 -- what opening a board asks of the words that recovery found
 module _ (image : ℕ → ℕ) (r : Recovered) (found : IsFound 135168 image r) (eight : r.layout.cores ≡ 8) (four : r.layout.group ≡ 4) (ws : List ℕ) (same : image_of ws ≡ image) where
@@ -62,44 +58,38 @@ module _ (s : State) (r : Recovered) (d start : CoreStart) (w : Worker) (first :
   -- the same where a group has n members
   abbrev IsFifth : ℕ → Type 0
   IsFifth n = IsSeated s (place_at l (5 / n)) (5 % n) (opened_view (place_at l (5 / n)) (5 % n) (lasts s)) w
-      × ((k : ℕ) → k % 8 ≡ 5 → owner (place_at l (5 / n)) k ≡ 5 % n)
 
   fifth : IsFifth 4
   fifth =
       let low : 5 < 8 = omega arith in
-      subst IsFifth four (
-        seated s r 5 d start w first words certain made found stand eight low is N holds stands order,
-        own s r 5 d start w first words certain made found stand eight low is N,
-      )
+      subst IsFifth four (seated s r 5 d start w first words certain made found stand eight low is N refl holds stands order)
 
   pub at_board : HasKeptRoom w → (g : Group) → g ≡ opened (place_at l 1) (lasts s) → IsAtBoard s g w
-  at_board rule g opens = subst (λ (x : Group). IsAtBoard s x w) (sym opens) (record { seated = fifth.0; rule = rule; own = fifth.1 })
+  at_board rule g opens = subst (λ (x : Group). IsAtBoard s x w) (sym opens) (record { seated = fifth; rule = rule })
 
 -- so it may accept a request for one of its keys
-pub tied_at : (s : State) (g : Group) (w : Worker) → IsAtBoard s g w → (k : ℕ) → k % 8 ≡ 5 → IsTied s w k (record { place = g.place; number = 1; view = view_of g 1 })
-tied_at s g w at k is = record { holds = at.seated.holds; stands = at.seated.stands; own = at.own k is; order = at.seated.order }
+tied_at : (s : State) (p : Place) (m : ℕ) (v : View) (w : Worker) → IsSeated s p m v w → (k : ℕ) → k % 8 ≡ 5 → IsTied s w k (record { place = p; number = m; view = v })
+tied_at s p m v w at k is = record { holds = at.holds; stands = at.stands; own = at.own k is; order = at.order }
 
-pub has_tie : (s : State) (g : Group) (w : Worker) → IsAtBoard s g w → (k : ℕ) → k % 8 ≡ 5 → HasTie s w k
-has_tie s g w at k is = (record { place = g.place; number = 1; view = view_of g 1 }, tied_at s g w at k is)
+pub has_tie : (s : State) (p : Place) (m : ℕ) (v : View) (w : Worker) → IsSeated s p m v w → (k : ℕ) → k % 8 ≡ 5 → HasTie s w k
+has_tie s p m v w at k is = (record { place = p; number = m; view = v }, tied_at s p m v w at k is)
 
 -- and stays there
-pub still_at : (s : State) (g : Group) (w x : Worker) (k : ℕ) → IsAtBoard s g w → k % 8 ≡ 5 → StaysTied s w x k → (HasKeptRoom w → HasKeptRoom x) → IsAtBoard s g x
-still_at s g w x k at is stays rule =
-    let tied = stays (record { place = g.place; number = 1; view = view_of g 1 }) (tied_at s g w at k is) in
-    record { seated = record { holds = tied.holds; stands = tied.stands; order = tied.order }; rule = rule at.rule; own = at.own }
+pub still_seated : (s : State) (p : Place) (m : ℕ) (v : View) (w x : Worker) (k : ℕ) → IsSeated s p m v w → k % 8 ≡ 5 → StaysTied s w x k → IsSeated s p m v x
+still_seated s p m v w x k at is stays =
+    let tied = stays (record { place = p; number = m; view = v }) (tied_at s p m v w at k is) in
+    record { holds = tied.holds; stands = tied.stands; order = tied.order; own = at.own }
 
 -- a seat is where it was, and giving an answer out changes nothing of this
-pub seated_on : (t : State) (a b : SeatAt) (v : View) (w x : Worker) → b ≡ a → Holds a.place a.number v w → Stands t a.place a.number v w → InOrder a.place a.number v w
+pub seated_on : (s t : State) (a b : SeatAt) (u v : View) (y w x : Worker) → IsSeated s a.place a.number u y → b ≡ a
+    → Holds a.place a.number v w → Stands t a.place a.number v w → InOrder a.place a.number v w
     → ((p : Place) (m : ℕ) (u : View) → Holds p m u w → Holds p m u x)
     → ((s : State) (p : Place) (m : ℕ) (u : View) → Stands s p m u w → Stands s p m u x)
     → ((p : Place) (m : ℕ) (u : View) → InOrder p m u w → InOrder p m u x)
     → IsSeated t b.place b.number v x
-seated_on t a b v w x same holds stands order h s o = subst (λ (z : SeatAt). IsSeated t z.place z.number v x) (sym same) (record {
+seated_on s t a b u v y w x seated same holds stands order h st o = subst (λ (z : SeatAt). IsSeated t z.place z.number v x) (sym same) (record {
   holds = h a.place a.number v holds;
-  stands = s t a.place a.number v stands;
+  stands = st t a.place a.number v stands;
   order = o a.place a.number v order;
+  own = seated.own;
 })
-
--- the worker works for that member, whose key the request's is
-pub works_at : (s : State) (p : Place) (m : ℕ) (v : View) (w : Worker) (n : ℕ) (r : Request) (queue : List (ℕ × Request)) → IsSeated s p m v w → HasKeptRoom w → owner p (key_of r) ≡ m → queue ≡ (n, r) ∷ [] → IsMember p m s v w × AreOwn p m queue
-works_at s p m v w n r queue seated rule own is = (record { holds = seated.holds; stands = seated.stands; order = seated.order; rule = λ runs. rule }, subst (AreOwn p m) (sym is) (own, tt))

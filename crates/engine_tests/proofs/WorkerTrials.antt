@@ -60,15 +60,17 @@ module _ (s : State) (r : Recovered) (core : ℕ) (d start : CoreStart) (w : Wor
     record { holds = holds; stands = stands; own = own k is; order = order },
   )
 
-  -- it is seated as its member
-  pub seated : ByEachImage start r.layout (λ p m image. Holds p m (opened_view p m image) w)
+  -- that of core 5 is seated as its member
+  pub seated : core ≡ 5
+      → ByEachImage start r.layout (λ p m image. Holds p m (opened_view p m image) w)
       → ByEachImage start r.layout (λ p m image. (t : State) → IsCertainAt t p m image start → Stands t p m (opened_view p m image) w)
       → ByEachImage start r.layout (λ p m image. InOrder p m (opened_view p m image) w)
       → IsSeated s p m (opened_view p m (lasts s)) w
-  seated holds stands order = record {
+  seated five holds stands order = record {
     holds = holds p m (lasts s) (λ i. l) at;
     stands = stands p m (lasts s) (λ i. l) at s here;
     order = order p m (lasts s) (λ i. l) at;
+    own = λ k is. own k (is ∙ sym five);
   }
 
   pub may_accept : ByEachImage start r.layout (λ p m image. Holds p m (opened_view p m image) w)

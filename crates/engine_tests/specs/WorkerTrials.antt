@@ -18,14 +18,14 @@ pub record MayAccept (s : State) (core : ℕ) (w : Worker) : Type 0 where
   pub free : is_leading w.leading ≡ false
   pub works : w.winds_down ≡ false
 
--- the worker may make a turn as that member
+-- the worker of core 5 of eight may make a turn as that member, whose keys are the core's
 pub record IsSeated (s : State) (p : Place) (m : ℕ) (v : View) (w : Worker) : Type 0 where
   pub holds : Holds p m v w
   pub stands : Stands s p m v w
   pub order : InOrder p m v w
+  pub own : (k : ℕ) → k % 8 ≡ 5 → owner p k ≡ m
 
--- so it is of core 5 as member 1 of its group, and of its keys
+-- so it may as member 1 of its group
 pub record IsAtBoard (s : State) (g : Group) (w : Worker) : Type 0 where
   pub seated : IsSeated s g.place 1 (view_of g 1) w
   pub rule : HasKeptRoom w
-  pub own : (k : ℕ) → k % 8 ≡ 5 → owner g.place k ≡ 1

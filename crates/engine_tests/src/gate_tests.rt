@@ -2,6 +2,7 @@
 ghost use Rattle.std.specs.Prelude.{◌≡◌, ℕ, List, [], ◌/◌, ◌<◌, ◌%◌, true, false, IfOk, IfSome, OnOk};
 ghost use Rattle.pm_region.specs.State.{IsTelling};
 ghost use Rattle.pm_region.specs.Steady.{steady_state};
+ghost use Rattle.fs_model.specs.Cells.{key_of};
 ghost use Rattle.chunk_map.specs.Layouts.{layout_of};
 ghost use Rattle.store_image.specs.Soundness as images;
 ghost use Rattle.recover.specs.Regions.{IsCertain};
@@ -13,7 +14,7 @@ ghost use Rattle.engine_tests.specs.WorkerTrials.{IsSeated, IsAtBoard};
 use crate::worker_tests::attached;
 use core_worker::{Answer, Gate, OpenGate, Point, Turn, Worker};
 use fs_errors::Memory;
-use fs_model::{Reply, Request, Value};
+use fs_model::{Key, Reply, Request, Value};
 use group_board::{Board, LocalBoard, LocalSeat, Opening};
 use pm_region::{Region, SteadyRegion};
 use recover::recover;
@@ -21,8 +22,11 @@ use std::alloc::Global;
 use std::marker::{Brand, PhantomData};
 use std::test::Fail;
 
+// No request takes more of them, nor does a cleaning.
+const MOST_TURNS: u32 = 50;
+
 /// A gate that refuses all.
-struct ShutGate;
+pub struct ShutGate;
 
 impl Gate for ShutGate {
     ghost may_refuse = { λ _. true };
@@ -138,43 +142,55 @@ fn held_back<B: Board>(
 }
 
 /// Makes turns until one answers or is idle. It gives that answer and the number of turns before.
-fn turns<B: Board>(
+pub fn turns<B: Board, G: Gate>(
     alloc: Global,
     region: &mut SteadyRegion,
     board: &mut B,
     worker: &mut Worker,
+    gate: &G,
 ) -> Result<(u32, Option<Answer>), Memory>
     requires { IsSeated (steady_state region.old) (B.seat board.old).place
         (B.seat board.old).number (B.view board.old) worker.old }
+    ensures { OnOk result (IsSeated (steady_state region.new) (B.seat board.new).place
+        (B.seat board.new).number (B.view board.new) worker.new) }
 {
-    for turn in 0..20 {
-        match once(alloc, region, board, worker, &OpenGate)? {
+    for turn in 0..MOST_TURNS {
+        match once(alloc, region, board, worker, gate)? {
             (Turn::Moved, None) => {}
             (_, answer) => {
                 return Ok((turn, answer));
             }
         }
     }
-    Ok((20, None))
+    Ok((MOST_TURNS, None))
 }
 
-/// Accepts a put of three bytes as request 7, under a key of core 5 that has no value. It answers whether it did.
-fn accept_put(
-    alloc: Global,
-    region: &SteadyRegion,
-    board: &LocalBoard,
-    worker: &mut Worker,
-) -> Result<bool, Fail>
-    requires { IsAtBoard (steady_state region.now) (state board.now.keeper.me.0) worker.old }
-    ensures { OnOk result
-        (IsAtBoard (steady_state region.now) (state board.now.keeper.me.0) worker.new) }
+/// A put of three bytes.
+pub fn put(alloc: Global, key: Key) -> Result<Request, Fail>
+    ensures { IfOk result (λ r. key_of r ≡ key) }
 {
     let value = Value::of(Vec::from_slice(alloc, b"abc")?);
+    Ok(Request::Put { key, value })
+}
+
+/// Accepts a request for one of the core's keys, as request 7. It answers whether it did.
+pub fn accept<B: Board>(
+    alloc: Global,
+    region: &SteadyRegion,
+    _board: &B,
+    worker: &mut Worker,
+    request: Request,
+) -> bool
+    requires seated { IsSeated (steady_state region.now) (B.seat _board.now).place
+        (B.seat _board.now).number (B.view _board.now) worker.old }
+    requires own { key_of request % 8 ≡ 5 }
+    ensures { IsSeated (steady_state region.now) (B.seat _board.now).place
+        (B.seat _board.now).number (B.view _board.now) worker.new }
+{
     if !worker.has_room() || worker.leading() || worker.winding_down() {
-        return Ok(false);
+        return false;
     }
-    let accepted = worker.accept(alloc, region, 7, Request::Put { key: 29, value });
-    Ok(accepted.is_ok())
+    worker.accept(alloc, region, 7, request).is_ok()
 }
 
 #[test]
@@ -185,11 +201,12 @@ fn a_gate_that_refuses(rt: HostRuntime) -> Result<(), Fail> {
         assert!(rt; false, "the worker is seated");
         return Ok(());
     };
-    assert!(rt; accept_put(alloc, &region, &board, &mut worker)?);
     let mut seat = LocalSeat {
         board: &mut board,
         member: 1,
     };
+    let request = put(alloc, 29)?;
+    assert!(rt; accept(alloc, &region, &seat, &mut worker, request));
     let held = held_back(alloc, &mut region, &mut seat, &mut worker)?;
     assert_eq!(rt; held.0, Turn::Idle);
     assert!(rt; held.1.is_none());
@@ -198,7 +215,7 @@ fn a_gate_that_refuses(rt: HostRuntime) -> Result<(), Fail> {
     assert_eq!(rt; posted.0, Turn::Moved);
     assert!(rt; posted.1.is_none());
     // the lock, the take, the unlock, the log and the mark; then the finish answers
-    let written = turns(alloc, &mut region, &mut seat, &mut worker)?;
+    let written = turns(alloc, &mut region, &mut seat, &mut worker, &OpenGate)?;
     assert_eq!(rt; written.0, 5);
     assert!(rt;
         matches!(

@@ -5,6 +5,8 @@
 #[cfg(test)]
 mod crew_tests;
 #[cfg(test)]
+mod forgotten_tests;
+#[cfg(test)]
 mod gate_tests;
 #[cfg(test)]
 mod heed_tests;

@@ -1,0 +1,6 @@
+use Rattle.pm_region.specs.Steady.{steady_state}
+use Rattle.engine_tests.specs.WorkerTrials.{IsSeated}
+use Rattle.engine_tests.proofs.forgotten_tests.crowd.Given as goal
+
+abbrev pub invariant-loop : goal.invariant-loop
+invariant-loop g l = IsSeated (steady_state l.region) (g.B.Board.seat l.board).place (g.B.Board.seat l.board).number (g.B.Board.view l.board) l.worker
