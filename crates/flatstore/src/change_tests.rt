@@ -1,33 +1,10 @@
 // The worked rows of deletes and of values in blocks, on the top call.
-use crate::report::Status;
 use crate::tests::{replay, row, spent, with};
 use core_room::{Counts, Shortage};
 use group_engine::run_report::Refusal;
 use pm_region::SteadyRegion;
 use std::alloc::Global;
 use std::test::Fail;
-
-const DELETES: [(&str, &str); 2] = [
-    (
-        "put 5 abc\nget 5\ndelete 5\nget 5\n",
-        "stored\nvalue abc\ndeleted\nabsent\n",
-    ),
-    (
-        "delete 3\nput 3 a\nput 3 b\ndelete 3\ndelete 3\nget 3\n",
-        "absent\nstored\nstored\ndeleted\nabsent\nabsent\n",
-    ),
-];
-
-#[test]
-fn deletes(rt: HostRuntime) -> Result<(), Fail> {
-    let alloc = rt.alloc();
-    for (input, text) in DELETES {
-        let (report, written) = row(&rt, input)?;
-        assert_eq!(rt; report.status, Status::Done);
-        assert_eq!(rt; written.as_slice(), text.as_bytes());
-    }
-    Ok(())
-}
 
 #[test]
 fn a_delete_of_the_last_version(rt: HostRuntime) -> Result<(), Fail> {

@@ -46,6 +46,8 @@ mod scan_ranges;
 #[cfg(test)]
 mod scan_tests;
 #[cfg(test)]
+mod space_tests;
+#[cfg(test)]
 mod tests;
 #[cfg(test)]
 mod thread_tests;

@@ -11,8 +11,6 @@ const ONE_BATCH: &str = "put 0 a\nput 1 b\nput 2 c\ngo 1 2\ngo 2 2\ngo 0 20\n";
 
 const STOLEN: &str = "put 4 a\ngo 0 2\nput 1 x\ngo 1 5\nget 4\nput 4 b\ngo 0 5\nget 4\n";
 
-const UNSTOLEN: &str = "put 4 a\nput 1 x\nget 4\nput 4 b\nget 4\n";
-
 const FAILS_THIRD: &str = "put 0 a\nput 1 b\nget 0\nget 1\n";
 
 // Core 1 takes the change of key 0, and its batch fails, while that of key 2 stands posted: its core stops, and takes
@@ -26,104 +24,18 @@ pub fn fresh_of(alloc: Global, cores: u8, group: u8) -> Result<Vec<u8>, AllocErr
     Ok(bytes)
 }
 
-// What `log` writes of a region.
-pub fn log_of<R: SplitRegion + ReadRegion>(
+// What a command that only reads writes of a region.
+pub fn text_of<R: SplitRegion + ReadRegion>(
     rt: &(impl Threads + AllocGlobal),
+    command: &str,
     region: &mut R,
 ) -> Result<Vec<u8>, Fail> {
     let alloc = rt.alloc();
     let mut source = SteadySource::new(Vec::new(alloc), 1);
     let mut sink = SteadySink::new(alloc, 100_000, 1000)?;
-    let words = ["flatstore", "log", "region"];
+    let words = ["flatstore", command, "region"];
     let _ = call(rt, &words, &mut source, &mut sink, region)?;
     Ok(Vec::from_slice(alloc, sink.text().unwrap_or(b"not kept"))?)
-}
-
-const INTERLEAVINGS: [(u8, &str, &str, &str); 4] = [
-    (
-        4,
-        ONE_BATCH,
-        "stored\nstored\nstored\n",
-        "core 0 chunk 0 place 0 key 0 version 1 embedded 1\n\
-            core 0 chunk 0 place 3 key 1 version 1 embedded 1\n\
-            core 0 chunk 0 place 6 key 2 version 1 embedded 1\n",
-    ),
-    (
-        4,
-        STOLEN,
-        "stored\nstored\nvalue a\nstored\nvalue b\n",
-        "core 0 chunk 0 place 0 key 4 version 2 embedded 1\n\
-            core 1 chunk 0 place 0 key 1 version 1 embedded 1\n\
-            core 1 chunk 0 place 3 key 4 version 1 embedded 1\n",
-    ),
-    (
-        4,
-        UNSTOLEN,
-        "stored\nstored\nvalue a\nstored\nvalue b\n",
-        "core 0 chunk 0 place 0 key 4 version 1 embedded 1\n\
-            core 0 chunk 0 place 8 key 4 version 2 embedded 1\n\
-            core 1 chunk 0 place 0 key 1 version 1 embedded 1\n",
-    ),
-    (
-        2,
-        ONE_BATCH,
-        "stored\nstored\nstored\n",
-        "core 0 chunk 0 place 0 key 0 version 1 embedded 1\n\
-            core 0 chunk 0 place 3 key 1 version 1 embedded 1\n\
-            core 2 chunk 0 place 0 key 2 version 1 embedded 1\n",
-    ),
-];
-
-#[test]
-fn interleavings(rt: HostRuntime) -> Result<(), Fail> {
-    let alloc = rt.alloc();
-    for (group, input, text, log) in INTERLEAVINGS {
-        let mut region = SteadyRegion::new(alloc, fresh_of(alloc, 4, group)?, 5000)?;
-        let (report, written) = replay(&rt, &mut region, input)?;
-        assert_eq!(rt; report.status, Status::Done);
-        assert_eq!(rt; written.as_slice(), text.as_bytes());
-        let entries = log_of(&rt, &mut region)?;
-        assert_eq!(rt; entries.as_slice(), log.as_bytes());
-    }
-    Ok(())
-}
-
-// For each of eight groups of two cores: both put, the second posts, and the first leads for both. The lines, and the
-// log.
-fn eight_groups(alloc: Global) -> Result<(String, String), Fail> {
-    let mut input = String::new(alloc);
-    let mut log = String::new(alloc);
-    for group in 0..8u64 {
-        let first = 2 * group;
-        let second = first + 1;
-        let lines = format!(in alloc;
-            "put {first} a\nput {second} b\ngo {second} 2\ngo {first} 20\n"
-        )?;
-        input.push_str(lines.as_str())?;
-        let entry = format!(in alloc;
-            "core {first} chunk 0 place 0 key {first} version 1 embedded 1\n"
-        )?;
-        log.push_str(entry.as_str())?;
-        let entry = format!(in alloc;
-            "core {first} chunk 0 place 3 key {second} version 1 embedded 1\n"
-        )?;
-        log.push_str(entry.as_str())?;
-    }
-    Ok((input, log))
-}
-
-#[test]
-fn sixteen_cores(rt: HostRuntime) -> Result<(), Fail> {
-    let alloc = rt.alloc();
-    let (input, log) = eight_groups(alloc)?;
-    let mut region = SteadyRegion::new(alloc, fresh_of(alloc, 16, 2)?, 5000)?;
-    let (report, written) = replay(&rt, &mut region, input.as_str())?;
-    assert_eq!(rt; report.status, Status::Done);
-    assert_eq!(rt; written.len(), 16 * 7);
-    assert_eq!(rt; report.finishes.len(), 16);
-    let entries = log_of(&rt, &mut region)?;
-    assert_eq!(rt; entries.as_slice(), log.as_bytes());
-    Ok(())
 }
 
 // A key, the requests that change it, and its cells before the first change and after each one; none is empty.
@@ -304,7 +216,7 @@ fn a_change_that_is_taken_back(rt: HostRuntime) -> Result<(), Fail> {
         b"stopped\nstopped\nstopped\n".as_slice()
     );
     assert!(rt; report.finishes.is_empty());
-    assert!(rt; log_of(&rt, &mut region)?.is_empty());
+    assert!(rt; text_of(&rt, "log", &mut region)?.is_empty());
     Ok(())
 }
 

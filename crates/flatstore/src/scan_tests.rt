@@ -1,6 +1,5 @@
 // The worked rows of a scan, on the top call.
 use crate::report::{Report, Status};
-use crate::row_tests::fresh_of;
 use crate::tests::{call, replay, with};
 use fs_text::{MemSink, MemSource, Sink, SteadySink, SteadySource};
 use pm_region::{ReadRegion, Region, SplitRegion, SteadyRegion};
@@ -74,27 +73,6 @@ fn rows(rt: HostRuntime) -> Result<(), Fail> {
         assert_eq!(rt; text.as_slice(), answers.as_bytes());
     }
     assert_eq!(rt; region.stamp(), 0);
-    Ok(())
-}
-
-#[test]
-fn four_cores(rt: HostRuntime) -> Result<(), Fail> {
-    let alloc = rt.alloc();
-    let mut region = SteadyRegion::new(alloc, fresh_of(alloc, 4, 1)?, 5000)?;
-    let mut input = String::new(alloc);
-    for key in 0..100u8 {
-        write!(input, "put {key} v{key}\n")?;
-    }
-    assert_eq!(rt;
-        replay(&rt, &mut region, input.as_str())?.0.status,
-        Status::Done
-    );
-    let (status, text) = scan(&rt, &mut region, "count 10 19\nrange 97 200 2\n")?;
-    assert_eq!(rt; status, Status::Done);
-    assert_eq!(rt;
-        text.as_slice(),
-        b"10\n97 v97\n98 v98\nmore 99\n".as_slice()
-    );
     Ok(())
 }
 

@@ -2,7 +2,7 @@
 ghost use Rattle.std.specs.Prelude.{false, true};
 
 use crate::report::{Report, Status};
-use crate::row_tests::{fresh_of, log_of};
+use crate::row_tests::{fresh_of, text_of};
 use crate::tests::{call, command, replay, with, words_of};
 use crate::top::flatstore;
 use core_worker::{Gate, OpenGate, Point};
@@ -73,24 +73,6 @@ fn one_core(rt: HostRuntime) -> Result<(), Fail> {
     Ok(())
 }
 
-// What `dump` writes of a region.
-fn dump_of(
-    rt: &(impl Threads + Wait + Sync + AllocGlobal),
-    region: &mut SteadyRegion,
-) -> Result<Vec<u8>, Fail> {
-    let alloc = rt.alloc();
-    let mut source = SteadySource::new(Vec::new(alloc), 1);
-    let mut sink = SteadySink::new(alloc, 100_000, 1000)?;
-    let _ = call(
-        rt,
-        &["flatstore", "dump", "r"],
-        &mut source,
-        &mut sink,
-        region,
-    )?;
-    Ok(Vec::from_slice(alloc, sink.text().unwrap_or(b"not kept"))?)
-}
-
 #[test]
 fn what_is_left(rt: HostRuntime) -> Result<(), Fail> {
     let mut region = SteadyRegion::new(rt.alloc(), fresh_of(rt.alloc(), 2, 2)?, 5000)?;
@@ -102,7 +84,10 @@ fn what_is_left(rt: HostRuntime) -> Result<(), Fail> {
         written.as_slice(),
         b"absent\nstored\nstored\nstored\ndeleted\nabsent\nabsent\n".as_slice()
     );
-    assert_eq!(rt; dump_of(&rt, &mut region)?.as_slice(), b"4 q\n".as_slice());
+    assert_eq!(rt;
+        text_of(&rt, "dump", &mut region)?.as_slice(),
+        b"4 q\n".as_slice()
+    );
     Ok(())
 }
 
@@ -247,7 +232,7 @@ fn two_cores_meet(rt: HostRuntime) -> Result<(), Fail> {
     );
     assert!(rt; !gate.missed.load(Ordering::SeqCst));
     assert_eq!(rt; (gate.asks_of(0), gate.asks_of(1)), (2, 2));
-    let log = log_of(&rt, &mut region)?;
+    let log = text_of(&rt, "log", &mut region)?;
     let first = "core 0 chunk 0 place 0 key 0 version 1 embedded 1\n\
             core 0 chunk 0 place 3 key 1 version 1 embedded 1\n";
     assert!(rt; log.as_slice().starts_with(first.as_bytes()));
