@@ -46,10 +46,10 @@ given_more : (K L M : Type 0) → (M → K) → (M → L) → (xs ys : List Fixe
 given_more K L M f g [] [] [] [] a b = tt
 given_more K L M f g [] [] [] (y ∷ more) a b = absurd b
 given_more K L M f g [] (y ∷ ys) [] [] a b = absurd b
-given_more K L M f g [] (y ∷ ys) [] (z ∷ more) a b = (record { number = b.0.number; reply = b.0.reply; known = λ k. b.0.known (g k); cause = b.0.cause }, given_more K L M f g [] ys [] more tt b.1)
+given_more K L M f g [] (y ∷ ys) [] (z ∷ more) a b = (record { number = b.0.number; reply = b.0.reply; known = λ k. b.0.known (g k); cause = b.0.cause; shows = b.0.shows }, given_more K L M f g [] ys [] more tt b.1)
 given_more K L M f g [] ys (x ∷ out) more a b = absurd a
 given_more K L M f g (x ∷ xs) ys [] more a b = absurd a
-given_more K L M f g (x ∷ xs) ys (z ∷ out) more a b = (record { number = a.0.number; reply = a.0.reply; known = λ k. a.0.known (f k); cause = a.0.cause }, given_more K L M f g xs ys out more a.1 b)
+given_more K L M f g (x ∷ xs) ys (z ∷ out) more a b = (record { number = a.0.number; reply = a.0.reply; known = λ k. a.0.known (f k); cause = a.0.cause; shows = a.0.shows }, given_more K L M f g xs ys out more a.1 b)
 
 adds_more : (K L M : Type 0) → (M → K) → (M → L) → (xs us ys vs zs : List Answer) (fs gs : List Fixed) → AddsAnswers K xs (us ++ ys) fs → AddsAnswers L ys (vs ++ zs) gs → AddsAnswers M xs ((us ++ vs) ++ zs) (fs ++ gs)
 adds_more K L M f g xs us ys vs zs fs gs A B = record {
