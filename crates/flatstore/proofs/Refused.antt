@@ -25,7 +25,7 @@ use Rattle.headline.specs.Run.{Recorded}
 use Rattle.headline.proofs.Clients.{recorded}
 use Rattle.group_engine.specs.declared.run_report.Refusal.{Refusal}
 use Rattle.group_engine.specs.Answers.{reply_to}
-use Rattle.group_engine.specs.Reports.{as_told}
+use Rattle.group_engine.specs.Reports.{as_told, ShowsWhy}
 use Rattle.flatstore.specs.Ends.{SourceUse, SinkUse}
 use Rattle.flatstore.specs.LastStates.{told_in, AreRising}
 use Rattle.flatstore.specs.Ordering.{KeepsOrder, IsServed, due, IsDue, IsFault, status_of, is_broken, is_of_region, is_of_line, is_of_run, is_whole}
@@ -166,6 +166,9 @@ module _ (old s : State) (found : ℕ → ℕ) (A : Attached old s s.frame.bytes
   pub none_long : AllByRecursion (λ (x : Refusal). (n : ℕ) → x.why ≡ Length n → (q : Request) → slice_get trace x.request ≡ Some q → is_too_long (layout_of found) q ≡ true) r.refusals.items
   none_long = subst (λ xs. AllByRecursion (λ (x : Refusal). (n : ℕ) → x.why ≡ Length n → (q : Request) → slice_get trace x.request ≡ Some q → is_too_long (layout_of found) q ≡ true) xs) (sym ref) tt
 
+  pub none_counted : AllByRecursion (ShowsWhy trace) r.refusals.items
+  none_counted = subst (AllByRecursion (ShowsWhy trace)) (sym ref) tt
+
 module _ (old s : State) (found : ℕ → ℕ) (A : Attached old s s.frame.bytes found) (source : SourceUse) (status : Status) (U : IsRefused s source status) where
   unread_none : (cores : ℕ) → IsUnread source cores status → answers_none status ≡ true
   unread_none cores (inl u) = ap answers_none u.4 ∙ broken_none (input_of cores u.1) u.3
@@ -220,6 +223,7 @@ module _ (old s : State) (found : ℕ → ℕ) (A : Attached old s s.frame.bytes
       spent = λ telling. none_spent old s found A r fin ref cut cores input;
       unrefused = λ telling within. ref;
       long = λ telling. none_long old s found A r fin ref cut cores input;
+      counts = none_counted old s found A r fin ref cut cores input;
       short = λ memory began no. both r.began began unbegun;
     }
 
@@ -292,4 +296,4 @@ module _ (old s : State) (found : ℕ → ℕ) (A : Attached old s s.frame.bytes
       → (input : List ℕ) × (cores : ℕ) × IsInput source.coming input × Replays old s found source cores input sink r
   refused_replays r is fin ref unbegun cut unplaced sink same =
       let x = refused_serves r is fin ref unbegun cut unplaced sink same in
-      (x.0, x.1, x.2, record { serves = x.3; ends = λ failed. absurd (refused_fault r is failed); run = λ complete. both r.complete complete cut })
+      (x.0, x.1, x.2, record { serves = x.3; ends = λ failed. absurd (refused_fault r is failed); run = λ complete. both r.complete complete cut; broke = λ began no. both r.began began unbegun })

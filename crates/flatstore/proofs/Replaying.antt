@@ -21,7 +21,7 @@ use Rattle.flatstore.specs.Played.{Played, HasAnswered, is_ended}
 use Rattle.flatstore.specs.declared.report.Report.{Report}
 use Rattle.flatstore.proofs.Causing.{HasCauses}
 use Rattle.flatstore.proofs.Running as running
-use Rattle.flatstore.proofs.Serving.{Known, serves, ends_then, counts_faults}
+use Rattle.flatstore.proofs.Serving.{Known, serves, ends_then, counts_faults, cut_end}
 use Rattle.flatstore.proofs.Standing.{origin_cores}
 use Rattle.flatstore.proofs.Staying.{asks_stays, asks_later, asks_none, asks_rose}
 
@@ -122,14 +122,15 @@ module _ (old s t : State) (found word : ℕ → ℕ) (A : Attached old s s.fram
 
     replays : Replays old u found source cores input sink r
     replays = record {
-      serves = serves old u found source cores input o f x known still later P.ready.read.whole sink r W lost unasked report_told begun complete_is;
-      ends = ends_then old u found source cores input o f x known still later P.ready.read.whole sink r W lost unasked report_told begun complete_is;
-      run = λ whole. running.ran_to old s t found word A once granted P.recovered P.ready.stands cores input P.lines P.ready.read.good x P.ran count u (asks_stays r.complete r.in_place t u asks) sink r W finishes refusals complete_is whole
+      serves = serves old u found source cores input o f x known still later P.ready.read.whole sink r W lost unasked report_told refusals begun complete_is;
+      ends = ends_then old u found source cores input o f x known still later P.ready.read.whole sink r W lost unasked report_told refusals begun complete_is;
+      run = λ whole. running.ran_to old s t found word A once granted P.recovered P.ready.stands cores input P.lines P.ready.read.good x P.ran count u (asks_stays r.complete r.in_place t u asks) r finishes refusals sink W complete_is whole
           (subst (λ b. Asks b r.in_place t u) whole asks);
+      broke = λ began cut. running.breaks_off old s t found word A once granted P.recovered P.ready.stands cores input P.lines P.ready.read.good x P.ran count u (asks_stays r.complete r.in_place t u asks) r finishes refusals (cut_end x.end (sym complete_is ∙ cut)) (subst (λ b. Asks b r.in_place t u) cut asks);
     }
 
     pub replay_counts : CountsFaults old u source sink r.status
-    replay_counts = counts_faults old u found source cores input o f x known still later P.ready.read.whole sink r W lost unasked report_told begun complete_is
+    replay_counts = counts_faults old u found source cores input o f x known still later P.ready.read.whole sink r W lost unasked report_told refusals begun complete_is
 
     pub promise : (input : List ℕ) × (cores : ℕ) × IsInput source.coming input × Replays old u found source cores input sink r
     promise = (input, cores, P.ready.read.is_input, replays)

@@ -1,5 +1,5 @@
 -- From the last state of a run to what the program promises of it, whoever made the moves of its cores.
-use Rattle.std.proofs.Common.{◌≡◌, ◌≢◌, ◌⊎◌, inl, inr, ℕ, ◌/◌, ◌<◌, ◌≤◌, List, [], ◌++◌, length, refl, sym, ◌∙◌, ap, subst, arith, true, false, Bool, Some, None, append-nil, map, take, ◌+◌, ◌%◌, length-append, Ok}
+use Rattle.std.proofs.Common.{◌≡◌, ◌≢◌, ◌⊎◌, inl, inr, ℕ, zero, suc, ◌∷◌, ◌/◌, ◌<◌, ◌≤◌, List, [], ◌++◌, length, refl, sym, ◌∙◌, ap, subst, arith, true, false, Bool, Some, None, append-nil, map, take, ◌+◌, ◌%◌, length-append, Ok}
 use Rattle.std.specs.List.{AllByRecursion, slice_get}
 use Rattle.pm_region.specs.Cell.{Cell}
 use Rattle.pm_region.specs.State.{State, IsTold, IsTelling, MayLeave, Rose, cell_now}
@@ -34,7 +34,7 @@ use Rattle.group_engine.specs.declared.run_outcome.End.{End}
 use Rattle.group_engine.specs.declared.run_outcome.End.TheVariants as ends
 use Rattle.group_engine.specs.declared.run_outcome.Outcome.{Outcome}
 use Rattle.group_engine.specs.Replayed.{report_in}
-use Rattle.group_engine.specs.Reports.{ReportsOn, told_by}
+use Rattle.group_engine.specs.Reports.{ReportsOn, ShowsWhy, told_by}
 use Rattle.group_engine.specs.Answers.{reply_to}
 use Rattle.group_engine.specs.declared.run_report.Refusal.{Refusal}
 use Rattle.flatstore.specs.Ends.{SourceUse, SinkUse, CountsFaults}
@@ -52,6 +52,18 @@ use Rattle.flatstore.proofs.Numbering.{all_map, rising}
 use Rattle.flatstore.proofs.Staying.{told_still, tells_still, leaves_still, leaves_now}
 use Rattle.flatstore.proofs.Causing.{HasCauses, full_of, spent_of, unrefused_of, long_of}
 use Rattle.flatstore.proofs.Texts.{both, takes_front, all_text, front_text, no_text, small_sound}
+
+-- what did not come to its end wanted memory
+pub cut_end : (e : End) → is_ended e ≡ false → e ≡ ends.Memory
+cut_end ends.Complete is = absurd (cc is)
+cut_end ends.RegionFault is = absurd (cc is)
+cut_end ends.Memory is = refl
+
+-- a request keeps its number where more come behind
+get_front : (xs ys : List Request) (n : ℕ) (q : Request) → slice_get xs n ≡ Some q → slice_get (xs ++ ys) n ≡ Some q
+get_front [] ys n q e = absurd (cc e)
+get_front (x ∷ xs) ys zero q e = e
+get_front (x ∷ xs) ys (suc n) q e = get_front xs ys n q e
 
 -- What is known of a run on a region that was attached, by the requests of an input, whoever made the moves of its cores.
 pub record Known (old : State) (found : ℕ → ℕ) (cores : ℕ) (input : List ℕ) (o : Origin) (f : Engine) (x : Outcome) : Type 0 where
@@ -126,7 +138,7 @@ module _ (old t : State) (found : ℕ → ℕ) (source : SourceUse) (cores : ℕ
 
   -- of a report on it, and what was written
   module _ (read_out : IsReadOut source.coming source.left) (sink : SinkUse) (r : Report) (W : HasAnswered x sink r.in_place r.status)
-      (lost : r.complete ≡ true → r.in_place ≡ false → Rose f.region.faults t.faults) (unasked : r.complete ≡ false → f.region ≡ t) (report_told : told_in r ≡ told_by (report_in x)) (report_began : r.began ≡ true) (report_complete : r.complete ≡ is_ended x.end) where
+      (lost : r.complete ≡ true → r.in_place ≡ false → Rose f.region.faults t.faults) (unasked : r.complete ≡ false → f.region ≡ t) (report_told : told_in r ≡ told_by (report_in x)) (report_refused : r.refusals.items ≡ x.refusals.items) (report_began : r.began ≡ true) (report_complete : r.complete ≡ is_ended x.end) where
     pub told_is : told_in r ≡ told_of f
     told_is = report_told ∙ K.reports.told_is
 
@@ -374,13 +386,14 @@ module _ (old t : State) (found : ℕ → ℕ) (source : SourceUse) (cores : ℕ
       pub long_then : AllByRecursion (λ (y : Refusal). (n : ℕ) → y.why ≡ Length n → (q : Request) → slice_get trace y.request ≡ Some q → is_too_long l q ≡ true) r.refusals.items
       long_then = long_of found trace f.answer causes_found (length f.given) within r.refusals.items told_refused some_cores
 
+    -- The refusals are those of requests of the input.
+    counts_then : AllByRecursion (ShowsWhy trace) r.refusals.items
+    counts_then = subst (AllByRecursion (ShowsWhy trace)) (sym report_refused)
+        (subst (λ q. AllByRecursion (ShowsWhy q) x.refusals.items) (sym trace_is) (all_map (ShowsWhy f.given) (ShowsWhy (f.given ++ K.more)) (λ y why. (why.0, get_front f.given K.more y.request why.0 why.1, why.2)) x.refusals.items K.reports.counts))
+
     -- there was no memory before the end
     short_then : r.complete ≡ false → WindsDown t r
-    short_then cut = record { state = f; region = unasked cut; ceased = K.ceased (by x.end (sym report_complete ∙ cut)); told_is = told_is } where
-      by : (e : End) → is_ended e ≡ false → e ≡ ends.Memory
-      by ends.Complete is = absurd (cc is)
-      by ends.RegionFault is = absurd (cc is)
-      by ends.Memory is = refl
+    short_then cut = record { state = f; region = unasked cut; ceased = K.ceased (cut_end x.end (sym report_complete ∙ cut)); told_is = told_is }
 
     pub serves : Serves old t found source cores input sink r
     serves = record {
@@ -400,6 +413,7 @@ module _ (old t : State) (found : ℕ → ℕ) (source : SourceUse) (cores : ℕ
       spent = spent_then;
       unrefused = unrefused_then;
       long = long_then;
+      counts = counts_then;
       short = λ memory began cut. short_then cut;
     }
 

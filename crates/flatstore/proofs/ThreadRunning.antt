@@ -41,7 +41,7 @@ use Rattle.flatstore.specs.declared.report.Report.{Report}
 use Rattle.flatstore.specs.declared.run_threads.NotRun.{NotRun}
 use Rattle.flatstore.specs.declared.run_threads.NotRun.TheVariants.{Refused, Unsplit}
 use Rattle.flatstore.proofs.Causing.{HasCauses}
-use Rattle.flatstore.proofs.Refused.{served_by, apart_from, told_now, none_begins, none_lost, none_rising, none_full, none_spent, none_long, refused_serves, refused_fault, refused_source}
+use Rattle.flatstore.proofs.Refused.{served_by, apart_from, told_now, none_begins, none_lost, none_rising, none_full, none_spent, none_long, none_counted, refused_serves, refused_fault, refused_source}
 use Rattle.flatstore.proofs.Serving.{Known, serves, ends_then, counts_faults, words_found}
 use Rattle.flatstore.proofs.Standing.{counted_by, origin_cores}
 use Rattle.flatstore.proofs.Staying.{tells_still, attached_still, cells_still, asks_stays, asks_later, asks_none, asks_rose}
@@ -201,6 +201,7 @@ module _ (old s t : State) (found word : ℕ → ℕ) (A : Attached old s s.fram
         spent = λ telling. none_spent old t found still r fin ref cut own_cores own_input;
         unrefused = λ telling within. ref;
         long = λ telling. none_long old t found still r fin ref cut own_cores own_input;
+        counts = none_counted old t found still r fin ref cut own_cores own_input;
         short = λ memory began no. cc (sym is ∙ memory);
       }
 
@@ -380,7 +381,7 @@ module _ (old s t : State) (found word : ℕ → ℕ) (A : Attached old s s.fram
         ended is m = both (is_ended x.end) is (ap is_ended m)
 
     pub run_counts : CountsFaults old u source sink r.status
-    run_counts = counts_faults old u found source cores input o f x known stays later P.ready.read.whole sink r W lost unasked report_told begun complete_is
+    run_counts = counts_faults old u found source cores input o f x known stays later P.ready.read.whole sink r W lost unasked report_told refusals begun complete_is
 
     pub ran_on : (input : List ℕ) × (cores : ℕ) × IsInput source.coming input × RunsOnThreads old u found source refused cores input sink r
     ran_on = (
@@ -388,8 +389,8 @@ module _ (old s t : State) (found word : ℕ → ℕ) (A : Attached old s s.fram
       cores,
       P.ready.read.is_input,
       record {
-        serves = serves old u found source cores input o f x known stays later P.ready.read.whole sink r W lost unasked report_told begun complete_is;
-        unsplit = λ failed no. both r.complete (ends_then old u found source cores input o f x known stays later P.ready.read.whole sink r W lost unasked report_told begun complete_is failed) no;
+        serves = serves old u found source cores input o f x known stays later P.ready.read.whole sink r W lost unasked report_told refusals begun complete_is;
+        unsplit = λ failed no. both r.complete (ends_then old u found source cores input o f x known stays later P.ready.read.whole sink r W lost unasked report_told refusals begun complete_is failed) no;
         worked = λ begun_is steady. cores_ran;
         run = ran_then;
       },

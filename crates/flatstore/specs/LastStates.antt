@@ -1,9 +1,10 @@
 -- The run of the engine that a report is of.
-use Rattle.std.specs.Prelude.{◌≡◌, ℕ, ◌/◌, ◌<◌, List, [], ◌∷◌, length, map, true, false, Ok}
+use Rattle.std.specs.Prelude.{◌≡◌, ℕ, ◌/◌, ◌<◌, List, [], ◌∷◌, ◌++◌, length, map, true, false, Ok}
 use Rattle.std.specs.List.{AllByRecursion, slice_get}
 use Rattle.pm_region.specs.declared.region_sizes.TheConstants.{WORD_BYTES}
 use Rattle.pm_region.specs.State.{State, IsTelling, cell_now}
 use Rattle.chunk_map.specs.Layouts.{layout_of}
+use Rattle.fs_model.specs.declared.model.Request.{Request}
 use Rattle.fs_text.specs.declared.line.Line.{Line}
 use Rattle.fs_text.specs.Input.{input_of}
 use Rattle.fs_text.specs.Output.{replies_text}
@@ -14,8 +15,8 @@ use Rattle.engine_laws.specs.Engine.{Engine}
 use Rattle.engine_laws.specs.Promises.{HasStopped}
 use Rattle.engine_laws.specs.Ceasing.{HasCeased}
 use Rattle.engine_laws.specs.Parts.{AllLicensed}
-use Rattle.engine_laws.specs.Stands.{Origin}
-use Rattle.engine_laws.specs.Ran.{Ran}
+use Rattle.engine_laws.specs.Stands.{Origin, Stands}
+use Rattle.engine_laws.specs.Ran.{Ran, asked_in}
 use Rattle.engine_laws.specs.Idle.{IsDrained}
 use Rattle.engine_laws.specs.Reports.{told_of, replies_of, AllAnswered}
 use Rattle.group_engine.specs.Answers.{kept_at, ShowsAnswer}
@@ -75,15 +76,11 @@ abbrev pub first_of : {at : State} {found : ℕ → ℕ} {cores : ℕ} → Opens
     → RunState Worker
 first_of x = first_state x.start.origin x.workers
 
--- A report, and what the sink took, are made of the answers that are kept in a state of the run:
--- the finishes with their stamps, the refusals with what was counted, and the replies.
-pub record ReportsAnswers (new : State) (sink : SinkUse) (last : RunState Worker)
-    (r : Report) : Type 0 where
+-- A report is made of the answers that are kept in a state of the run: the finishes with their stamps,
+-- the refusals with what was counted.
+pub record ReportsKept (new : State) (last : RunState Worker) (r : Report) : Type 0 where
   pub finishes : r.finishes.items ≡ finishes_in 0 last.answers
   pub refusals : r.refusals.items ≡ refusals_in 0 last.answers
-  pub begins : TakesPrefix sink.before sink.now (replies_text (map reply_in last.answers))
-  pub writes : r.in_place ≡ true → IsAllOut r.status sink
-      → Takes sink.before sink.now (replies_text (map reply_in last.answers))
   -- Those are the answers of the state, each with its stamp and the cause of its refusal; where the
   -- region doesn't tell, a get may have found another value.
   pub count : length last.answers ≡ length last.engine.given
@@ -91,6 +88,14 @@ pub record ReportsAnswers (new : State) (sink : SinkUse) (last : RunState Worker
       (last.engine.answer n) (kept_at last.answers n)
   pub told_is : told_in r ≡ told_of last.engine
   pub replies : IsTelling new → map reply_in last.answers ≡ replies_of last.engine
+
+-- The same, and what the sink took are their replies.
+pub record ReportsAnswers (new : State) (sink : SinkUse) (last : RunState Worker)
+    (r : Report) : Type 0 where
+  pub kept : ReportsKept new last r
+  pub begins : TakesPrefix sink.before sink.now (replies_text (map reply_in last.answers))
+  pub writes : r.in_place ≡ true → IsAllOut r.status sink
+      → Takes sink.before sink.now (replies_text (map reply_in last.answers))
 
 -- The lines of the input led the engine from the region, as it was attached with these words, to a
 -- last state, and this is a report on it.
@@ -116,3 +121,19 @@ pub record RanTo (old new : State) (found : ℕ → ℕ) (cores : ℕ) (input : 
   pub goes : is_whole r.status ≡ true → NoneHasStopped last.engine
   -- Whatever a crash leaves of a part now is licensed by its core's view in that state.
   pub licensed : IsTelling new → AllLicensed last.engine.layout last.engine.group (cell_now new)
+
+-- A run over the lines of the input that broke off for want of memory, and the state in which it did. That state comes from
+-- the region, as it was attached with these words, and from the first requests of the input: every promise of a run
+-- holds there, though the others were not given. All that was posted or taken is finished there, and this is a report on it.
+pub record BreaksOff (old new : State) (found : ℕ → ℕ) (cores : ℕ) (input : List ℕ)
+    (r : Report) : Type 0 where
+  pub last : RunState Worker
+  pub from : GoesOnFrom old last.engine.region new.frame.bytes found
+  pub start : Starts from.at found cores
+  pub lines : List Line
+  pub good : input_of cores input ≡ Ok lines
+  pub given : (more : List Request) × (asked_in lines ≡ last.engine.given ++ more)
+  pub stands : Stands start.origin last.engine
+  pub ceased : HasCeased last.engine
+  pub region : last.engine.region ≡ new
+  pub reports : ReportsKept new last r

@@ -14,8 +14,9 @@ use Rattle.log_entry.specs.declared.entry_limits.TheConstants.{LAST_PUT_VERSION}
 use Rattle.store_image.specs.Soundness.{IsSound}
 use Rattle.core_room.specs.declared.types.Shortage.TheVariants.{Versions, Length}
 use Rattle.group_engine.specs.Answers.{reply_to}
+use Rattle.group_engine.specs.Reports.{ShowsWhy}
 use Rattle.flatstore.specs.Ends.{SourceUse, SinkUse}
-use Rattle.flatstore.specs.LastStates.{told_in, AreRising, RanTo, WindsDown}
+use Rattle.flatstore.specs.LastStates.{told_in, AreRising, RanTo, BreaksOff, WindsDown}
 use Rattle.flatstore.specs.Ordering.{KeepsOrder, IsDue, IsFault, is_whole}
 use Rattle.flatstore.specs.declared.report.Status.TheVariants as statuses
 use Rattle.flatstore.specs.declared.report.Report.{Report}
@@ -91,6 +92,9 @@ pub record Serves (old new : State) (found : ℕ → ℕ) (source : SourceUse) (
   pub long : IsTelling new → AllByRecursion (λ x. (bytes : ℕ) → x.why ≡ Length bytes
       → (q : Request) → slice_get (asked_in cores input) x.request ≡ Some q
       → is_too_long (layout_of found) q ≡ true) r.refusals.items
+  -- At every end and whatever the region tells, the numbers of a refusal show its cause: no place for its lines, no free block
+  -- and no chunk to cut, no put behind the version that is told, the bytes of its value.
+  pub counts : AllByRecursion (ShowsWhy (asked_in cores input)) r.refusals.items
   -- Where there was no memory for all of a run that began, every worker wound down.
   pub short : r.status ≡ statuses.Memory → r.began ≡ true → r.complete ≡ false
       → WindsDown new r
@@ -103,3 +107,5 @@ pub record Replays (old new : State) (found : ℕ → ℕ) (source : SourceUse) 
   pub ends : r.status ≡ statuses.RegionFault → r.complete ≡ true
   -- A report that says so did come to the end: then its answers and finishes are those of the last state of a run of the engine over the input's lines.
   pub run : r.complete ≡ true → RanTo old new found cores input sink r
+  -- Where it began and didn't come to its end, for want of memory, the report is on the state in which it broke off.
+  pub broke : r.began ≡ true → r.complete ≡ false → BreaksOff old new found cores input r
