@@ -13,7 +13,10 @@ use Rattle.std.specs.Box.{box_value}
 use Rattle.clap.proofs.ValueTestLemmas.{accepts-Accepts, Accepts-accepts}
 use Rattle.clap.proofs.WalkLemmas.{one_text-rows}
 use Rattle.clap.proofs.OnLiterals.{clap_on_literals}
-use Rattle.flatstore.specs.Commands.{Form, program, u64_reader, number_of, number_in, is_good, form_in, form_of, needs_threads, alone_form_of}
+use Rattle.flatstore.specs.Commands.{Form, program, u64_reader, number_of, number_in, is_good, form_in, form_of, needs_threads, is_run, alone_form_of}
+use Rattle.flatstore.specs.Commands.Form.{Format, Replay, Run, Dump, Log, Scan, Audit}
+use Rattle.flatstore.specs.Asked.{threaded, Way}
+use Rattle.flatstore.specs.Asked.Way.{Runs, Audits}
 
 refuse : (b : Bool) (x : Option ℕ) → (b ≡ true → ⊥) → None ≡ (if b then x else None)
 refuse true x never = absurd (never refl)
@@ -70,3 +73,34 @@ name_of (Some b) = refl
 -- words that aren't those of `run` ask the same of a call that starts no thread
 pub alone_form : (words : List Text) → needs_threads (form_of words) ≡ false → alone_form_of words ≡ form_of words
 alone_form words alone = ap (λ b. if b then None else form_of words) alone
+
+-- which words are those of `run`, by what is done in threads
+pub run_way : (f : Option Form) → threaded f ≡ Some Runs → is_run f ≡ true
+run_way None is = cc is
+run_way (Some (Format path l)) is = cc is
+run_way (Some (Replay path)) is = cc is
+run_way (Some (Run path)) is = refl
+run_way (Some (Dump path)) is = cc is
+run_way (Some (Log path)) is = cc is
+run_way (Some (Scan path)) is = cc is
+run_way (Some (Audit path workers)) is = cc is
+
+pub audit_way : (f : Option Form) (n : ℕ) → threaded f ≡ Some (Audits n) → is_run f ≡ false
+audit_way None n is = refl
+audit_way (Some (Format path l)) n is = refl
+audit_way (Some (Replay path)) n is = refl
+audit_way (Some (Run path)) n is = cc is
+audit_way (Some (Dump path)) n is = refl
+audit_way (Some (Log path)) n is = refl
+audit_way (Some (Scan path)) n is = refl
+audit_way (Some (Audit path workers)) n is = refl
+
+pub no_way : (f : Option Form) → needs_threads f ≡ false → is_run f ≡ false
+no_way None alone = refl
+no_way (Some (Format path l)) alone = refl
+no_way (Some (Replay path)) alone = refl
+no_way (Some (Run path)) alone = cc alone
+no_way (Some (Dump path)) alone = refl
+no_way (Some (Log path)) alone = refl
+no_way (Some (Scan path)) alone = refl
+no_way (Some (Audit path workers)) alone = refl

@@ -205,7 +205,7 @@ module _ (old s : State) (found : ℕ → ℕ) (A : Attached old s s.frame.bytes
       whole = λ whole. both (is_whole r.status) whole (ap is_whole is ∙ (no_run status is_none).1);
     }
 
-    serves : Serves old s found source cores input sink r
+    serves : Serves old s found source cores input (asked_in cores input) sink r
     serves = record {
       cores_are = λ n told. count (told_now old s found A r fin ref cut cores input n told);
       order = order;
@@ -249,7 +249,7 @@ module _ (old s : State) (found : ℕ → ℕ) (A : Attached old s s.frame.bytes
     ]
 
   pub refused_serves : (r : Report) → r.status ≡ status → r.finishes.items ≡ [] → r.refusals.items ≡ [] → r.began ≡ false → r.complete ≡ false → r.in_place ≡ false → (sink : SinkUse) → sink.now ≡ sink.before
-      → (input : List ℕ) × (cores : ℕ) × IsInput source.coming input × Serves old s found source cores input sink r
+      → (input : List ℕ) × (cores : ℕ) × IsInput source.coming input × Serves old s found source cores input (asked_in cores input) sink r
   refused_serves r is fin ref unbegun cut unplaced sink same = by U where
     in_status : (input : List ℕ) → IsDue s.frame.bytes found input status ⊎ IsFault old s source sink status → IsDue s.frame.bytes found input r.status ⊎ IsFault old s source sink r.status
     in_status input h = subst (λ st. IsDue s.frame.bytes found input st ⊎ IsFault old s source sink st) (sym is) h
@@ -257,7 +257,7 @@ module _ (old s : State) (found : ℕ → ℕ) (A : Attached old s s.frame.bytes
     due_line : (cores : ℕ) (input : List ℕ) → IsSound s.frame.bytes found × (cores ≡ found 2) → status ≡ status_of (input_of cores input) → IsDue s.frame.bytes found input status
     due_line cores input h e = e ∙ ap (λ c. status_of (input_of c input)) h.1 ∙ sym (ap (due found input) h.0)
 
-    by : IsRefused s source status → (input : List ℕ) × (cores : ℕ) × IsInput source.coming input × Serves old s found source cores input sink r
+    by : IsRefused s source status → (input : List ℕ) × (cores : ℕ) × IsInput source.coming input × Serves old s found source cores input (asked_in cores input) sink r
     by (inl u) =
         let input = some_input source.coming in (
           input.0,
@@ -296,4 +296,4 @@ module _ (old s : State) (found : ℕ → ℕ) (A : Attached old s s.frame.bytes
       → (input : List ℕ) × (cores : ℕ) × IsInput source.coming input × Replays old s found source cores input sink r
   refused_replays r is fin ref unbegun cut unplaced sink same =
       let x = refused_serves r is fin ref unbegun cut unplaced sink same in
-      (x.0, x.1, x.2, record { serves = x.3; ends = λ failed. absurd (refused_fault r is failed); run = λ complete. both r.complete complete cut; broke = λ began no. both r.began began unbegun })
+      (x.0, x.1, x.2, record { serves = x.3; kept_back = λ complete gone. same; ends = λ failed. absurd (refused_fault r is failed); run = λ complete. both r.complete complete cut; broke = λ began no. both r.began began unbegun })

@@ -1,8 +1,11 @@
 -- From the last state of a replay to what the program promises.
-use Rattle.std.proofs.Common.{◌≡◌, ◌≢◌, ℕ, ◌/◌, ◌<◌, ◌≤◌, List, [], ◌∷◌, ◌++◌, length, refl, sym, ◌∙◌, ap, subst, arith, true, false, length-append}
+use Rattle.std.proofs.Common.{◌≡◌, ◌≢◌, ◌⊎◌, inl, ℕ, ◌/◌, ◌<◌, ◌≤◌, List, [], ◌∷◌, ◌++◌, length, refl, sym, ◌∙◌, ap, subst, arith, true, false, length-append}
 use Rattle.pm_region.specs.State.{State, Frame, IsTelling, MayLeave, Rose}
 use Rattle.pm_region.specs.Split.{Attached, IsOpenedOnceMore, Stays}
 use Rattle.pm_region.specs.Words.{lasts}
+use Rattle.fs_model.specs.declared.model.Request.{Request}
+use Rattle.fs_text.specs.Output.{replies_text}
+use Rattle.fs_text.specs.Streams.{TakesPrefix}
 use Rattle.chunk_map.specs.Layouts.{layout_of}
 use Rattle.engine_laws.specs.Engine.{Engine}
 use Rattle.engine_laws.specs.Stands.{Origin, opening, given_to}
@@ -16,14 +19,16 @@ use Rattle.engine_laws.proofs.Clients.{ran_given}
 use Rattle.flatstore.specs.Attaching.{Runs, Asks}
 use Rattle.flatstore.specs.Ends.{SourceUse, SinkUse, CountsFaults}
 use Rattle.flatstore.specs.LastStates.{told_in, RanTo}
-use Rattle.flatstore.specs.Promise.{IsInput, Replays}
-use Rattle.flatstore.specs.Played.{Played, HasAnswered, is_ended}
+use Rattle.flatstore.specs.Promise.{IsInput, Replays, asked_in}
+use Rattle.flatstore.specs.Played.{Played, HasAnswered, EndsAs, is_ended}
 use Rattle.flatstore.specs.declared.report.Report.{Report}
 use Rattle.flatstore.proofs.Causing.{HasCauses}
+use Rattle.flatstore.proofs.Inputs.{read_trace}
 use Rattle.flatstore.proofs.Running as running
 use Rattle.flatstore.proofs.Serving.{Known, serves, ends_then, counts_faults, cut_end}
 use Rattle.flatstore.proofs.Standing.{origin_cores}
 use Rattle.flatstore.proofs.Staying.{asks_stays, asks_later, asks_none, asks_rose}
+use Rattle.flatstore.proofs.Written.{front_written, ended_so, unplaced_same, cut_same}
 
 none_behind : {X : Type 0} (xs ys : List X) → xs ≡ xs ++ ys → ys ≡ []
 none_behind xs [] e = refl
@@ -46,6 +51,9 @@ module _ (old s t : State) (found word : ℕ → ℕ) (A : Attached old s s.fram
 
   began : o.region ≡ s
   began = P.ran.begins.region
+
+  abbrev trace : List Request
+  trace = asked_in cores input
 
   count : (layout_of o.found).cores ≡ cores
   count = origin_cores s word P.recovered P.ready.stands o P.ran.begins.reads
@@ -74,7 +82,7 @@ module _ (old s t : State) (found word : ℕ → ℕ) (A : Attached old s s.fram
   low_stamp : (n : ℕ) → o.region.stamp ≤ n
   low_stamp n = let same = ap (λ (z : State). z.stamp) began in let stamp = A.stamp in omega (arith, same, stamp)
 
-  pub known : Known old found cores input o f x
+  pub known : Known old found cores input trace o f x
   known = record {
     attached = subst (λ (z : State). Attached old z z.frame.bytes found) (sym began) A;
     origin = P.ran.begins.is;
@@ -89,7 +97,7 @@ module _ (old s t : State) (found word : ℕ → ℕ) (A : Attached old s s.fram
     good = P.ready.read.good;
     promised = P.ran.promised;
     more = P.ran.given.0;
-    given = P.ran.given.1;
+    given = read_trace cores input P.lines P.ready.read.good ∙ P.ran.given.1;
     all_given = given_whole;
     reports = subst (λ z. ReportsOn z o f (report_in x)) (sym P.ran.region) P.ran.reports;
     done = P.ran.done;
@@ -114,23 +122,37 @@ module _ (old s t : State) (found word : ℕ → ℕ) (A : Attached old s s.fram
     later : (n : ℕ) → n ≤ f.region.faults → Rose n f.region.faults → Rose n u.faults
     later = asks_later r.complete r.in_place f.region u asks_last
 
-    lost : r.complete ≡ true → r.in_place ≡ false → Rose f.region.faults u.faults
-    lost = asks_rose r.complete r.in_place f.region u asks_last
+    lost : r.complete ≡ true → r.in_place ≡ false → Rose old.faults u.faults
+    lost complete gone =
+        let rose = asks_rose r.complete r.in_place f.region u asks_last complete gone in
+        let low = known.low in
+        let kept = known.kept in
+        omega (arith, rose, low, kept)
+
+    ended : EndsAs x sink r.in_place r.status
+    ended = ended_so x sink r.status r.in_place W
+
+    front : TakesPrefix sink.before sink.now (replies_text x.replies.items)
+    front = front_written x sink r.status r.in_place W
+
+    held : is_ended x.end ≡ false → (sink.now ≡ sink.before) ⊎ (known.more ≡ [])
+    held cut = inl (cut_same x sink r.status r.in_place W cut)
 
     unasked : r.complete ≡ false → f.region ≡ u
     unasked = asks_none r.complete r.in_place f.region u asks_last
 
     replays : Replays old u found source cores input sink r
     replays = record {
-      serves = serves old u found source cores input o f x known still later P.ready.read.whole sink r W lost unasked report_told refusals begun complete_is;
-      ends = ends_then old u found source cores input o f x known still later P.ready.read.whole sink r W lost unasked report_told refusals begun complete_is;
+      serves = serves old u found source cores input trace o f x known still later P.ready.read.whole sink r ended front held lost unasked report_told refusals begun complete_is;
+      kept_back = λ whole gone. unplaced_same x sink r.status r.in_place W gone;
+      ends = ends_then old u found source cores input trace o f x known still later P.ready.read.whole sink r ended front held lost unasked report_told refusals begun complete_is;
       run = λ whole. running.ran_to old s t found word A once granted P.recovered P.ready.stands cores input P.lines P.ready.read.good x P.ran count u (asks_stays r.complete r.in_place t u asks) r finishes refusals sink W complete_is whole
           (subst (λ b. Asks b r.in_place t u) whole asks);
       broke = λ began cut. running.breaks_off old s t found word A once granted P.recovered P.ready.stands cores input P.lines P.ready.read.good x P.ran count u (asks_stays r.complete r.in_place t u asks) r finishes refusals (cut_end x.end (sym complete_is ∙ cut)) (subst (λ b. Asks b r.in_place t u) cut asks);
     }
 
     pub replay_counts : CountsFaults old u source sink r.status
-    replay_counts = counts_faults old u found source cores input o f x known still later P.ready.read.whole sink r W lost unasked report_told refusals begun complete_is
+    replay_counts = counts_faults old u found source cores input trace o f x known still later P.ready.read.whole sink r ended front held lost unasked report_told refusals begun complete_is
 
     pub promise : (input : List ℕ) × (cores : ℕ) × IsInput source.coming input × Replays old u found source cores input sink r
     promise = (input, cores, P.ready.read.is_input, replays)

@@ -33,7 +33,7 @@ use Rattle.flatstore.specs.declared.report.Report.{Report}
 use Rattle.flatstore.proofs.Attached.{found_words}
 use Rattle.flatstore.proofs.Staying.{tells_still, cells_still}
 use Rattle.flatstore.proofs.Texts.{both, small_sound}
-use Rattle.flatstore.proofs.Written.{front_written, all_written, fault_end, whole_end}
+use Rattle.flatstore.proofs.Written.{front_written, ended_so, all_written, fault_end, whole_end}
 
 shows_still : (K L : Type 0) → (L → K) → (asked : Option Request) (a : Option Answer) (x : Option Stamped) → ShowsAnswer K asked a x → ShowsAnswer L asked a x
 shows_still K L to asked None None is = tt
@@ -124,7 +124,7 @@ module _ (old s t : State) (found word : ℕ → ℕ) (A : Attached old s s.fram
       reports = record {
         kept = kept;
         begins = subst (λ rs. TakesPrefix sink.before sink.now (replies_text rs)) P.kept.replies (front_written x sink r.status r.in_place W);
-        writes = λ here out. subst (λ rs. Takes sink.before sink.now (replies_text rs)) P.kept.replies (all_written x sink r.status r.in_place W here out);
+        writes = λ here out. subst (λ rs. Takes sink.before sink.now (replies_text rs)) P.kept.replies (all_written x sink r.status r.in_place (ended_so x sink r.status r.in_place W) here out);
       }
 
       licensed : IsTelling t → AllLicensed last.engine.layout last.engine.group (cell_now t)
@@ -142,7 +142,7 @@ module _ (old s t : State) (found word : ℕ → ℕ) (A : Attached old s s.fram
         answered = (P.done not_cut).answered;
         drained = (P.done not_cut).drained;
         reports = reports;
-        stops = λ fault here. P.fault (fault_end x sink r.status r.in_place W fault here);
-        goes = λ whole. P.complete (whole_end x sink r.status r.in_place W whole);
+        stops = λ fault here. P.fault (fault_end x sink r.status r.in_place (ended_so x sink r.status r.in_place W) fault here);
+        goes = λ whole. P.complete (whole_end x sink r.status r.in_place (ended_so x sink r.status r.in_place W) whole);
         licensed = λ telling. subst (AllLicensed last.engine.layout last.engine.group) (λ i w. sym (cells_still t u still w) i) (licensed (tells_still t u still telling));
       }

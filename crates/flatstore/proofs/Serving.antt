@@ -28,7 +28,6 @@ use Rattle.engine_laws.specs.Engine.{Engine}
 use Rattle.engine_laws.specs.Stands.{Origin, start_of}
 use Rattle.engine_laws.specs.Promises.{IsOrigin, Promised, IsDone, HasStopped}
 use Rattle.engine_laws.specs.Ceasing.{HasCeased}
-use Rattle.engine_laws.specs.Ran as runs
 use Rattle.engine_laws.specs.Reports.{told_of, replies_from, AllAnswered}
 use Rattle.group_engine.specs.declared.run_outcome.End.{End}
 use Rattle.group_engine.specs.declared.run_outcome.End.TheVariants as ends
@@ -40,18 +39,17 @@ use Rattle.group_engine.specs.declared.run_report.Refusal.{Refusal}
 use Rattle.flatstore.specs.Ends.{SourceUse, SinkUse, CountsFaults}
 use Rattle.flatstore.specs.LastStates.{told_in, AreRising, WindsDown}
 use Rattle.flatstore.specs.Ordering.{KeepsOrder, IsServed, due, IsDue, IsFault, status_of, is_broken, is_quiet, is_of_line, is_whole}
-use Rattle.flatstore.specs.Promise.{WritesAll, WritesFront, Serves, asked_in}
-use Rattle.flatstore.specs.Played.{HasAnswered, is_ended}
+use Rattle.flatstore.specs.Promise.{WritesAll, WritesFront, Serves}
+use Rattle.flatstore.specs.Played.{EndsAs, is_ended}
 use Rattle.flatstore.specs.declared.report.Status.{Status}
 use Rattle.flatstore.specs.declared.report.Status.TheVariants as statuses
 use Rattle.flatstore.specs.declared.report.Report.{Report}
-use Rattle.flatstore.proofs.Inputs.{read_trace}
 use Rattle.flatstore.proofs.Attached.{found_words}
 use Rattle.flatstore.proofs.Agreeing as agreeing
 use Rattle.flatstore.proofs.Numbering.{all_map, rising}
 use Rattle.flatstore.proofs.Staying.{told_still, tells_still, leaves_still, leaves_now}
 use Rattle.flatstore.proofs.Causing.{HasCauses, full_of, spent_of, unrefused_of, long_of}
-use Rattle.flatstore.proofs.Texts.{both, takes_front, all_text, front_text, no_text, small_sound}
+use Rattle.flatstore.proofs.Texts.{both, all_text, front_text, no_text, small_sound}
 
 -- what did not come to its end wanted memory
 pub cut_end : (e : End) → is_ended e ≡ false → e ≡ ends.Memory
@@ -65,8 +63,8 @@ get_front [] ys n q e = absurd (cc e)
 get_front (x ∷ xs) ys zero q e = e
 get_front (x ∷ xs) ys (suc n) q e = get_front xs ys n q e
 
--- What is known of a run on a region that was attached, by the requests of an input, whoever made the moves of its cores.
-pub record Known (old : State) (found : ℕ → ℕ) (cores : ℕ) (input : List ℕ) (o : Origin) (f : Engine) (x : Outcome) : Type 0 where
+-- What is known of a run on a region that was attached, by the requests of an input that were begun, whoever made the moves of its cores.
+pub record Known (old : State) (found : ℕ → ℕ) (cores : ℕ) (input : List ℕ) (trace : List Request) (o : Origin) (f : Engine) (x : Outcome) : Type 0 where
   pub attached : Attached old o.region o.region.frame.bytes found
   pub low : old.faults ≤ o.region.faults
   pub kept : o.region.faults ≤ f.region.faults
@@ -81,7 +79,7 @@ pub record Known (old : State) (found : ℕ → ℕ) (cores : ℕ) (input : List
   pub good : input_of cores input ≡ Ok lines
   pub promised : Promised o f
   pub more : List Request
-  pub given : runs.asked_in lines ≡ f.given ++ more
+  pub given : trace ≡ f.given ++ more
   pub all_given : x.end ≢ ends.Memory → more ≡ []
   pub reports : ReportsOn f.region o f (report_in x)
   pub done : x.end ≢ ends.Memory → IsDone o f
@@ -91,7 +89,7 @@ pub record Known (old : State) (found : ℕ → ℕ) (cores : ℕ) (input : List
   pub causes : HasCauses o.found (f.given ++ more) f.answer
 
 -- The region says what it said in the last state, but for its counts.
-module _ (old t : State) (found : ℕ → ℕ) (source : SourceUse) (cores : ℕ) (input : List ℕ) (o : Origin) (f : Engine) (x : Outcome) (K : Known old found cores input o f x)
+module _ (old t : State) (found : ℕ → ℕ) (source : SourceUse) (cores : ℕ) (input : List ℕ) (trace : List Request) (o : Origin) (f : Engine) (x : Outcome) (K : Known old found cores input trace o f x)
     (still : Stays f.region t) (later : (n : ℕ) → n ≤ f.region.faults → Rose n f.region.faults → Rose n t.faults) where
   abbrev s : State
   s = o.region
@@ -130,15 +128,13 @@ module _ (old t : State) (found : ℕ → ℕ) (source : SourceUse) (cores : ℕ
   served : IsServed t found
   served telling = subst (λ n. IsSound n found) (sym bytes_then) (sound_found (telling_then telling))
 
-  abbrev trace : List Request
-  trace = asked_in cores input
-
   trace_is : trace ≡ f.given ++ K.more
-  trace_is = read_trace cores input K.lines K.good ∙ K.given
+  trace_is = K.given
 
   -- of a report on it, and what was written
-  module _ (read_out : IsReadOut source.coming source.left) (sink : SinkUse) (r : Report) (W : HasAnswered x sink r.in_place r.status)
-      (lost : r.complete ≡ true → r.in_place ≡ false → Rose f.region.faults t.faults) (unasked : r.complete ≡ false → f.region ≡ t) (report_told : told_in r ≡ told_by (report_in x)) (report_refused : r.refusals.items ≡ x.refusals.items) (report_began : r.began ≡ true) (report_complete : r.complete ≡ is_ended x.end) where
+  module _ (read_out : IsReadOut source.coming source.left) (sink : SinkUse) (r : Report) (W : EndsAs x sink r.in_place r.status)
+      (front : TakesPrefix sink.before sink.now (replies_text x.replies.items)) (held : is_ended x.end ≡ false → (sink.now ≡ sink.before) ⊎ (K.more ≡ []))
+      (lost : r.complete ≡ true → r.in_place ≡ false → Rose old.faults t.faults) (unasked : r.complete ≡ false → f.region ≡ t) (report_told : told_in r ≡ told_by (report_in x)) (report_refused : r.refusals.items ≡ x.refusals.items) (report_began : r.began ≡ true) (report_complete : r.complete ≡ is_ended x.end) where
     pub told_is : told_in r ≡ told_of f
     told_is = report_told ∙ K.reports.told_is
 
@@ -191,53 +187,46 @@ module _ (old t : State) (found : ℕ → ℕ) (source : SourceUse) (cores : ℕ
     abbrev Front : Type 0
     Front = WritesFront (IsTelling t) (cells_of found) trace (told_in r) FrontMayStop sink
 
-    abbrev Prefix : Type 0
-    Prefix = TakesPrefix sink.before sink.now (replies_text x.replies.items)
-
     -- of a run that didn't, each request without an answer counts as one that is stopped
     cut_front : is_ended x.end ≡ false → sink.now ≡ sink.before → Front
     cut_front cut same = no_text (IsTelling t) (cells_of found) trace (told_in r) FrontMayStop (replies_from f.answer 0 (length (f.given ++ K.more)))
         (said_of FrontMayStop (AllAnswered f → K.more ≡ [] → HasStopped f) (replies_from f.answer 0 (length (f.given ++ K.more))) (K.promised.replies K.more) (λ any complete. both r.complete complete (report_complete ∙ cut))) sink same
 
-    -- and of a run that did, where nothing was written
-    none_front : (is_ended x.end ≡ true) → sink.now ≡ sink.before → Front
-    none_front is same = no_text (IsTelling t) (cells_of found) trace (told_in r) FrontMayStop x.replies.items (said_whole (ended is) FrontMayStop (λ h complete. risen h)) sink same
+    -- also where a part of it went out, and all were given
+    cut_text : is_ended x.end ≡ false → K.more ≡ [] → Front
+    cut_text cut none = front_text (IsTelling t) (cells_of found) trace (told_in r) FrontMayStop x.replies.items
+        (said_of FrontMayStop (AllAnswered f → HasStopped f) x.replies.items
+        (subst (λ q. Answers (IsTelling f.region) (start_of o) q (told_of f) (AllAnswered f → HasStopped f) x.replies.items) (sym (ap (λ m. f.given ++ m) none ∙ append-nil f.given)) K.reports.answers)
+        (λ any complete. both r.complete complete (report_complete ∙ cut))) sink front
 
-    begun : (p : Bool) → HasAnswered x sink p r.status → Front
-    begun true (inl w, is) = front_of (ended is) FrontMayStop (λ h complete. risen h) (takes_front sink.before sink.now (replies_text x.replies.items) w.2)
-    begun true (inr (inl w), is) = elim w.2 [
-      | inl all ↦ front_of (ended is) FrontMayStop (λ h complete. risen h) (takes_front sink.before sink.now (replies_text x.replies.items) all.0)
-      | inr some ↦ front_of (ended is) FrontMayStop (λ h complete. risen h) some.1
-    ]
-    begun true (inr (inr (inl w)), is) = front_of (ended is) FrontMayStop (λ h complete. risen h) w.3
-    begun true (inr (inr (inr w)), is) = front_of (ended is) FrontMayStop (λ h complete. risen h) w.2
-    begun false (same, inl cut) = cut_front cut.1 same
-    begun false (same, inr out) = none_front out.1 same
+    begun : (ended_is : Bool) → is_ended x.end ≡ ended_is → Front
+    begun true is = front_of (ended is) FrontMayStop (λ h complete. risen h) front
+    begun false cut = elim (held cut) [ inl same ↦ cut_front cut same | inr none ↦ cut_text cut none ]
 
     -- the statuses that it cannot have
     no_status : (Q : Status → Bool) → Q statuses.Done ≡ false → Q statuses.RegionFault ≡ false → Q statuses.SinkFault ≡ false → Q statuses.Memory ≡ false → Q r.status ≡ true → ⊥
     no_status Q done failed sunk memory is = by r.in_place W where
-      by : (p : Bool) → HasAnswered x sink p r.status → ⊥
+      by : (p : Bool) → EndsAs x sink p r.status → ⊥
       by true (inl w, any) = both (Q r.status) is (ap Q w.0 ∙ done)
       by true (inr (inl w), any) = both (Q r.status) is (ap Q w.0 ∙ failed)
       by true (inr (inr (inl w)), any) = both (Q r.status) is (ap Q w.0 ∙ sunk)
       by true (inr (inr (inr w)), any) = both (Q r.status) is (ap Q w.0 ∙ memory)
-      by false (same, inl cut) = both (Q r.status) is (ap Q cut.0 ∙ memory)
-      by false (same, inr out) = both (Q r.status) is (ap Q out.0 ∙ failed)
+      by false (inl cut) = both (Q r.status) is (ap Q cut.0 ∙ memory)
+      by false (inr out) = both (Q r.status) is (ap Q out.0 ∙ failed)
 
     written : r.status ≡ statuses.Done → WritesAll (IsTelling t) (cells_of found) trace (told_in r) ⊥ sink × (sink.flushed ≡ true)
     written done = by r.in_place W where
-      by : (p : Bool) → HasAnswered x sink p r.status → WritesAll (IsTelling t) (cells_of found) trace (told_in r) ⊥ sink × (sink.flushed ≡ true)
+      by : (p : Bool) → EndsAs x sink p r.status → WritesAll (IsTelling t) (cells_of found) trace (told_in r) ⊥ sink × (sink.flushed ≡ true)
       by true (inl w, any) = (text_of (completed w.1) ⊥ (never w.1) w.2, w.3)
       by true (inr (inl w), any) = cc (sym done ∙ w.0)
       by true (inr (inr (inl w)), any) = cc (sym done ∙ w.0)
       by true (inr (inr (inr w)), any) = cc (sym done ∙ w.0)
-      by false (same, inl cut) = cc (sym done ∙ cut.0)
-      by false (same, inr out) = cc (sym done ∙ out.0)
+      by false (inl cut) = cc (sym done ∙ cut.0)
+      by false (inr out) = cc (sym done ∙ out.0)
 
     written_failed : r.status ≡ statuses.RegionFault → r.in_place ≡ true → (Rose sink.faults sink.faults' → ⊥) → WritesAll (IsTelling t) (cells_of found) trace (told_in r) (Rose old.faults t.faults) sink × (sink.flushed ≡ true)
     written_failed failed here steady = by r.in_place here W where
-      by : (p : Bool) → p ≡ true → HasAnswered x sink p r.status → WritesAll (IsTelling t) (cells_of found) trace (told_in r) (Rose old.faults t.faults) sink × (sink.flushed ≡ true)
+      by : (p : Bool) → p ≡ true → EndsAs x sink p r.status → WritesAll (IsTelling t) (cells_of found) trace (told_in r) (Rose old.faults t.faults) sink × (sink.flushed ≡ true)
       by true is (inl w, any) = cc (sym failed ∙ w.0)
       by true is (inr (inl w), any) = elim w.2 [
         | inl all ↦ (text_of (faulted w.1) (Rose old.faults t.faults) risen all.0, all.1)
@@ -249,51 +238,48 @@ module _ (old t : State) (found : ℕ → ℕ) (source : SourceUse) (cores : ℕ
 
     written_sunk : r.status ≡ statuses.SinkFault → WritesFront (IsTelling t) (cells_of found) trace (told_in r) ⊥ sink
     written_sunk sunk = by r.in_place W where
-      by : (p : Bool) → HasAnswered x sink p r.status → WritesFront (IsTelling t) (cells_of found) trace (told_in r) ⊥ sink
+      by : (p : Bool) → EndsAs x sink p r.status → WritesFront (IsTelling t) (cells_of found) trace (told_in r) ⊥ sink
       by true (inl w, any) = cc (sym sunk ∙ w.0)
       by true (inr (inl w), any) = cc (sym sunk ∙ w.0)
       by true (inr (inr (inl w)), any) = front_of (completed w.1) ⊥ (never w.1) w.3
       by true (inr (inr (inr w)), any) = cc (sym sunk ∙ w.0)
-      by false (same, inl cut) = cc (sym sunk ∙ cut.0)
-      by false (same, inr out) = cc (sym sunk ∙ out.0)
+      by false (inl cut) = cc (sym sunk ∙ cut.0)
+      by false (inr out) = cc (sym sunk ∙ out.0)
 
     whole_ends : is_whole r.status ≡ true → x.end ≡ ends.Complete
     whole_ends whole = by r.in_place W where
-      by : (p : Bool) → HasAnswered x sink p r.status → x.end ≡ ends.Complete
+      by : (p : Bool) → EndsAs x sink p r.status → x.end ≡ ends.Complete
       by true (inl w, any) = w.1
       by true (inr (inl w), any) = both (is_whole r.status) whole (ap is_whole w.0)
       by true (inr (inr (inl w)), any) = w.1
       by true (inr (inr (inr w)), any) = both (is_whole r.status) whole (ap is_whole w.0)
-      by false (same, inl cut) = both (is_whole r.status) whole (ap is_whole cut.0)
-      by false (same, inr out) = both (is_whole r.status) whole (ap is_whole out.0)
+      by false (inl cut) = both (is_whole r.status) whole (ap is_whole cut.0)
+      by false (inr out) = both (is_whole r.status) whole (ap is_whole out.0)
 
-    -- Where the region was in its place, the run came to its end; where it was not, though the run did, nothing was written.
+    -- Where the region was in its place, the run came to its end; where it was not, though the run did, that was a fault.
     asked_then : r.in_place ≡ true → r.complete ≡ true
     asked_then here = by r.in_place here W where
-      by : (p : Bool) → p ≡ true → HasAnswered x sink p r.status → r.complete ≡ true
+      by : (p : Bool) → p ≡ true → EndsAs x sink p r.status → r.complete ≡ true
       by true is w = report_complete ∙ w.1
       by false is w = cc is
 
-    kept_back : r.complete ≡ true → r.in_place ≡ false → (r.status ≡ statuses.RegionFault) × (sink.now ≡ sink.before)
+    kept_back : r.complete ≡ true → r.in_place ≡ false → r.status ≡ statuses.RegionFault
     kept_back complete gone = by r.in_place gone W where
-      by : (p : Bool) → p ≡ false → HasAnswered x sink p r.status → (r.status ≡ statuses.RegionFault) × (sink.now ≡ sink.before)
+      by : (p : Bool) → p ≡ false → EndsAs x sink p r.status → r.status ≡ statuses.RegionFault
       by true is w = cc (sym is)
-      by false is (same, inl cut) = both r.complete complete (report_complete ∙ cut.1)
-      by false is (same, inr out) = (out.0, same)
+      by false is (inl cut) = both r.complete complete (report_complete ∙ cut.1)
+      by false is (inr out) = out.0
 
     -- a fault of the region that was counted
     failed_rose : r.status ≡ statuses.RegionFault → Rose old.faults t.faults
     failed_rose failed = by r.in_place refl W where
-      gone : r.complete ≡ true → r.in_place ≡ false → Rose old.faults t.faults
-      gone complete is = let rose = lost complete is in let low = K.low in let kept = K.kept in omega (arith, rose, low, kept)
-
-      by : (p : Bool) → r.in_place ≡ p → HasAnswered x sink p r.status → Rose old.faults t.faults
+      by : (p : Bool) → r.in_place ≡ p → EndsAs x sink p r.status → Rose old.faults t.faults
       by true is (inl w, any) = cc (sym failed ∙ w.0)
       by true is (inr (inl w), any) = risen (K.fault w.1)
       by true is (inr (inr (inl w)), any) = cc (sym failed ∙ w.0)
       by true is (inr (inr (inr w)), any) = cc (sym failed ∙ w.0)
-      by false is (same, inl cut) = cc (sym failed ∙ cut.0)
-      by false is (same, inr out) = gone (report_complete ∙ out.1) is
+      by false is (inl cut) = cc (sym failed ∙ cut.0)
+      by false is (inr out) = lost (report_complete ∙ out.1) is
 
     crash_then : RecoversThroughout t (cells_of found) trace (told_in r)
     crash_then n told image may =
@@ -331,15 +317,15 @@ module _ (old t : State) (found : ℕ → ℕ) (source : SourceUse) (cores : ℕ
     -- the status that is due
     due_of : IsTelling t → IsDue t.frame.bytes found input r.status ⊎ IsFault old t source sink r.status
     due_of telling = by r.in_place W where
-      by : (p : Bool) → HasAnswered x sink p r.status → IsDue t.frame.bytes found input r.status ⊎ IsFault old t source sink r.status
+      by : (p : Bool) → EndsAs x sink p r.status → IsDue t.frame.bytes found input r.status ⊎ IsFault old t source sink r.status
       by true (inl w, any) =
           let sound : first_fault t.frame.bytes found ≡ None = served telling in
           inl (w.0 ∙ sym (ap (due found input) sound ∙ ap (λ c. status_of (input_of c input)) (sym (cores_found (telling_then telling))) ∙ ap status_of K.good))
       by true (inr (inl w), any) = inr (inr (inr (inr (w.0, failed_rose w.0))))
       by true (inr (inr (inl w)), any) = inr (inr (inr (inl (w.0, w.2))))
       by true (inr (inr (inr w)), any) = inr (inl w.0)
-      by false (same, inl cut) = inr (inl cut.0)
-      by false (same, inr out) = inr (inr (inr (inr (out.0, failed_rose out.0))))
+      by false (inl cut) = inr (inl cut.0)
+      by false (inr out) = inr (inr (inr (inr (out.0, failed_rose out.0))))
 
     -- The causes of refusals, by the words found.
     module _ (telling : IsTelling t) where
@@ -395,7 +381,7 @@ module _ (old t : State) (found : ℕ → ℕ) (source : SourceUse) (cores : ℕ
     short_then : r.complete ≡ false → WindsDown t r
     short_then cut = record { state = f; region = unasked cut; ceased = K.ceased (cut_end x.end (sym report_complete ∙ cut)); told_is = told_is }
 
-    pub serves : Serves old t found source cores input sink r
+    pub serves : Serves old t found source cores input trace sink r
     serves = record {
       cores_are = λ n told. cores_found (K.was n (told_still f.region t still n told));
       order = order;
@@ -405,7 +391,7 @@ module _ (old t : State) (found : ℕ → ℕ) (source : SourceUse) (cores : ℕ
       done = written;
       failed = written_failed;
       sunk = written_sunk;
-      begins = begun r.in_place W;
+      begins = begun (is_ended x.end) refl;
       crash = λ sound. crash_then;
       last = recovers_all;
       rising = subst (λ (z : Told). AreRising (finished_in z) × AreRising (refused_in z)) (sym told_is) (rising is_finish (λ a. a.stamp) f.answer 0 (length f.given), rising is_told (λ a. a.reply) f.answer 0 (length f.given));
@@ -426,18 +412,18 @@ module _ (old t : State) (found : ℕ → ℕ) (source : SourceUse) (cores : ℕ
     } where
       sunk_rose : r.status ≡ statuses.SinkFault → Rose sink.faults sink.faults'
       sunk_rose sunk = by r.in_place W where
-        by : (p : Bool) → HasAnswered x sink p r.status → Rose sink.faults sink.faults'
+        by : (p : Bool) → EndsAs x sink p r.status → Rose sink.faults sink.faults'
         by true (inl w, any) = cc (sym sunk ∙ w.0)
         by true (inr (inl w), any) = cc (sym sunk ∙ w.0)
         by true (inr (inr (inl w)), any) = w.2
         by true (inr (inr (inr w)), any) = cc (sym sunk ∙ w.0)
-        by false (same, inl cut) = cc (sym sunk ∙ cut.0)
-        by false (same, inr out) = cc (sym sunk ∙ out.0)
+        by false (inl cut) = cc (sym sunk ∙ cut.0)
+        by false (inr out) = cc (sym sunk ∙ out.0)
 
     -- A call of the region that failed doesn't keep it from its end.
     pub ends_then : r.status ≡ statuses.RegionFault → r.complete ≡ true
     ends_then failed = by r.in_place W where
-      by : (p : Bool) → HasAnswered x sink p r.status → r.complete ≡ true
+      by : (p : Bool) → EndsAs x sink p r.status → r.complete ≡ true
       by true w = report_complete ∙ w.1
-      by false (same, inl cut) = cc (sym failed ∙ cut.0)
-      by false (same, inr out) = report_complete ∙ out.1
+      by false (inl cut) = cc (sym failed ∙ cut.0)
+      by false (inr out) = report_complete ∙ out.1

@@ -1,12 +1,11 @@
 -- From what the cores did in a run on threads, or why none ran, to what the program promises.
-use Rattle.std.proofs.Common.{◌≡◌, ◌≢◌, inl, inr, ℕ, ◌/◌, ◌<◌, ◌≤◌, List, [], ◌++◌, map, refl, sym, ◌∙◌, ap, subst, arith, true, false, Bool, Result, Ok, Err, append-nil}
+use Rattle.std.proofs.Common.{◌≡◌, ◌≢◌, ◌⊎◌, inl, inr, ℕ, ◌/◌, ◌<◌, ◌≤◌, List, [], ◌++◌, map, refl, sym, ◌∙◌, ap, subst, arith, true, false, Bool, Option, Some, None, Result, Ok, Err, append-nil}
 use Rattle.std.specs.Prelude.{IfErr}
 use Rattle.std.specs.Result.{IsErrAnd}
 use Rattle.fs_model.specs.declared.model.Request.{Request}
-use Rattle.fs_model.specs.declared.model.Reply.{Reply}
 use Rattle.pm_region.specs.Cell.{Cell}
 use Rattle.pm_region.specs.State.{State, InRange, IsTold, IsTelling, MayLeave, Rose, cell_now, counted}
-use Rattle.pm_region.specs.Split.{Attached, Stays, Refuses, IsOpenedOnceMore}
+use Rattle.pm_region.specs.Split.{Attached, Stays, Refuses, IsOpenedOnceMore, IsNotOpened}
 use Rattle.pm_region.specs.declared.split.AttachError.{AttachError}
 use Rattle.pm_region.specs.declared.split.AttachError.TheVariants as attach
 use Rattle.pm_region.specs.Words.{lasts}
@@ -19,21 +18,25 @@ use Rattle.recover.specs.declared.types.Recovered.{Recovered}
 use Rattle.engine_laws.specs.Engine.{Engine}
 use Rattle.engine_laws.specs.Parts.{AllLicensed}
 use Rattle.engine_laws.specs.Stands.{Origin}
+use Rattle.engine_laws.specs.Ran as runs
+use Rattle.group_engine.specs.declared.run_outcome.End.{End}
 use Rattle.group_engine.specs.declared.run_outcome.End.TheVariants as ends
 use Rattle.group_engine.specs.declared.run_outcome.Outcome.{Outcome}
 use Rattle.group_engine.specs.Replayed.{report_in}
 use Rattle.group_engine.specs.Reports.{ReportsOn, reply_in, as_told, told_by}
-use Rattle.thread_engine.specs.declared.run_apart.RunOutcome.{RunOutcome}
+use Rattle.thread_engine.specs.declared.run_to_sink.SinkRun.{SinkRun}
+use Rattle.thread_engine.specs.declared.text_outlet.Unwritten.{Unwritten}
+use Rattle.thread_engine.specs.declared.text_outlet.Unwritten.TheVariants.{Astray, SinkFault, Memory}
 use Rattle.thread_engine.specs.Collected.{had_memory}
-use Rattle.thread_engine.specs.Outlets.{HandsOut}
-use Rattle.thread_engine.specs.RanApart.{Rejoined, RanApart, RanInWindows}
-use Rattle.flatstore.specs.Attaching.{GoesOnBy, Asks, AttachesToSplit, MayRejoin}
-use Rattle.flatstore.specs.Ends.{SourceUse, SinkUse, CountsFaults}
+use Rattle.thread_engine.specs.Printed.{IsOutInWindows, RanToSink}
+use Rattle.thread_engine.specs.RanApart.{Rejoined}
+use Rattle.flatstore.specs.Attaching.{GoesOnBy, Asks, AsksMeanwhile, AttachesToSplit}
+use Rattle.flatstore.specs.Ends.{SourceUse, SinkUse, IsAllOut, CountsFaults}
 use Rattle.flatstore.specs.LastStates.{told_in}
 use Rattle.flatstore.specs.Ordering.{KeepsOrder, IsServed, is_broken, is_of_line, is_quiet, is_whole}
-use Rattle.flatstore.specs.Promise.{IsInput, Serves}
-use Rattle.flatstore.specs.Played.{IsReady, IsRefused, HasAnswered, is_ended}
-use Rattle.flatstore.specs.ThreadPlays.{PlayedApart, HasNotSplit, IsNotRun, WhyNotRun, why_of, status_for, has_begun}
+use Rattle.flatstore.specs.Promise.{IsInput, Serves, asked_in}
+use Rattle.flatstore.specs.Played.{IsReady, IsRefused, EndsAs, is_ended}
+use Rattle.flatstore.specs.ThreadPlays.{PlayedApart, HasNotSplit, IsNotRun, WhyNotRun, why_of, status_for, has_begun, ran_as, is_placed}
 use Rattle.flatstore.specs.ThreadRuns.{CoresRan, RanOnThreads, RunsOnThreads}
 use Rattle.flatstore.specs.declared.report.Status.{Status}
 use Rattle.flatstore.specs.declared.report.Status.TheVariants as statuses
@@ -41,30 +44,39 @@ use Rattle.flatstore.specs.declared.report.Report.{Report}
 use Rattle.flatstore.specs.declared.run_threads.NotRun.{NotRun}
 use Rattle.flatstore.specs.declared.run_threads.NotRun.TheVariants.{Refused, Unsplit}
 use Rattle.flatstore.proofs.Causing.{HasCauses}
+use Rattle.flatstore.proofs.Inputs.{read_trace}
 use Rattle.flatstore.proofs.Refused.{served_by, apart_from, told_now, none_begins, none_lost, none_rising, none_full, none_spent, none_long, none_counted, refused_serves, refused_fault, refused_source}
-use Rattle.flatstore.proofs.Serving.{Known, serves, ends_then, counts_faults, words_found}
+use Rattle.flatstore.proofs.Serving.{Known, serves, ends_then, counts_faults, words_found, cut_end}
 use Rattle.flatstore.proofs.Standing.{counted_by, origin_cores}
-use Rattle.flatstore.proofs.Staying.{tells_still, attached_still, cells_still, asks_stays, asks_later, asks_none, asks_rose}
+use Rattle.flatstore.proofs.Staying.{tells_still, attached_still, asks_stays, asks_later}
 use Rattle.flatstore.proofs.Texts.{both}
-use Rattle.flatstore.proofs.Written.{front_written, all_written, fault_end, whole_end}
+use Rattle.flatstore.proofs.Written.{all_written, fault_end, whole_end, answered_loud}
 
 -- what was done to a region that was attached
-pub attaches_then : (old s t u : State) (found : ℕ → ℕ) → Attached old s s.frame.bytes found → IsOpenedOnceMore old s → s.frame.refusals ≡ old.frame.refusals → t.frame.bytes ≡ s.frame.bytes → MayRejoin s t
-    → (r : Report) → r.attached ≡ true → Asks r.complete r.in_place t u → AttachesToSplit old u found r
-attaches_then old s t u found A once granted bytes done r opened asks = record {
+pub attaches_then : (old s t : State) (found : ℕ → ℕ) → Attached old s s.frame.bytes found → IsOpenedOnceMore old s → s.frame.refusals ≡ old.frame.refusals → t.frame.bytes ≡ s.frame.bytes
+    → (r : Report) → r.attached ≡ true → AsksMeanwhile r s t → AttachesToSplit old t found r
+attaches_then old s t found A once granted bytes r opened done = record {
   attached = λ attached. record {
     at = s;
-    attached = subst (λ n. Attached old s n found) (sym ((asks_stays r.complete r.in_place t u asks).bytes ∙ bytes)) A;
+    attached = subst (λ n. Attached old s n found) (sym bytes) A;
     once = once;
     granted = granted;
-    on = record { left = t; done = done; asks = asks };
+    on = done;
   };
   unattached = λ isnt. both r.attached opened isnt;
   cause = λ isnt. both r.attached opened isnt;
 }
 
+-- nothing was asked of a region that was left as it was
+pub not_asked : (s t : State) → Stays s t → IsNotOpened s t → (r : Report) → r.complete ≡ false → r.in_place ≡ false → AsksMeanwhile r s t
+not_asked s t S opens r cut unplaced = record {
+  done = inr (S, opens);
+  found = λ here. both r.in_place here unplaced;
+  lost = λ complete gone. both r.complete complete cut;
+}
+
 -- A split that was refused, or for which there was no memory.
-module _ (s t : State) (word : ℕ → ℕ) (S : Stays s t) (source : SourceUse) (r : Result RunOutcome AttachError) (R : Refuses s t r) (recovered : Recovered) (lines : List Line) (ready : IsReady s word source recovered lines) where
+module _ (s t : State) (word : ℕ → ℕ) (S : Stays s t) (source : SourceUse) (r : Result SinkRun AttachError) (R : Refuses s t r) (recovered : Recovered) (lines : List Line) (ready : IsReady s word source recovered lines) where
   why_split : (error : AttachError) → r ≡ Err error → WhyNotRun s word t source (why_of error)
   why_split attach.RegionFault is = let rose = R.fault is in record { recovered = recovered; lines = lines; ready = ready; fault = rose.0; refused = rose.1 }
   why_split attach.Memory is = inr refl
@@ -72,20 +84,6 @@ module _ (s t : State) (word : ℕ → ℕ) (S : Stays s t) (source : SourceUse)
   pub split_refused : (error : AttachError) → r ≡ Err error → {T : Type 0} (x : Result T NotRun) → IsErrAnd x (λ e. e ≡ why_of error) → IfErr x (IsNotRun s word t source)
   split_refused error is (Ok x) e = tt
   split_refused error is (Err x) e = subst (IsNotRun s word t source) (sym e) (record { stays = S; later = R.later; cause = why_split error is })
-
--- An outlet that takes all was handed the replies of a whole run.
-abbrev TakesAny : {T : Type 0} → (State → T → List Reply → Bool → State → T → Type 0) → Type 0
-TakesAny {T} takes = (s : State) (a : T) (rs : List Reply) (h : Bool) (t : State) (b : T) → takes s a rs h t b → h ≡ true
-
-module _ {T : Type 0} {takes : State → T → List Reply → Bool → State → T → Type 0} where
-  all_heard : (all : Bool) {heard : Bool} {rs : List Reply} {s : State} {a : T} {t : State} {b : T} → HandsOut takes all heard rs s a t b → TakesAny takes → heard ≡ true
-  all_heard true {heard} {rs} {s} {a} {t} {b} H calm = calm H.at H.mid H.last heard t b (H.whole refl).1
-  all_heard false H calm = (H.short refl).1
-
-  pub ran_whole : {s : State} {word : ℕ → ℕ} {refused : Bool} {r : Recovered} {asked : List Request} {t : State} {x : RunOutcome} {a b : T} → RanInWindows takes s word refused r asked t x a b → TakesAny takes → RanApart s word refused r asked t x.outcome
-  ran_whole {s} {word} {refused} {r} {asked} {t} {x} W calm =
-      let none : W.more ≡ [] = W.whole (all_heard (had_memory x.outcome.end) W.hands calm) in
-      subst (λ xs. RanApart s word refused r xs t x.outcome) (sym (W.split ∙ ap (λ xs. W.given ++ xs) none ∙ append-nil W.given)) W.ran
 
 -- No core ran.
 module _ (old s t : State) (found word : ℕ → ℕ) (A : Attached old s s.frame.bytes found) (tells : (w : ℕ) → IsTelling s → lasts s w ≡ word w) (low : old.faults ≤ s.faults) (granted : s.frame.refusals ≡ old.frame.refusals) (source : SourceUse) (why : NotRun)
@@ -150,7 +148,7 @@ module _ (old s t : State) (found word : ℕ → ℕ) (A : Attached old s s.fram
       early_serves : (input : List ℕ) × (cores : ℕ) × IsInput source.coming input × RunsOnThreads old u found source refused cores input sink r
       early_serves =
           let x = refused_serves old u found B source status U r is fin ref unbegun cut unplaced sink same in
-          (x.0, x.1, x.2, record { serves = x.3; unsplit = λ failed no. absurd (refused_fault old u found B source status U r is failed); worked = λ began steady. both r.began began unbegun; run = λ complete. both r.complete complete cut })
+          (x.0, x.1, x.2, record { begun = asked_in x.1 x.0; unbegun = []; split = sym (append-nil (asked_in x.1 x.0)); all_begun = λ here out. refl; cut_begun = λ no. refl; serves = x.3; unsplit = λ failed no. absurd (refused_fault old u found B source status U r is failed); worked = λ began steady. both r.began began unbegun; run = λ complete. both r.complete complete cut })
 
     early : (status : Status) → WhyNotRun s word t source (Refused status) → r.status ≡ status → r.began ≡ false → Promised
     early status (inl x) is unbegun = subst (λ z. (input : List ℕ) × (cores : ℕ) × IsInput source.coming input × RunsOnThreads old z found source refused cores input sink r) (sym x.0)
@@ -183,7 +181,7 @@ module _ (old s t : State) (found word : ℕ → ℕ) (A : Attached old s s.fram
         whole = λ whole. both (is_whole r.status) whole (ap is_whole is);
       }
 
-      split_serves : Serves old t found source own_cores own_input sink r
+      split_serves : Serves old t found source own_cores own_input (asked_in own_cores own_input) sink r
       split_serves = record {
         cores_are = λ n told. (served_then (told_now old t found still r fin ref cut own_cores own_input n told)).1;
         order = order;
@@ -210,7 +208,17 @@ module _ (old s t : State) (found word : ℕ → ℕ) (A : Attached old s s.fram
         own_input,
         own_cores,
         h.ready.read.is_input,
-        record { serves = split_serves; unsplit = λ failed no. (still, subst (λ n. Rose n t.frame.refusals) granted h.refused); worked = λ began steady. both r.complete (steady is) cut; run = λ complete. both r.complete complete cut },
+        record {
+          begun = asked_in own_cores own_input;
+          unbegun = [];
+          split = sym (append-nil (asked_in own_cores own_input));
+          all_begun = λ here out. refl;
+          cut_begun = λ no. refl;
+          serves = split_serves;
+          unsplit = λ failed no. (still, subst (λ n. Rose n t.frame.refusals) granted h.refused);
+          worked = λ began steady. both r.complete (steady is) cut;
+          run = λ complete. both r.complete complete cut;
+        },
       )
 
     by_why : (y : NotRun) → WhyNotRun s word t source y → r.status ≡ status_for y → r.began ≡ has_begun y → Promised
@@ -220,14 +228,78 @@ module _ (old s t : State) (found word : ℕ → ℕ) (A : Attached old s s.fram
     pub not_run : r.status ≡ status_for why → r.began ≡ has_begun why → Promised
     not_run is began = by_why why N.cause is began
 
+-- What the end of a run and the cause that a window's text is not out say of its report.
+astray_by : (end : End) (why : Option Unwritten) → is_ended end ≡ true → is_placed end why ≡ false → why ≡ Some Astray
+astray_by end None whole gone = both (is_ended end) whole gone
+astray_by end (Some Astray) whole gone = refl
+astray_by end (Some SinkFault) whole gone = both (is_ended end) whole gone
+astray_by end (Some Memory) whole gone = both (is_ended end) whole gone
+
+unastray : (end : End) (why : Option Unwritten) → is_placed end why ≡ true → why ≢ Some Astray
+unastray end None here is = cc is
+unastray end (Some Astray) here is = cc here
+unastray end (Some SinkFault) here is = cc is
+unastray end (Some Memory) here is = cc is
+
+memory_of : (end : End) → is_ended end ≡ true → had_memory end ≡ true
+memory_of ends.Complete whole = refl
+memory_of ends.RegionFault whole = refl
+memory_of ends.Memory whole = cc whole
+
+memory_by : (end : End) (why : Option Unwritten) → is_placed end why ≡ true → had_memory end ≡ true
+memory_by end None here = memory_of end here
+memory_by end (Some Astray) here = cc here
+memory_by end (Some SinkFault) here = memory_of end here
+memory_by end (Some Memory) here = memory_of end here
+
+-- where every reply was written, no window's text is missing
+unwritten_none : (end : End) (why : Option Unwritten) (sink : SinkUse) → (why ≡ Some SinkFault → Rose sink.faults sink.faults') → is_placed end why ≡ true → IsAllOut (ran_as end why) sink → why ≡ None
+unwritten_none end None sink sunk here out = refl
+unwritten_none end (Some Astray) sink sunk here out = cc here
+unwritten_none ends.Complete (Some SinkFault) sink sunk here (inl out) = cc out
+unwritten_none ends.Complete (Some SinkFault) sink sunk here (inr out) = cc out.0
+unwritten_none ends.RegionFault (Some SinkFault) sink sunk here (inl out) = cc out
+unwritten_none ends.RegionFault (Some SinkFault) sink sunk here (inr out) = absurd (out.1 (sunk refl))
+unwritten_none ends.Memory (Some SinkFault) sink sunk here out = cc here
+unwritten_none end (Some Memory) sink sunk here (inl out) = cc out
+unwritten_none end (Some Memory) sink sunk here (inr out) = cc out.0
+
+-- and the status says what was written
+ends_as : (s : State) (word : ℕ → ℕ) (refused : Bool) (r : Recovered) (asked : List Request) (t : State) (sink : SinkUse) (y : SinkRun)
+    → RanToSink sink.before sink.now sink.flushed sink.faults sink.faults' s word refused r asked t y → EndsAs y.outcome sink (is_placed y.outcome.end y.unwritten) (ran_as y.outcome.end y.unwritten)
+ends_as s word refused r asked t sink y W = by y.outcome.end y.unwritten refl refl where
+  none_lacks : {w : Unwritten} → y.outcome.end ≡ ends.Memory → y.unwritten ≡ Some w → ⊥
+  none_lacks e f = cc (sym (W.memory e) ∙ f)
+
+  by : (end : End) (why : Option Unwritten) → y.outcome.end ≡ end → y.unwritten ≡ why → EndsAs y.outcome sink (is_placed end why) (ran_as end why)
+  by ends.Complete None e f = (let out = W.writes (ap had_memory e) f in (inl (refl, e, out.0, out.1), ap is_ended e))
+  by ends.RegionFault None e f = (let out = W.writes (ap had_memory e) f in (inr (inl (refl, e, inl (out.0, out.1))), ap is_ended e))
+  by ends.Memory None e f = inl (refl, ap is_ended e)
+  by ends.Complete (Some Astray) e f = inr (refl, ap is_ended e)
+  by ends.RegionFault (Some Astray) e f = inr (refl, ap is_ended e)
+  by ends.Memory (Some Astray) e f = absurd (none_lacks e f)
+  by ends.Complete (Some SinkFault) e f = (inr (inr (inl (refl, e, W.sunk f, W.begins))), ap is_ended e)
+  by ends.RegionFault (Some SinkFault) e f = (inr (inl (refl, e, inr (W.sunk f, W.begins))), ap is_ended e)
+  by ends.Memory (Some SinkFault) e f = absurd (none_lacks e f)
+  by ends.Complete (Some Memory) e f = (inr (inr (inr (refl, ap is_ended e, W.begins))), ap is_ended e)
+  by ends.RegionFault (Some Memory) e f = (inr (inr (inr (refl, ap is_ended e, W.begins))), ap is_ended e)
+  by ends.Memory (Some Memory) e f = absurd (none_lacks e f)
+
 -- All cores ran.
-module _ (old s t : State) (found word : ℕ → ℕ) (A : Attached old s s.frame.bytes found) (once : IsOpenedOnceMore old s) (granted : s.frame.refusals ≡ old.frame.refusals) (low : old.faults ≤ s.faults) (refused : Bool) (source : SourceUse) (x : Outcome)
-    (P : PlayedApart s word refused t source x) where
+module _ (old s t : State) (found word : ℕ → ℕ) (A : Attached old s s.frame.bytes found) (once : IsOpenedOnceMore old s) (granted : s.frame.refusals ≡ old.frame.refusals) (low : old.faults ≤ s.faults) (refused : Bool) (source : SourceUse) (sink : SinkUse) (y : SinkRun)
+    (P : PlayedApart s word refused t source sink y) where
+  abbrev x : Outcome
+  x = y.outcome
+
+  -- the requests that were begun
+  abbrev trace : List Request
+  trace = P.ran.given
+
   abbrev o : Origin
-  o = P.ran.origin
+  o = P.ran.ran.origin
 
   abbrev f : Engine
-  f = P.ran.last
+  f = P.ran.ran.last
 
   abbrev cores : ℕ
   cores = P.recovered.layout.cores
@@ -236,24 +308,24 @@ module _ (old s t : State) (found word : ℕ → ℕ) (A : Attached old s s.fram
   input = P.ready.read.input
 
   began : o.region ≡ s
-  began = P.ran.begins.region
+  began = P.ran.ran.begins.region
 
   count : (layout_of o.found).cores ≡ cores
-  count = origin_cores s word P.recovered P.ready.stands o P.ran.begins.reads
+  count = origin_cores s word P.recovered P.ready.stands o P.ran.ran.begins.reads
 
   -- the joined region tells one moment
   told_last : (n : ℕ) → IsTold t n → IsTelling s
   told_last n told =
-      let since = P.ran.rejoined.since in
+      let since = P.ran.ran.rejoined.since in
       let low = told.since in
       let seen = told.seen in
       let is : n ≡ t.stamp = omega (arith, since, low, seen) in
-      P.ran.rejoined.tells (subst (IsTold t) is told)
+      P.ran.ran.rejoined.tells (subst (IsTold t) is told)
 
   there : (cells : ℕ → Cell) (image : ℕ → ℕ) → MayLeave t.frame cells image → MayLeave s.frame cells image
   there cells image may w inside =
-      let first = P.ran.rejoined.first in
-      let words = P.ran.rejoined.words in
+      let first = P.ran.ran.rejoined.first in
+      let words = P.ran.ran.rejoined.words in
       let low = inside.low in
       let high = inside.high in
       may w (record { low = omega (arith, first, low); high = omega (arith, first, words, high) })
@@ -263,76 +335,89 @@ module _ (old s t : State) (found word : ℕ → ℕ) (A : Attached old s s.fram
 
   causes : HasCauses o.found (f.given ++ []) f.answer
   causes =
-      let C = P.ran.promised.causes in
+      let C = P.ran.ran.promised.causes in
       record {
         full = λ n k a is why asked. C.full [] n k a is why asked;
         spent = λ n a is why k asked. C.spent [] n k a is why asked;
-        kinds = (P.ran.promised.replies []).each;
+        kinds = (P.ran.ran.promised.replies []).each;
         long = λ n a is why q asked. C.long [] n q a is why asked;
       }
 
-  pub known : Known old found cores input o f x
+  pub known : Known old found cores input trace o f x
   known = record {
     attached = subst (λ (z : State). Attached old z z.frame.bytes found) (sym began) A;
-    origin = P.ran.begins.is;
+    origin = P.ran.ran.begins.is;
     low = let same = ap (λ (z : State). z.faults) began in omega (arith, low, same);
-    kept = let first = ap (λ (z : State). z.faults) began in let last = ap (λ (z : State). z.faults) P.ran.region in let rose = P.ran.rejoined.faults in omega (arith, first, last, rose);
-    words = subst (λ z. IsTelling z → (w : ℕ) → w < z.frame.bytes / 8 → o.found w ≡ lasts z w) (sym began) P.ran.begins.tells;
+    kept = let first = ap (λ (z : State). z.faults) began in let last = ap (λ (z : State). z.faults) P.ran.ran.region in let rose = P.ran.ran.rejoined.faults in omega (arith, first, last, rose);
+    words = subst (λ z. IsTelling z → (w : ℕ) → w < z.frame.bytes / 8 → o.found w ≡ lasts z w) (sym began) P.ran.ran.begins.tells;
     count = count;
-    was = λ n told. subst IsTelling (sym began) (told_last n (subst (λ z. IsTold z n) P.ran.region told));
-    bytes = ap (λ (z : State). z.frame.bytes) P.ran.region ∙ P.ran.rejoined.bytes ∙ ap (λ (z : State). z.frame.bytes) (sym began);
-    leaves = λ cells image may. subst (λ (z : State). MayLeave z.frame cells image) (sym began) (there cells image (subst (λ (z : State). MayLeave z.frame cells image) P.ran.region may));
+    was = λ n told. subst IsTelling (sym began) (told_last n (subst (λ z. IsTold z n) P.ran.ran.region told));
+    bytes = ap (λ (z : State). z.frame.bytes) P.ran.ran.region ∙ P.ran.ran.rejoined.bytes ∙ ap (λ (z : State). z.frame.bytes) (sym began);
+    leaves = λ cells image may. subst (λ (z : State). MayLeave z.frame cells image) (sym began) (there cells image (subst (λ (z : State). MayLeave z.frame cells image) P.ran.ran.region may));
     lines = P.lines;
     good = P.ready.read.good;
-    promised = P.ran.promised;
+    promised = P.ran.ran.promised;
     more = [];
-    given = sym P.ran.given ∙ sym all_given;
+    given = sym P.ran.ran.given ∙ sym all_given;
     all_given = λ not_cut. refl;
-    reports = subst (λ z. ReportsOn z o f (report_in x)) (sym P.ran.region) P.ran.reports;
-    done = P.ran.done;
-    fault = P.ran.fault;
-    whole = P.ran.complete;
-    ceased = P.ran.ceased;
+    reports = subst (λ z. ReportsOn z o f (report_in x)) (sym P.ran.ran.region) P.ran.ran.reports;
+    done = P.ran.ran.done;
+    fault = P.ran.ran.fault;
+    whole = P.ran.ran.complete;
+    ceased = P.ran.ran.ceased;
     causes = causes;
   }
 
-  bytes : f.region.frame.bytes ≡ s.frame.bytes
-  bytes = ap (λ (z : State). z.frame.bytes) P.ran.region ∙ P.ran.rejoined.bytes
+  bytes : t.frame.bytes ≡ s.frame.bytes
+  bytes = P.ran.ran.rejoined.bytes
 
-  -- The report is on the last state of the cores, behind which the region was asked whether it is in its place.
-  module _ (u : State) (sink : SinkUse) (r : Report) (W : HasAnswered x sink r.in_place r.status) (asks : Asks r.complete r.in_place t u)
+  -- The report is on the last state of the cores, which is the region's.
+  module _ (r : Report) (status_is : r.status ≡ ran_as x.end y.unwritten) (placed : r.in_place ≡ is_placed x.end y.unwritten)
       (finishes : r.finishes.items ≡ x.finishes.items) (refusals : r.refusals.items ≡ x.refusals.items) (begun : r.began ≡ true) (complete_is : r.complete ≡ is_ended x.end) where
-    asks_last : Asks r.complete r.in_place f.region u
-    asks_last = subst (λ z. Asks r.complete r.in_place z u) (sym P.ran.region) asks
+    same : Asks false true f.region t
+    same = sym P.ran.ran.region
 
-    stays : Stays f.region u
-    stays = asks_stays r.complete r.in_place f.region u asks_last
+    stays : Stays f.region t
+    stays = asks_stays false true f.region t same
 
-    later : (n : ℕ) → n ≤ f.region.faults → Rose n f.region.faults → Rose n u.faults
-    later = asks_later r.complete r.in_place f.region u asks_last
+    later : (n : ℕ) → n ≤ f.region.faults → Rose n f.region.faults → Rose n t.faults
+    later = asks_later false true f.region t same
 
-    lost : r.complete ≡ true → r.in_place ≡ false → Rose f.region.faults u.faults
-    lost = asks_rose r.complete r.in_place f.region u asks_last
+    unasked : r.complete ≡ false → f.region ≡ t
+    unasked cut = P.ran.ran.region
 
-    unasked : r.complete ≡ false → f.region ≡ u
-    unasked = asks_none r.complete r.in_place f.region u asks_last
+    lost : r.complete ≡ true → r.in_place ≡ false → Rose old.faults t.faults
+    lost complete gone =
+        let rose = P.ran.astray (astray_by x.end y.unwritten (sym complete_is ∙ complete) (sym placed ∙ gone)) in
+        omega (arith, low, rose)
 
-    abbrev from : GoesOnBy Rejoined old f.region u.frame.bytes found
-    from = record { at = s; attached = subst (λ n. Attached old s n found) (sym (stays.bytes ∙ bytes)) A; once = once; granted = granted; on = subst (λ z. Rejoined s z) (sym P.ran.region) P.ran.rejoined }
+    ended : EndsAs x sink r.in_place r.status
+    ended = subst (λ p. EndsAs x sink p r.status) (sym placed) (subst (EndsAs x sink (is_placed x.end y.unwritten)) (sym status_is) (ends_as s word refused P.recovered (runs.asked_in P.lines) t sink y P.ran))
+
+    held : is_ended x.end ≡ false → (sink.now ≡ sink.before) ⊎ (known.more ≡ [])
+    unfolding known
+    held cut = inr refl
+
+    abbrev from : GoesOnBy Rejoined old f.region t.frame.bytes found
+    from = record { at = s; attached = subst (λ n. Attached old s n found) (sym bytes) A; once = once; granted = granted; on = subst (λ z. Rejoined s z) (sym P.ran.ran.region) P.ran.ran.rejoined }
+
+    pub meanwhile : AsksMeanwhile r s t
+    meanwhile = record {
+      done = inl P.ran.ran.rejoined;
+      found = λ here. P.ran.found (memory_by x.end y.unwritten (sym placed ∙ here)) (unastray x.end y.unwritten (sym placed ∙ here));
+      lost = λ complete gone. P.ran.astray (astray_by x.end y.unwritten (sym complete_is ∙ complete) (sym placed ∙ gone));
+    }
 
     report_told : told_in r ≡ told_by (report_in x)
     report_told i = as_told (finishes i) (refusals i)
 
-    abbrev Text : Type 0
-    Text = List ℕ
-
-    text_is : replies_text x.replies.items ≡ replies_text (map reply_in P.ran.kept)
-    text_is = ap replies_text P.ran.report.replies
+    text_is : replies_text x.replies.items ≡ replies_text (map reply_in P.ran.ran.kept)
+    text_is = ap replies_text P.ran.ran.report.replies
 
     licensed_last : IsTelling f.region → AllLicensed f.layout f.group (cell_now f.region)
-    licensed_last = subst (λ z. IsTelling z → AllLicensed f.layout f.group (cell_now z)) (sym P.ran.region) P.ran.licensed
+    licensed_last = subst (λ z. IsTelling z → AllLicensed f.layout f.group (cell_now z)) (sym P.ran.ran.region) P.ran.ran.licensed
 
-    cores_ran : CoresRan old u found refused cores input r
+    cores_ran : CoresRan old t found refused cores input trace sink r
     cores_ran = record {
       f = f;
       from = from;
@@ -341,56 +426,80 @@ module _ (old s t : State) (found word : ℕ → ℕ) (A : Attached old s s.fram
         recovered = P.recovered;
         stands = P.ready.stands;
         origin = o;
-        begins = P.ran.begins;
+        begins = P.ran.ran.begins;
         words = subst (λ (z : State). IsTelling z → (w : ℕ) → w < z.frame.bytes / 8 → o.found w ≡ found w) began
-            (words_found old u found source cores input o f x known stays later);
+            (words_found old t found source cores input trace o f x known stays later);
         count = count;
       };
       lines = P.lines;
       good = P.ready.read.good;
-      given = P.ran.given;
-      ran = P.ran.ran;
-      inside = P.ran.inside;
-      ends = asks_last;
-      next = λ telling told latest low each. subst (λ n. n ≤ counted latest) (sym (stays.stamp ∙ ap (λ (z : State). z.stamp) P.ran.region)) (P.ran.next telling told latest low each);
-      kept = P.ran.kept;
-      keeps = P.ran.keeps;
-      once = P.ran.once;
-      finishes = finishes ∙ P.ran.report.finishes;
-      refusals = refusals ∙ P.ran.report.refusals;
-      told_is = report_told ∙ P.ran.reports.told_is;
-      licensed = λ telling. subst (AllLicensed f.layout f.group) (λ i w. sym (cells_still f.region u stays w) i) (licensed_last (tells_still f.region u stays telling));
+      given = P.ran.ran.given;
+      ran = P.ran.ran.ran;
+      inside = P.ran.ran.inside;
+      ends = same;
+      next = P.ran.ran.next;
+      kept = P.ran.ran.kept;
+      keeps = P.ran.ran.keeps;
+      once = P.ran.ran.once;
+      finishes = finishes ∙ P.ran.ran.report.finishes;
+      refusals = refusals ∙ P.ran.ran.report.refusals;
+      told_is = report_told ∙ P.ran.ran.reports.told_is;
+      parted = P.ran.parted;
+      behind = P.ran.behind;
+      unasked = P.ran.unasked;
+      asked_since = P.ran.asked_since;
+      out = subst (IsOutInWindows P.ran.parted P.ran.behind sink.before sink.now) P.ran.ran.report.replies P.ran.out;
+      licensed = subst (λ z. IsTelling z → AllLicensed f.layout f.group (cell_now z)) P.ran.ran.region licensed_last;
     }
 
-    ran_then : r.complete ≡ true → RanOnThreads old u found refused cores input sink r
+    ran_then : r.complete ≡ true → RanOnThreads old t found refused cores input trace sink r
     unfolding cores_ran
     ran_then complete =
         let end : is_ended x.end ≡ true = sym complete_is ∙ complete in
-        let not_cut : x.end ≢ ends.Memory = ended end in
+        let not_cut : x.end ≢ ends.Memory = ended_by end in
         record {
           all = cores_ran;
-          answered = (P.ran.done not_cut).answered;
-          drained = (P.ran.done not_cut).drained;
-          begins = subst (λ text. TakesPrefix sink.before sink.now text) text_is (front_written x sink r.status r.in_place W);
-          writes = λ here out. subst (λ text. Takes sink.before sink.now text) text_is (all_written x sink r.status r.in_place W here out);
-          stops = λ fault here. P.ran.fault (fault_end x sink r.status r.in_place W fault here);
-          goes = λ whole. P.ran.complete (whole_end x sink r.status r.in_place W whole);
+          answered = (P.ran.ran.done not_cut).answered;
+          drained = (P.ran.ran.done not_cut).drained;
+          begins = subst (λ text. TakesPrefix sink.before sink.now text) text_is P.ran.begins;
+          writes = λ here out. subst (λ text. Takes sink.before sink.now text) text_is (all_written x sink r.status r.in_place ended here out);
+          stops = λ fault here. P.ran.ran.fault (fault_end x sink r.status r.in_place ended fault here);
+          goes = λ whole. P.ran.ran.complete (whole_end x sink r.status r.in_place ended whole);
         }
       where
-        ended : is_ended x.end ≡ true → x.end ≢ ends.Memory
-        ended is m = both (is_ended x.end) is (ap is_ended m)
+        ended_by : is_ended x.end ≡ true → x.end ≢ ends.Memory
+        ended_by is m = both (is_ended x.end) is (ap is_ended m)
 
-    pub run_counts : CountsFaults old u source sink r.status
-    run_counts = counts_faults old u found source cores input o f x known stays later P.ready.read.whole sink r W lost unasked report_told refusals begun complete_is
+    pub run_counts : CountsFaults old t source sink r.status
+    run_counts = counts_faults old t found source cores input trace o f x known stays later P.ready.read.whole sink r ended P.ran.begins held lost unasked report_told refusals begun complete_is
 
-    pub ran_on : (input : List ℕ) × (cores : ℕ) × IsInput source.coming input × RunsOnThreads old u found source refused cores input sink r
+    -- a fault of the region did not keep it from its end
+    pub run_ends : r.status ≡ statuses.RegionFault → r.complete ≡ true
+    run_ends = ends_then old t found source cores input trace o f x known stays later P.ready.read.whole sink r ended P.ran.begins held lost unasked report_told refusals begun complete_is
+
+    -- it ended with no status that leaves the region and the sink as they were
+    pub run_loud : is_quiet r.status ≡ false
+    run_loud = answered_loud x sink r.status r.in_place ended
+
+    all_out : r.in_place ≡ true → IsAllOut r.status sink → P.ran.more ≡ []
+    all_out here out = P.ran.whole (unwritten_none x.end y.unwritten sink P.ran.sunk (sym placed ∙ here) (subst (λ z. IsAllOut z sink) status_is out))
+
+    cut_out : r.complete ≡ false → P.ran.more ≡ []
+    cut_out cut = P.ran.whole (P.ran.memory (cut_end x.end (sym complete_is ∙ cut)))
+
+    pub ran_on : (input : List ℕ) × (cores : ℕ) × IsInput source.coming input × RunsOnThreads old t found source refused cores input sink r
     ran_on = (
       input,
       cores,
       P.ready.read.is_input,
       record {
-        serves = serves old u found source cores input o f x known stays later P.ready.read.whole sink r W lost unasked report_told refusals begun complete_is;
-        unsplit = λ failed no. both r.complete (ends_then old u found source cores input o f x known stays later P.ready.read.whole sink r W lost unasked report_told refusals begun complete_is failed) no;
+        begun = trace;
+        unbegun = P.ran.more;
+        split = read_trace cores input P.lines P.ready.read.good ∙ P.ran.split;
+        all_begun = all_out;
+        cut_begun = cut_out;
+        serves = serves old t found source cores input trace o f x known stays later P.ready.read.whole sink r ended P.ran.begins held lost unasked report_told refusals begun complete_is;
+        unsplit = λ failed no. both r.complete (run_ends failed) no;
         worked = λ begun_is steady. cores_ran;
         run = ran_then;
       },

@@ -1,6 +1,6 @@
 -- How often a call opens its region, and what it leaves of one that it doesn't open.
 use Rattle.std.specs.Prelude.{◌≡◌, ◌⊎◌, ℕ, Bool, true, false}
-use Rattle.pm_region.specs.State.{State, Over, Rose}
+use Rattle.pm_region.specs.State.{State, Over, Rose, Faulted}
 use Rattle.pm_region.specs.Split.{Attached, Stays, IsOpenedOnceMore, IsNotOpened, IsRevalidated, IsOutOfPlace}
 use Rattle.chunk_map.specs.declared.layouts.Geometry.{Geometry}
 use Rattle.chunk_map.specs.Layouts.{total_bytes}
@@ -65,12 +65,18 @@ pub record AsksBehind (Done : State → State → Type 0) (r : Report) (at new :
 abbrev pub AttachesToRun : State → State → (ℕ → ℕ) → Report → Type 0
 AttachesToRun old new found r = AttachesBy (AsksBehind Runs r) old new found r
 
--- a run on threads splits the region and joins it again, or leaves it as it was, and asks it behind the run
+-- a run on threads splits the region and joins it again, or leaves it as it was
 abbrev pub MayRejoin : State → State → Type 0
 MayRejoin old new = Rejoined old new ⊎ (Stays old new × IsNotOpened old new)
 
+-- It did so, and meanwhile asked the region whether it is in its place, which was counted as the report says.
+pub record AsksMeanwhile (r : Report) (at new : State) : Type 0 where
+  pub done : MayRejoin at new
+  pub found : r.in_place ≡ true → Rose at.frame.validations new.frame.validations
+  pub lost : r.complete ≡ true → r.in_place ≡ false → Faulted at new
+
 abbrev pub AttachesToSplit : State → State → (ℕ → ℕ) → Report → Type 0
-AttachesToSplit old new found r = AttachesBy (AsksBehind MayRejoin r) old new found r
+AttachesToSplit old new found r = AttachesBy (AsksMeanwhile r) old new found r
 
 -- A format creates the region once, or leaves it as it was, or its one try to create it failed and left it no words.
 pub record Creates (old new : State) (l : Geometry) (r : Report) : Type 0 where

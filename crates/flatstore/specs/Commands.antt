@@ -148,6 +148,17 @@ needs_threads (Some (Log path)) = false
 needs_threads (Some (Scan path)) = false
 needs_threads (Some (Audit path workers)) = true
 
+-- the words are those of `run`
+abbrev pub is_run : Option Form → Bool
+is_run None = false
+is_run (Some (Format path l)) = false
+is_run (Some (Replay path)) = false
+is_run (Some (Run path)) = true
+is_run (Some (Dump path)) = false
+is_run (Some (Log path)) = false
+is_run (Some (Scan path)) = false
+is_run (Some (Audit path workers)) = false
+
 -- What the words ask of a call that starts no thread: those of `run` and `audit` count as no form.
 abbrev pub alone_form_of : List Text → Option Form
 alone_form_of words = if needs_threads (form_of words) then None else form_of words

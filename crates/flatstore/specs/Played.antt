@@ -80,7 +80,7 @@ HasWritten x sink status =
     ⊎ ((status ≡ statuses.Memory) × (is_ended x.end ≡ true)
     × TakesPrefix sink.before sink.now (replies_text x.replies.items))))
 
--- Why nothing was written: the run didn't come to its end, or behind it the region was out of its place.
+-- Why not everything was written: the run didn't come to its end, or the region was out of its place.
 abbrev pub IsKeptBack : Outcome → Status → Type 0
 IsKeptBack x status = ((status ≡ statuses.Memory) × (is_ended x.end ≡ false))
     ⊎ ((status ≡ statuses.RegionFault) × (is_ended x.end ≡ true))
@@ -89,6 +89,11 @@ IsKeptBack x status = ((status ≡ statuses.Memory) × (is_ended x.end ≡ false
 abbrev pub HasAnswered : Outcome → SinkUse → Bool → Status → Type 0
 HasAnswered x sink true status = HasWritten x sink status × (is_ended x.end ≡ true)
 HasAnswered x sink false status = (sink.now ≡ sink.before) × IsKeptBack x status
+
+-- the same, but for what went out where not everything did
+abbrev pub EndsAs : Outcome → SinkUse → Bool → Status → Type 0
+EndsAs x sink true status = HasWritten x sink status × (is_ended x.end ≡ true)
+EndsAs x sink false status = IsKeptBack x status
 
 -- the status of a run by its end, and whether a write failed
 abbrev pub ended_as : End → Bool → Status

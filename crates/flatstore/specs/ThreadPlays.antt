@@ -1,14 +1,17 @@
--- What a run on threads did between attaching and writing.
-use Rattle.std.specs.Prelude.{◌≡◌, ◌⊎◌, ℕ, ◌≤◌, List, Bool, true, false}
+-- What a run on threads did once its region was attached.
+use Rattle.std.specs.Prelude.{◌≡◌, ◌⊎◌, ℕ, ◌≤◌, List, Bool, true, false, Option, Some, None}
 use Rattle.pm_region.specs.State.{State, Faulted, Rose}
 use Rattle.pm_region.specs.Split.{Stays}
 use Rattle.recover.specs.declared.types.Recovered.{Recovered}
 use Rattle.fs_text.specs.declared.line.Line.{Line}
 use Rattle.engine_laws.specs.Ran.{asked_in}
-use Rattle.group_engine.specs.declared.run_outcome.Outcome.{Outcome}
-use Rattle.thread_engine.specs.RanApart.{RanApart}
-use Rattle.flatstore.specs.Ends.{SourceUse}
-use Rattle.flatstore.specs.Played.{IsReady, IsRefused}
+use Rattle.group_engine.specs.declared.run_outcome.End.{End}
+use Rattle.thread_engine.specs.declared.run_to_sink.SinkRun.{SinkRun}
+use Rattle.thread_engine.specs.declared.text_outlet.Unwritten.{Unwritten}
+use Rattle.thread_engine.specs.declared.text_outlet.Unwritten.TheVariants.{Astray, SinkFault, Memory}
+use Rattle.thread_engine.specs.Printed.{RanToSink}
+use Rattle.flatstore.specs.Ends.{SourceUse, SinkUse}
+use Rattle.flatstore.specs.Played.{IsReady, IsRefused, is_ended, ended_as}
 use Rattle.pm_region.specs.declared.split.AttachError.{AttachError}
 use Rattle.pm_region.specs.declared.split.AttachError.TheVariants as attach
 use Rattle.flatstore.specs.declared.report.Status.{Status}
@@ -16,13 +19,29 @@ use Rattle.flatstore.specs.declared.report.Status.TheVariants as statuses
 use Rattle.flatstore.specs.declared.run_threads.NotRun.{NotRun}
 use Rattle.flatstore.specs.declared.run_threads.NotRun.TheVariants.{Refused, Unsplit}
 
--- The input was read, and the cores ran over its requests, from the region's state s to t and to this outcome.
+-- The input was read, and the cores ran over its requests, from the region's state s to t and to this outcome, and wrote
+-- their replies window by window.
 pub record PlayedApart (s : State) (word : ℕ → ℕ) (refused : Bool) (t : State)
-    (source : SourceUse) (x : Outcome) : Type 0 where
+    (source : SourceUse) (sink : SinkUse) (x : SinkRun) : Type 0 where
   pub recovered : Recovered
   pub lines : List Line
   pub ready : IsReady s word source recovered lines
-  pub ran : RanApart s word refused recovered (asked_in lines) t x
+  pub ran : RanToSink sink.before sink.now sink.flushed sink.faults sink.faults' s word refused
+      recovered (asked_in lines) t x
+
+-- the status of such a run
+abbrev pub ran_as : End → Option Unwritten → Status
+ran_as end None = ended_as end false
+ran_as end (Some Astray) = statuses.RegionFault
+ran_as end (Some SinkFault) = ended_as end true
+ran_as end (Some Memory) = statuses.Memory
+
+-- whether the region was found in its place before the last window of such a run was written
+abbrev pub is_placed : End → Option Unwritten → Bool
+is_placed end None = is_ended end
+is_placed end (Some Astray) = false
+is_placed end (Some SinkFault) = is_ended end
+is_placed end (Some Memory) = is_ended end
 
 -- The region was ready for the run, and a split of it failed.
 pub record HasNotSplit (s : State) (word : ℕ → ℕ) (t : State)

@@ -110,8 +110,8 @@ pub fn replay<S: Source, R: SplitRegion + ReadRegion>(
     }
 }
 
-/// Whether a replay came to its end.
-fn is_ended(end: End) -> bool
+/// Whether a run came to its end.
+pub fn is_ended(end: End) -> bool
     ensures { result ≡ is_ended end }
 {
     match end {
@@ -120,8 +120,8 @@ fn is_ended(end: End) -> bool
     }
 }
 
-// The status of a replay that came to its end, once its text went out or a write failed.
-fn status_of(end: End, sunk: bool) -> Status
+/// The status of a run by its end, once its text went out or a write failed.
+pub fn status_of(end: End, sunk: bool) -> Status
     ensures { result ≡ ended_as end sunk }
 {
     match end {
@@ -150,8 +150,8 @@ fn write_text<O: Sink>(alloc: Global, sink: &mut O, outcome: &Outcome) -> Status
     }
 }
 
-// The report on a run that began.
-fn report_on(outcome: Outcome, status: Status, in_place: bool) -> Report
+/// The report on a run that began.
+pub fn report_on(outcome: Outcome, status: Status, in_place: bool) -> Report
     ensures status { result.status ≡ status }
     ensures finishes { result.finishes.items ≡ outcome.finishes.items }
     ensures refusals { result.refusals.items ≡ outcome.refusals.items }

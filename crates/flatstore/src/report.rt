@@ -46,13 +46,15 @@ pub struct Report {
     /// Whether the run began: the input was read and keeps its rules, and the work on its requests began, which for
     /// `run` is the split of the region. Before that no word of the region changes.
     pub began: bool,
-    /// Whether the whole text was ready to be written: for `replay` and `run`, whether every request was answered, and
-    /// for `scan`, whether all queries were judged, since each answer is written before the next is computed. Where
-    /// not, nothing was written. `format` has no text, and says no.
+    /// Whether the whole text was ready to be written: for `replay`, whether every request was answered, and for `scan`,
+    /// whether all queries were judged, since each answer is written before the next is computed. Where not, nothing
+    /// was written. `format` has no text, and says no. For `run`, which writes as it goes, it says whether every
+    /// request that was begun was answered; where not, the replies of the windows before are out.
     pub complete: bool,
-    /// Whether the region was found in its place behind the run, before a reply was written. `replay` and `run` ask so
-    /// once every request is answered. Where it was not, its file has lost its name or its length: then no reply was
-    /// written, and the status is `RegionFault`.
+    /// Whether the region was found in its place. `replay` asks so once every request is answered, before a reply is
+    /// written, and `run` behind each window, before its replies are. Where it was not, its file has lost its name or
+    /// its length: then none of these replies was written, no request behind them was begun, and the status is
+    /// `RegionFault`.
     pub in_place: bool,
 }
 

@@ -14,7 +14,7 @@ use std::sync::atomic::{AtomicBool, AtomicU64, Ordering};
 use std::test::Fail;
 use std::thread::Threads;
 
-const RUN: [&str; 3] = ["flatstore", "run", "region"];
+pub const RUN: [&str; 3] = ["flatstore", "run", "region"];
 
 // One call with these words and a gate, into a sink that takes everything.
 pub fn threads<R: SplitRegion + ReadRegion, G: Gate + Sync>(
@@ -288,22 +288,5 @@ fn a_piece_that_fails(rt: HostRuntime) -> Result<(), Fail> {
         written.as_slice(),
         b"stored\nstopped\nvalue a\nstopped\n".as_slice()
     );
-    Ok(())
-}
-
-// Attached, split, and out of its place when all is answered.
-#[test]
-fn a_place_that_is_lost_at_work(rt: HostRuntime) -> Result<(), Fail> {
-    let alloc = rt.alloc();
-    let plan = Faults {
-        opens: vec![in alloc; 3]?,
-        fences: Vec::new(alloc),
-    };
-    let mut region = MemRegion::new(alloc, fresh_of(alloc, 2, 2)?, 5000, plan)?;
-    let (report, written) = run(&rt, &mut region, "put 5 abc\nget 5\n")?;
-    assert_eq!(rt; report.status, Status::RegionFault);
-    assert_eq!(rt; (report.complete, report.in_place), (true, false));
-    assert_eq!(rt; report.finishes.len(), 1);
-    assert!(rt; written.is_empty());
     Ok(())
 }

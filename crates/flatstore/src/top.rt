@@ -3,7 +3,7 @@ ghost use Rattle.std.specs.Prelude.{◌≡◌, ◌⊎◌, ℕ, ◌≤◌, List, 
 ghost use Rattle.pm_region.specs.Split.{Attached};
 ghost use Rattle.chunk_map.specs.declared.layouts.Geometry.{Geometry};
 ghost use Rattle.flatstore.specs.Ends.{AnswersNothing, CountsFaults, ReportsNothing, sink_use, source_use};
-ghost use Rattle.flatstore.specs.Commands.{form_of, words_of};
+ghost use Rattle.flatstore.specs.Commands.{form_of, is_run, words_of};
 ghost use Rattle.flatstore.specs.Commands.Form.{Format, Replay, Run, Dump, Log, Scan, Audit};
 ghost use Rattle.flatstore.specs.Audits.{Audits};
 ghost use Rattle.flatstore.specs.Dumps.{Dumps};
@@ -31,10 +31,11 @@ use std::thread::Threads;
 
 /// Does what the words of a command line ask. The first word is the program's name. For `run` the region is attached,
 /// the input is read, and each core of the region has a worker in a thread of its own, which answers the requests of
-/// its keys, and asks the gate before it posts; once all are joined the replies are written in the order of the
-/// requests. It may then wait for its threads. For `audit` the region is attached, the input is read, and its
+/// its keys, and asks the gate before it posts; behind each window of requests their replies are written in the order of
+/// the requests. It may then wait for its threads. For `audit` the region is attached, the input is read, and its
 /// requests are judged by shares in threads of their own. Every other form is done in the thread that calls it
 /// (`flatstore_alone`).
+#[tactic(auto, using(crate::proofs::Forms::run_way, crate::proofs::Forms::audit_way, crate::proofs::Forms::no_way))]
 pub fn flatstore<
     T: Threads + Wait + Sync,
     S: Source,
@@ -115,9 +116,16 @@ pub fn flatstore<
         (source_use S.coming S.fault_count source.old source.new)
         (sink_use O.taken O.flushed O.fault_count sink.old sink.new) result.status }
 
-    // Nothing is written where the run didn't come to its end, or the region was out of its place behind it.
-    ensures incomplete { result.complete ≡ false → sink.new ≡ sink.old }
-    ensures out_of_place { result.began ≡ true → result.in_place ≡ false → sink.new ≡ sink.old }
+    // Nothing is written where the work didn't come to its end, or the region was out of its place behind it. Only `run`
+    // writes as it goes: nothing where no core worked, since it did not begin, or the region could not be split.
+    ensures incomplete { is_run (form_of (words_of words.now.items)) ≡ false
+        → result.complete ≡ false → sink.new ≡ sink.old }
+    ensures out_of_place { is_run (form_of (words_of words.now.items)) ≡ false
+        → result.began ≡ true → result.in_place ≡ false → sink.new ≡ sink.old }
+    ensures run_unbegun { is_run (form_of (words_of words.now.items)) ≡ true
+        → result.began ≡ false → sink.new ≡ sink.old }
+    ensures run_unsplit { is_run (form_of (words_of words.now.items)) ≡ true
+        → result.status ≡ statuses.RegionFault → result.complete ≡ false → sink.new ≡ sink.old }
     ensures unattached { result.attached ≡ false → result.complete ≡ false }
 
     // A call that began no run reports none.

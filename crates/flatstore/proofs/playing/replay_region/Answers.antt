@@ -8,7 +8,7 @@ use Rattle.flatstore.proofs.Opened.{granted_by, attaches_to_run, no_more}
 use Rattle.flatstore.proofs.Replaying.{promise, replay_counts, onward}
 use Rattle.flatstore.proofs.Refused.{refused_replays}
 use Rattle.flatstore.proofs.Texts.{both}
-use Rattle.flatstore.proofs.Written.{answered_loud}
+use Rattle.flatstore.proofs.Written.{ended_so, answered_loud}
 use Rattle.flatstore.proofs.playing.replay_region.Goals as goal
 
 pub returns-in-Err-clause-attaches : goal.returns-in-Err-clause-attaches
@@ -62,4 +62,6 @@ returns-in-Ok-replay-clause-faults g c =
 pub returns-in-Ok-replay-clause-region_untouched : goal.returns-in-Ok-replay-clause-region_untouched
 returns-in-Ok-replay-clause-region_untouched g c = λ quiet attached.
     let sink = sink_use g.O.Sink.taken g.O.Sink.flushed g.O.Sink.fault_count c.args.sink.now c.write_outcome.new.sink in
-    both (is_quiet c.write_outcome.result.status) quiet (answered_loud c.in-Ok-replay.outcome sink c.write_outcome.result.status c.write_outcome.result.in_place c.write_outcome.ensures.answered)
+    let r = c.write_outcome.result in
+    let ended = ended_so c.in-Ok-replay.outcome sink r.status r.in_place c.write_outcome.ensures.answered in
+    both (is_quiet r.status) quiet (answered_loud c.in-Ok-replay.outcome sink r.status r.in_place ended)
