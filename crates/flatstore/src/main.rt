@@ -2,69 +2,15 @@
 #![tactic(auto)]
 
 use core_worker::OpenGate;
+use flatstore_commands::{Status, command_line, flatstore, region_path};
 use fs_errors::Memory;
 use fs_text::{StdSink, StdSource};
 use pm_region::FileRegion;
-use report::Status;
-use std::alloc::{AllocGlobal, Global};
-use std::env::Env;
-use std::io::ErrorKind;
+use std::alloc::Global;
+use std::io;
 use std::process::ExitCode;
 use std::sync::Wait;
 use std::thread::Threads;
-use std::{env, io};
-use top::flatstore;
-
-mod alone;
-#[cfg(test)]
-mod audit_tests;
-mod auditing;
-#[cfg(test)]
-mod change_tests;
-mod command;
-#[cfg(test)]
-mod dump_tests;
-mod dumping;
-#[cfg(test)]
-mod format_tests;
-mod formatting;
-#[cfg(test)]
-mod judging_tests;
-#[cfg(test)]
-mod log_tests;
-mod logging;
-#[cfg(test)]
-mod meeting_tests;
-mod parser;
-mod playing;
-mod replay;
-mod report;
-#[cfg(test)]
-mod row_tests;
-mod run_threads;
-mod scan_ranges;
-#[cfg(test)]
-mod scan_tests;
-#[cfg(test)]
-mod space_tests;
-#[cfg(test)]
-mod tests;
-#[cfg(test)]
-mod thread_tests;
-mod top;
-#[cfg(test)]
-mod window_tests;
-mod workers;
-
-/// The words of the command line, the program's name first. Words that aren't UTF-8 are no words of the program, and
-/// there are none then.
-fn command_line<R: Env + AllocGlobal>(rt: &R, alloc: Global) -> Result<Vec<String>, Memory> {
-    match env::args(rt) {
-        Ok(words) => Ok(words.collect(alloc)?),
-        Err(error) if error.kind() == ErrorKind::InvalidData => Ok(Vec::new(alloc)),
-        Err(_) => Err(Memory),
-    }
-}
 
 /// Does what the command line asks, with the region in its file, standard input and standard output. The
 /// runtime is handed in twice, as what it is and as the leave to start threads and to wait for them.
@@ -74,7 +20,7 @@ fn run(
     alloc: Global,
 ) -> Result<Status, Memory> {
     let words = command_line(rt, alloc)?;
-    let path = match command::region_path(alloc, &words)? {
+    let path = match region_path(alloc, &words)? {
         Some(path) => path,
         // it is never opened
         None => String::new(alloc),

@@ -1,0 +1,506 @@
+-- From what the cores did in a run on threads, or why none ran, to what the program promises.
+use Rattle.std.proofs.Common.{◌≡◌, ◌≢◌, ◌⊎◌, inl, inr, ℕ, ◌/◌, ◌<◌, ◌≤◌, List, [], ◌++◌, map, refl, sym, ◌∙◌, ap, subst, arith, true, false, Bool, Option, Some, None, Result, Ok, Err, append-nil}
+use Rattle.std.specs.Prelude.{IfErr}
+use Rattle.std.specs.Result.{IsErrAnd}
+use Rattle.fs_model.specs.declared.model.Request.{Request}
+use Rattle.pm_region.specs.Cell.{Cell}
+use Rattle.pm_region.specs.State.{State, InRange, IsTold, IsTelling, MayLeave, Rose, cell_now, counted}
+use Rattle.pm_region.specs.Split.{Attached, Stays, Refuses, IsOpenedOnceMore, IsNotOpened}
+use Rattle.pm_region.specs.declared.split.AttachError.{AttachError}
+use Rattle.pm_region.specs.declared.split.AttachError.TheVariants as attach
+use Rattle.pm_region.specs.Words.{lasts}
+use Rattle.fs_text.specs.declared.line.Line.{Line}
+use Rattle.fs_text.specs.Output.{replies_text}
+use Rattle.fs_text.specs.Streams.{Takes, TakesPrefix}
+use Rattle.chunk_map.specs.Layouts.{layout_of}
+use Rattle.store_image.specs.Soundness.{IsSound}
+use Rattle.recover.specs.declared.types.Recovered.{Recovered}
+use Rattle.engine_laws.specs.Engine.{Engine}
+use Rattle.engine_laws.specs.Parts.{AllLicensed}
+use Rattle.engine_laws.specs.Stands.{Origin}
+use Rattle.engine_laws.specs.Ran as runs
+use Rattle.group_engine.specs.declared.run_outcome.End.{End}
+use Rattle.group_engine.specs.declared.run_outcome.End.TheVariants as ends
+use Rattle.group_engine.specs.declared.run_outcome.Outcome.{Outcome}
+use Rattle.group_engine.specs.Replayed.{report_in}
+use Rattle.group_engine.specs.Reports.{ReportsOn, reply_in, as_told, told_by}
+use Rattle.thread_engine.specs.declared.run_to_sink.SinkRun.{SinkRun}
+use Rattle.thread_engine.specs.declared.text_outlet.Unwritten.{Unwritten}
+use Rattle.thread_engine.specs.declared.text_outlet.Unwritten.TheVariants.{Astray, SinkFault, Memory}
+use Rattle.thread_engine.specs.Collected.{had_memory}
+use Rattle.thread_engine.specs.Printed.{IsOutInWindows, RanToSink}
+use Rattle.thread_engine.specs.RanApart.{Rejoined}
+use Rattle.flatstore_commands.specs.Attaching.{GoesOnBy, Asks, AsksMeanwhile, AttachesToSplit}
+use Rattle.flatstore_commands.specs.Ends.{SourceUse, SinkUse, IsAllOut, CountsFaults}
+use Rattle.flatstore_commands.specs.LastStates.{told_in}
+use Rattle.flatstore_commands.specs.Ordering.{KeepsOrder, IsServed, is_broken, is_of_line, is_quiet, is_whole}
+use Rattle.flatstore_commands.specs.Promise.{IsInput, Serves, asked_in}
+use Rattle.flatstore_commands.specs.Played.{IsReady, IsRefused, EndsAs, is_ended}
+use Rattle.flatstore_commands.specs.ThreadPlays.{PlayedApart, HasNotSplit, IsNotRun, WhyNotRun, why_of, status_for, has_begun, ran_as, is_placed}
+use Rattle.flatstore_commands.specs.ThreadRuns.{CoresRan, RanOnThreads, RunsOnThreads}
+use Rattle.flatstore_commands.specs.declared.report.Status.{Status}
+use Rattle.flatstore_commands.specs.declared.report.Status.TheVariants as statuses
+use Rattle.flatstore_commands.specs.declared.report.Report.{Report}
+use Rattle.flatstore_commands.specs.declared.run_threads.NotRun.{NotRun}
+use Rattle.flatstore_commands.specs.declared.run_threads.NotRun.TheVariants.{Refused, Unsplit}
+use Rattle.flatstore_commands.proofs.Causing.{HasCauses}
+use Rattle.flatstore_commands.proofs.Inputs.{read_trace}
+use Rattle.flatstore_commands.proofs.Refused.{served_by, apart_from, told_now, none_begins, none_lost, none_rising, none_full, none_spent, none_long, none_counted, refused_serves, refused_fault, refused_source}
+use Rattle.flatstore_commands.proofs.Serving.{Known, serves, ends_then, counts_faults, words_found, cut_end}
+use Rattle.flatstore_commands.proofs.Standing.{counted_by, origin_cores}
+use Rattle.flatstore_commands.proofs.Staying.{tells_still, attached_still, asks_stays, asks_later}
+use Rattle.flatstore_commands.proofs.Texts.{both}
+use Rattle.flatstore_commands.proofs.Written.{all_written, fault_end, whole_end, answered_loud}
+
+-- what was done to a region that was attached
+pub attaches_then : (old s t : State) (found : ℕ → ℕ) → Attached old s s.frame.bytes found → IsOpenedOnceMore old s → s.frame.refusals ≡ old.frame.refusals → t.frame.bytes ≡ s.frame.bytes
+    → (r : Report) → r.attached ≡ true → AsksMeanwhile r s t → AttachesToSplit old t found r
+attaches_then old s t found A once granted bytes r opened done = record {
+  attached = λ attached. record {
+    at = s;
+    attached = subst (λ n. Attached old s n found) (sym bytes) A;
+    once = once;
+    granted = granted;
+    on = done;
+  };
+  unattached = λ isnt. both r.attached opened isnt;
+  cause = λ isnt. both r.attached opened isnt;
+}
+
+-- nothing was asked of a region that was left as it was
+pub not_asked : (s t : State) → Stays s t → IsNotOpened s t → (r : Report) → r.complete ≡ false → r.in_place ≡ false → AsksMeanwhile r s t
+not_asked s t S opens r cut unplaced = record {
+  done = inr (S, opens);
+  found = λ here. both r.in_place here unplaced;
+  lost = λ complete gone. both r.complete complete cut;
+}
+
+-- A split that was refused, or for which there was no memory.
+module _ (s t : State) (word : ℕ → ℕ) (S : Stays s t) (source : SourceUse) (r : Result SinkRun AttachError) (R : Refuses s t r) (recovered : Recovered) (lines : List Line) (ready : IsReady s word source recovered lines) where
+  why_split : (error : AttachError) → r ≡ Err error → WhyNotRun s word t source (why_of error)
+  why_split attach.RegionFault is = let rose = R.fault is in record { recovered = recovered; lines = lines; ready = ready; fault = rose.0; refused = rose.1 }
+  why_split attach.Memory is = inr refl
+
+  pub split_refused : (error : AttachError) → r ≡ Err error → {T : Type 0} (x : Result T NotRun) → IsErrAnd x (λ e. e ≡ why_of error) → IfErr x (IsNotRun s word t source)
+  split_refused error is (Ok x) e = tt
+  split_refused error is (Err x) e = subst (IsNotRun s word t source) (sym e) (record { stays = S; later = R.later; cause = why_split error is })
+
+-- No core ran.
+module _ (old s t : State) (found word : ℕ → ℕ) (A : Attached old s s.frame.bytes found) (tells : (w : ℕ) → IsTelling s → lasts s w ≡ word w) (low : old.faults ≤ s.faults) (granted : s.frame.refusals ≡ old.frame.refusals) (source : SourceUse) (why : NotRun)
+    (N : IsNotRun s word t source why) where
+  -- the region says what it said when it was attached
+  pub still : Attached old t t.frame.bytes found
+  still = attached_still s t N.stays old found A
+
+  early_source : (status : Status) → WhyNotRun s word t source (Refused status) → status ≡ statuses.SourceFault → Rose source.faults source.faults'
+  early_source status (inl x) e = refused_source old s found A source status x.1 e
+  early_source status (inr m) e = cc (sym m ∙ e)
+
+  early_fault : (status : Status) → WhyNotRun s word t source (Refused status) → status ≡ statuses.RegionFault → ⊥
+  early_fault status (inl x) e = apart_from old s found A source status x.1 statuses.RegionFault refl e
+  early_fault status (inr m) e = cc (sym m ∙ e)
+
+  early_usage : (status : Status) → WhyNotRun s word t source (Refused status) → status ≡ statuses.Usage → ⊥
+  early_usage status (inl x) e = apart_from old s found A source status x.1 statuses.Usage refl e
+  early_usage status (inr m) e = cc (sym m ∙ e)
+
+  early_sink : (status : Status) → WhyNotRun s word t source (Refused status) → status ≡ statuses.SinkFault → ⊥
+  early_sink status (inl x) e = apart_from old s found A source status x.1 statuses.SinkFault refl e
+  early_sink status (inr m) e = cc (sym m ∙ e)
+
+  risen : HasNotSplit s word t source → Rose old.faults t.faults
+  risen h = let fault = h.fault in omega (arith, fault, low)
+
+  source_by : (y : NotRun) → WhyNotRun s word t source y → status_for y ≡ statuses.SourceFault → Rose source.faults source.faults'
+  source_by (Refused status) h e = early_source status h e
+  source_by Unsplit h e = cc e
+
+  fault_by : (y : NotRun) → WhyNotRun s word t source y → status_for y ≡ statuses.RegionFault → Rose old.faults t.faults
+  fault_by (Refused status) h e = absurd (early_fault status h e)
+  fault_by Unsplit h e = risen h
+
+  usage_by : (y : NotRun) → WhyNotRun s word t source y → status_for y ≡ statuses.Usage → ⊥
+  usage_by (Refused status) h e = early_usage status h e
+  usage_by Unsplit h e = cc e
+
+  sink_by : (y : NotRun) → WhyNotRun s word t source y → status_for y ≡ statuses.SinkFault → ⊥
+  sink_by (Refused status) h e = early_sink status h e
+  sink_by Unsplit h e = cc e
+
+  pub why_source : status_for why ≡ statuses.SourceFault → Rose source.faults source.faults'
+  why_source e = source_by why N.cause e
+
+  pub why_fault : status_for why ≡ statuses.RegionFault → Rose old.faults t.faults
+  why_fault e = fault_by why N.cause e
+
+  pub why_usage : status_for why ≡ statuses.Usage → ⊥
+  why_usage e = usage_by why N.cause e
+
+  pub why_sink : status_for why ≡ statuses.SinkFault → ⊥
+  why_sink e = sink_by why N.cause e
+
+  module _ (r : Report) (fin : r.finishes.items ≡ []) (ref : r.refusals.items ≡ []) (cut : r.complete ≡ false) (unplaced : r.in_place ≡ false) (sink : SinkUse) (same : sink.now ≡ sink.before) (refused : Bool) where
+    abbrev Promised : Type 0
+    Promised = (input : List ℕ) × (cores : ℕ) × IsInput source.coming input × RunsOnThreads old t found source refused cores input sink r
+
+    -- the work before the run ended with a status
+    module _ (status : Status) (is : r.status ≡ status) (unbegun : r.began ≡ false) (u : State) (B : Attached old u u.frame.bytes found) (U : IsRefused u source status) where
+      early_serves : (input : List ℕ) × (cores : ℕ) × IsInput source.coming input × RunsOnThreads old u found source refused cores input sink r
+      early_serves =
+          let x = refused_serves old u found B source status U r is fin ref unbegun cut unplaced sink same in
+          (x.0, x.1, x.2, record { begun = asked_in x.1 x.0; unbegun = []; split = sym (append-nil (asked_in x.1 x.0)); all_begun = λ here out. refl; cut_begun = λ no. refl; serves = x.3; unsplit = λ failed no. absurd (refused_fault old u found B source status U r is failed); worked = λ began steady. both r.began began unbegun; run = λ complete. both r.complete complete cut })
+
+    early : (status : Status) → WhyNotRun s word t source (Refused status) → r.status ≡ status → r.began ≡ false → Promised
+    early status (inl x) is unbegun = subst (λ z. (input : List ℕ) × (cores : ℕ) × IsInput source.coming input × RunsOnThreads old z found source refused cores input sink r) (sym x.0)
+        (early_serves status is unbegun s A x.1)
+    early status (inr m) is unbegun = early_serves status is unbegun t still (inl (inr m))
+
+    -- the region could not be split
+    module _ (h : HasNotSplit s word t source) (is : r.status ≡ statuses.RegionFault) (begun : r.began ≡ true) where
+      abbrev own_cores : ℕ
+      own_cores = h.recovered.layout.cores
+
+      abbrev own_input : List ℕ
+      own_input = h.ready.read.input
+
+      served_then : IsTelling t → IsSound s.frame.bytes found × (own_cores ≡ found 2)
+      served_then telling = served_by old s found A own_cores (counted_by s word tells h.recovered h.ready.stands own_cores refl) (tells_still s t N.stays telling)
+
+      served : IsServed t found
+      served telling = subst (λ n. IsSound n found) (sym N.stays.bytes) (served_then telling).0
+
+      order : KeepsOrder old t found source own_cores own_input r
+      order = record {
+        untouched = λ no. still;
+        read = λ e. cc (sym is ∙ e);
+        line = λ line. both (is_of_line r.status) line (ap is_of_line is);
+        began = λ yes. (served, h.ready.read.whole, ap is_broken h.ready.read.good);
+        unbegun = λ quiet. both (is_quiet r.status) quiet (ap is_quiet is);
+        run = λ run. begun;
+        written = λ complete. begun;
+        whole = λ whole. both (is_whole r.status) whole (ap is_whole is);
+      }
+
+      split_serves : Serves old t found source own_cores own_input (asked_in own_cores own_input) sink r
+      split_serves = record {
+        cores_are = λ n told. (served_then (told_now old t found still r fin ref cut own_cores own_input n told)).1;
+        order = order;
+        due = λ telling. inr (inr (inr (inr (is, risen h))));
+        asked = λ here. both r.in_place here unplaced;
+        astray = λ complete gone. both r.complete complete cut;
+        done = λ done. cc (sym is ∙ done);
+        failed = λ failed here steady. both r.in_place here unplaced;
+        sunk = λ sunk. cc (sym is ∙ sunk);
+        begins = none_begins old t found still r fin ref cut own_cores own_input sink same;
+        crash = none_lost old t found still r fin ref cut own_cores own_input;
+        last = λ whole telling image may k small. both (is_whole r.status) whole (ap is_whole is);
+        rising = none_rising old t found still r fin ref cut own_cores own_input;
+        full = λ telling. none_full old t found still r fin ref cut own_cores own_input;
+        spent = λ telling. none_spent old t found still r fin ref cut own_cores own_input;
+        unrefused = λ telling within. ref;
+        long = λ telling. none_long old t found still r fin ref cut own_cores own_input;
+        counts = none_counted old t found still r fin ref cut own_cores own_input;
+        short = λ memory began no. cc (sym is ∙ memory);
+      }
+
+      unsplit : Promised
+      unsplit = (
+        own_input,
+        own_cores,
+        h.ready.read.is_input,
+        record {
+          begun = asked_in own_cores own_input;
+          unbegun = [];
+          split = sym (append-nil (asked_in own_cores own_input));
+          all_begun = λ here out. refl;
+          cut_begun = λ no. refl;
+          serves = split_serves;
+          unsplit = λ failed no. (still, subst (λ n. Rose n t.frame.refusals) granted h.refused);
+          worked = λ began steady. both r.complete (steady is) cut;
+          run = λ complete. both r.complete complete cut;
+        },
+      )
+
+    by_why : (y : NotRun) → WhyNotRun s word t source y → r.status ≡ status_for y → r.began ≡ has_begun y → Promised
+    by_why (Refused status) h is began = early status h is began
+    by_why Unsplit h is began = unsplit h is began
+
+    pub not_run : r.status ≡ status_for why → r.began ≡ has_begun why → Promised
+    not_run is began = by_why why N.cause is began
+
+-- What the end of a run and the cause that a window's text is not out say of its report.
+astray_by : (end : End) (why : Option Unwritten) → is_ended end ≡ true → is_placed end why ≡ false → why ≡ Some Astray
+astray_by end None whole gone = both (is_ended end) whole gone
+astray_by end (Some Astray) whole gone = refl
+astray_by end (Some SinkFault) whole gone = both (is_ended end) whole gone
+astray_by end (Some Memory) whole gone = both (is_ended end) whole gone
+
+unastray : (end : End) (why : Option Unwritten) → is_placed end why ≡ true → why ≢ Some Astray
+unastray end None here is = cc is
+unastray end (Some Astray) here is = cc here
+unastray end (Some SinkFault) here is = cc is
+unastray end (Some Memory) here is = cc is
+
+memory_of : (end : End) → is_ended end ≡ true → had_memory end ≡ true
+memory_of ends.Complete whole = refl
+memory_of ends.RegionFault whole = refl
+memory_of ends.Memory whole = cc whole
+
+memory_by : (end : End) (why : Option Unwritten) → is_placed end why ≡ true → had_memory end ≡ true
+memory_by end None here = memory_of end here
+memory_by end (Some Astray) here = cc here
+memory_by end (Some SinkFault) here = memory_of end here
+memory_by end (Some Memory) here = memory_of end here
+
+-- where every reply was written, no window's text is missing
+unwritten_none : (end : End) (why : Option Unwritten) (sink : SinkUse) → (why ≡ Some SinkFault → Rose sink.faults sink.faults') → is_placed end why ≡ true → IsAllOut (ran_as end why) sink → why ≡ None
+unwritten_none end None sink sunk here out = refl
+unwritten_none end (Some Astray) sink sunk here out = cc here
+unwritten_none ends.Complete (Some SinkFault) sink sunk here (inl out) = cc out
+unwritten_none ends.Complete (Some SinkFault) sink sunk here (inr out) = cc out.0
+unwritten_none ends.RegionFault (Some SinkFault) sink sunk here (inl out) = cc out
+unwritten_none ends.RegionFault (Some SinkFault) sink sunk here (inr out) = absurd (out.1 (sunk refl))
+unwritten_none ends.Memory (Some SinkFault) sink sunk here out = cc here
+unwritten_none end (Some Memory) sink sunk here (inl out) = cc out
+unwritten_none end (Some Memory) sink sunk here (inr out) = cc out.0
+
+-- and the status says what was written
+ends_as : (s : State) (word : ℕ → ℕ) (refused : Bool) (r : Recovered) (asked : List Request) (t : State) (sink : SinkUse) (y : SinkRun)
+    → RanToSink sink.before sink.now sink.flushed sink.faults sink.faults' s word refused r asked t y → EndsAs y.outcome sink (is_placed y.outcome.end y.unwritten) (ran_as y.outcome.end y.unwritten)
+ends_as s word refused r asked t sink y W = by y.outcome.end y.unwritten refl refl where
+  none_lacks : {w : Unwritten} → y.outcome.end ≡ ends.Memory → y.unwritten ≡ Some w → ⊥
+  none_lacks e f = cc (sym (W.memory e) ∙ f)
+
+  by : (end : End) (why : Option Unwritten) → y.outcome.end ≡ end → y.unwritten ≡ why → EndsAs y.outcome sink (is_placed end why) (ran_as end why)
+  by ends.Complete None e f = (let out = W.writes (ap had_memory e) f in (inl (refl, e, out.0, out.1), ap is_ended e))
+  by ends.RegionFault None e f = (let out = W.writes (ap had_memory e) f in (inr (inl (refl, e, inl (out.0, out.1))), ap is_ended e))
+  by ends.Memory None e f = inl (refl, ap is_ended e)
+  by ends.Complete (Some Astray) e f = inr (refl, ap is_ended e)
+  by ends.RegionFault (Some Astray) e f = inr (refl, ap is_ended e)
+  by ends.Memory (Some Astray) e f = absurd (none_lacks e f)
+  by ends.Complete (Some SinkFault) e f = (inr (inr (inl (refl, e, W.sunk f, W.begins))), ap is_ended e)
+  by ends.RegionFault (Some SinkFault) e f = (inr (inl (refl, e, inr (W.sunk f, W.begins))), ap is_ended e)
+  by ends.Memory (Some SinkFault) e f = absurd (none_lacks e f)
+  by ends.Complete (Some Memory) e f = (inr (inr (inr (refl, ap is_ended e, W.begins))), ap is_ended e)
+  by ends.RegionFault (Some Memory) e f = (inr (inr (inr (refl, ap is_ended e, W.begins))), ap is_ended e)
+  by ends.Memory (Some Memory) e f = absurd (none_lacks e f)
+
+-- All cores ran.
+module _ (old s t : State) (found word : ℕ → ℕ) (A : Attached old s s.frame.bytes found) (once : IsOpenedOnceMore old s) (granted : s.frame.refusals ≡ old.frame.refusals) (low : old.faults ≤ s.faults) (refused : Bool) (source : SourceUse) (sink : SinkUse) (y : SinkRun)
+    (P : PlayedApart s word refused t source sink y) where
+  abbrev x : Outcome
+  x = y.outcome
+
+  -- the requests that were begun
+  abbrev trace : List Request
+  trace = P.ran.given
+
+  abbrev o : Origin
+  o = P.ran.ran.origin
+
+  abbrev f : Engine
+  f = P.ran.ran.last
+
+  abbrev cores : ℕ
+  cores = P.recovered.layout.cores
+
+  abbrev input : List ℕ
+  input = P.ready.read.input
+
+  began : o.region ≡ s
+  began = P.ran.ran.begins.region
+
+  count : (layout_of o.found).cores ≡ cores
+  count = origin_cores s word P.recovered P.ready.stands o P.ran.ran.begins.reads
+
+  -- the joined region tells one moment
+  told_last : (n : ℕ) → IsTold t n → IsTelling s
+  told_last n told =
+      let since = P.ran.ran.rejoined.since in
+      let low = told.since in
+      let seen = told.seen in
+      let is : n ≡ t.stamp = omega (arith, since, low, seen) in
+      P.ran.ran.rejoined.tells (subst (IsTold t) is told)
+
+  there : (cells : ℕ → Cell) (image : ℕ → ℕ) → MayLeave t.frame cells image → MayLeave s.frame cells image
+  there cells image may w inside =
+      let first = P.ran.ran.rejoined.first in
+      let words = P.ran.ran.rejoined.words in
+      let low = inside.low in
+      let high = inside.high in
+      may w (record { low = omega (arith, first, low); high = omega (arith, first, words, high) })
+
+  all_given : f.given ++ [] ≡ f.given
+  all_given = append-nil f.given
+
+  causes : HasCauses o.found (f.given ++ []) f.answer
+  causes =
+      let C = P.ran.ran.promised.causes in
+      record {
+        full = λ n k a is why asked. C.full [] n k a is why asked;
+        spent = λ n a is why k asked. C.spent [] n k a is why asked;
+        kinds = (P.ran.ran.promised.replies []).each;
+        long = λ n a is why q asked. C.long [] n q a is why asked;
+      }
+
+  pub known : Known old found cores input trace o f x
+  known = record {
+    attached = subst (λ (z : State). Attached old z z.frame.bytes found) (sym began) A;
+    origin = P.ran.ran.begins.is;
+    low = let same = ap (λ (z : State). z.faults) began in omega (arith, low, same);
+    kept = let first = ap (λ (z : State). z.faults) began in let last = ap (λ (z : State). z.faults) P.ran.ran.region in let rose = P.ran.ran.rejoined.faults in omega (arith, first, last, rose);
+    words = subst (λ z. IsTelling z → (w : ℕ) → w < z.frame.bytes / 8 → o.found w ≡ lasts z w) (sym began) P.ran.ran.begins.tells;
+    count = count;
+    was = λ n told. subst IsTelling (sym began) (told_last n (subst (λ z. IsTold z n) P.ran.ran.region told));
+    bytes = ap (λ (z : State). z.frame.bytes) P.ran.ran.region ∙ P.ran.ran.rejoined.bytes ∙ ap (λ (z : State). z.frame.bytes) (sym began);
+    leaves = λ cells image may. subst (λ (z : State). MayLeave z.frame cells image) (sym began) (there cells image (subst (λ (z : State). MayLeave z.frame cells image) P.ran.ran.region may));
+    lines = P.lines;
+    good = P.ready.read.good;
+    promised = P.ran.ran.promised;
+    more = [];
+    given = sym P.ran.ran.given ∙ sym all_given;
+    all_given = λ not_cut. refl;
+    reports = subst (λ z. ReportsOn z o f (report_in x)) (sym P.ran.ran.region) P.ran.ran.reports;
+    done = P.ran.ran.done;
+    fault = P.ran.ran.fault;
+    whole = P.ran.ran.complete;
+    ceased = P.ran.ran.ceased;
+    causes = causes;
+  }
+
+  bytes : t.frame.bytes ≡ s.frame.bytes
+  bytes = P.ran.ran.rejoined.bytes
+
+  -- The report is on the last state of the cores, which is the region's.
+  module _ (r : Report) (status_is : r.status ≡ ran_as x.end y.unwritten) (placed : r.in_place ≡ is_placed x.end y.unwritten)
+      (finishes : r.finishes.items ≡ x.finishes.items) (refusals : r.refusals.items ≡ x.refusals.items) (begun : r.began ≡ true) (complete_is : r.complete ≡ is_ended x.end) where
+    same : Asks false true f.region t
+    same = sym P.ran.ran.region
+
+    stays : Stays f.region t
+    stays = asks_stays false true f.region t same
+
+    later : (n : ℕ) → n ≤ f.region.faults → Rose n f.region.faults → Rose n t.faults
+    later = asks_later false true f.region t same
+
+    unasked : r.complete ≡ false → f.region ≡ t
+    unasked cut = P.ran.ran.region
+
+    lost : r.complete ≡ true → r.in_place ≡ false → Rose old.faults t.faults
+    lost complete gone =
+        let rose = P.ran.astray (astray_by x.end y.unwritten (sym complete_is ∙ complete) (sym placed ∙ gone)) in
+        omega (arith, low, rose)
+
+    ended : EndsAs x sink r.in_place r.status
+    ended = subst (λ p. EndsAs x sink p r.status) (sym placed) (subst (EndsAs x sink (is_placed x.end y.unwritten)) (sym status_is) (ends_as s word refused P.recovered (runs.asked_in P.lines) t sink y P.ran))
+
+    held : is_ended x.end ≡ false → (sink.now ≡ sink.before) ⊎ (known.more ≡ [])
+    unfolding known
+    held cut = inr refl
+
+    abbrev from : GoesOnBy Rejoined old f.region t.frame.bytes found
+    from = record { at = s; attached = subst (λ n. Attached old s n found) (sym bytes) A; once = once; granted = granted; on = subst (λ z. Rejoined s z) (sym P.ran.ran.region) P.ran.ran.rejoined }
+
+    pub meanwhile : AsksMeanwhile r s t
+    meanwhile = record {
+      done = inl P.ran.ran.rejoined;
+      found = λ here. P.ran.found (memory_by x.end y.unwritten (sym placed ∙ here)) (unastray x.end y.unwritten (sym placed ∙ here));
+      lost = λ complete gone. P.ran.astray (astray_by x.end y.unwritten (sym complete_is ∙ complete) (sym placed ∙ gone));
+    }
+
+    report_told : told_in r ≡ told_by (report_in x)
+    report_told i = as_told (finishes i) (refusals i)
+
+    text_is : replies_text x.replies.items ≡ replies_text (map reply_in P.ran.ran.kept)
+    text_is = ap replies_text P.ran.ran.report.replies
+
+    licensed_last : IsTelling f.region → AllLicensed f.layout f.group (cell_now f.region)
+    licensed_last = subst (λ z. IsTelling z → AllLicensed f.layout f.group (cell_now z)) (sym P.ran.ran.region) P.ran.ran.licensed
+
+    cores_ran : CoresRan old t found refused cores input trace sink r
+    cores_ran = record {
+      f = f;
+      from = from;
+      start = record {
+        word = word;
+        recovered = P.recovered;
+        stands = P.ready.stands;
+        origin = o;
+        begins = P.ran.ran.begins;
+        words = subst (λ (z : State). IsTelling z → (w : ℕ) → w < z.frame.bytes / 8 → o.found w ≡ found w) began
+            (words_found old t found source cores input trace o f x known stays later);
+        count = count;
+      };
+      lines = P.lines;
+      good = P.ready.read.good;
+      given = P.ran.ran.given;
+      ran = P.ran.ran.ran;
+      inside = P.ran.ran.inside;
+      ends = same;
+      next = P.ran.ran.next;
+      kept = P.ran.ran.kept;
+      keeps = P.ran.ran.keeps;
+      once = P.ran.ran.once;
+      finishes = finishes ∙ P.ran.ran.report.finishes;
+      refusals = refusals ∙ P.ran.ran.report.refusals;
+      told_is = report_told ∙ P.ran.ran.reports.told_is;
+      parted = P.ran.parted;
+      behind = P.ran.behind;
+      unasked = P.ran.unasked;
+      asked_since = P.ran.asked_since;
+      out = subst (IsOutInWindows P.ran.parted P.ran.behind sink.before sink.now) P.ran.ran.report.replies P.ran.out;
+      licensed = subst (λ z. IsTelling z → AllLicensed f.layout f.group (cell_now z)) P.ran.ran.region licensed_last;
+    }
+
+    ran_then : r.complete ≡ true → RanOnThreads old t found refused cores input trace sink r
+    unfolding cores_ran
+    ran_then complete =
+        let end : is_ended x.end ≡ true = sym complete_is ∙ complete in
+        let not_cut : x.end ≢ ends.Memory = ended_by end in
+        record {
+          all = cores_ran;
+          answered = (P.ran.ran.done not_cut).answered;
+          drained = (P.ran.ran.done not_cut).drained;
+          begins = subst (λ text. TakesPrefix sink.before sink.now text) text_is P.ran.begins;
+          writes = λ here out. subst (λ text. Takes sink.before sink.now text) text_is (all_written x sink r.status r.in_place ended here out);
+          stops = λ fault here. P.ran.ran.fault (fault_end x sink r.status r.in_place ended fault here);
+          goes = λ whole. P.ran.ran.complete (whole_end x sink r.status r.in_place ended whole);
+        }
+      where
+        ended_by : is_ended x.end ≡ true → x.end ≢ ends.Memory
+        ended_by is m = both (is_ended x.end) is (ap is_ended m)
+
+    pub run_counts : CountsFaults old t source sink r.status
+    run_counts = counts_faults old t found source cores input trace o f x known stays later P.ready.read.whole sink r ended P.ran.begins held lost unasked report_told refusals begun complete_is
+
+    -- a fault of the region did not keep it from its end
+    pub run_ends : r.status ≡ statuses.RegionFault → r.complete ≡ true
+    run_ends = ends_then old t found source cores input trace o f x known stays later P.ready.read.whole sink r ended P.ran.begins held lost unasked report_told refusals begun complete_is
+
+    -- it ended with no status that leaves the region and the sink as they were
+    pub run_loud : is_quiet r.status ≡ false
+    run_loud = answered_loud x sink r.status r.in_place ended
+
+    all_out : r.in_place ≡ true → IsAllOut r.status sink → P.ran.more ≡ []
+    all_out here out = P.ran.whole (unwritten_none x.end y.unwritten sink P.ran.sunk (sym placed ∙ here) (subst (λ z. IsAllOut z sink) status_is out))
+
+    cut_out : r.complete ≡ false → P.ran.more ≡ []
+    cut_out cut = P.ran.whole (P.ran.memory (cut_end x.end (sym complete_is ∙ cut)))
+
+    pub ran_on : (input : List ℕ) × (cores : ℕ) × IsInput source.coming input × RunsOnThreads old t found source refused cores input sink r
+    ran_on = (
+      input,
+      cores,
+      P.ready.read.is_input,
+      record {
+        begun = trace;
+        unbegun = P.ran.more;
+        split = read_trace cores input P.lines P.ready.read.good ∙ P.ran.split;
+        all_begun = all_out;
+        cut_begun = cut_out;
+        serves = serves old t found source cores input trace o f x known stays later P.ready.read.whole sink r ended P.ran.begins held lost unasked report_told refusals begun complete_is;
+        unsplit = λ failed no. both r.complete (run_ends failed) no;
+        worked = λ begun_is steady. cores_ran;
+        run = ran_then;
+      },
+    )

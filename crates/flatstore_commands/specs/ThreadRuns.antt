@@ -1,0 +1,106 @@
+-- What a call with the words of `run` promises.
+use Rattle.std.specs.Prelude.{◌≡◌, ℕ, ◌<◌, ◌≤◌, List, [], ◌++◌, map, Bool, true, false, Option, Ok}
+use Rattle.fs_model.specs.declared.model.Request.{Request}
+use Rattle.pm_region.specs.State.{State, IsTelling, cell_now, Rose, counted}
+use Rattle.pm_region.specs.Split.{Attached, TellsFrom, IsNotRevalidated}
+use Rattle.fs_text.specs.declared.line.Line.{Line}
+use Rattle.fs_text.specs.Input.{input_of}
+use Rattle.fs_text.specs.Output.{replies_text}
+use Rattle.fs_text.specs.Streams.{Takes, TakesPrefix}
+use Rattle.engine_laws.specs.Engine.{Engine}
+use Rattle.engine_laws.specs.Idle.{IsDrained}
+use Rattle.engine_laws.specs.Promises.{HasStopped}
+use Rattle.engine_laws.specs.Parts.{AllLicensed}
+use Rattle.engine_laws.specs.Reports.{told_of, AllAnswered}
+use Rattle.group_engine.specs.declared.types.Stamped.{Stamped}
+use Rattle.group_engine.specs.Reports.{reply_in, finishes_in, refusals_in}
+use Rattle.thread_engine.specs.CoreRuns.{AllRan}
+use Rattle.thread_engine.specs.Cuts.{HoldsInside}
+use Rattle.thread_engine.specs.RanApart.{Rejoined, KeepsAnswers, TakesOnce}
+use Rattle.thread_engine.specs.Printed.{IsOutInWindows}
+use Rattle.flatstore_commands.specs.Attaching.{GoesOnBy}
+use Rattle.flatstore_commands.specs.Ends.{SourceUse, SinkUse, IsAllOut}
+use Rattle.flatstore_commands.specs.LastStates.{told_in, NoneHasStopped, Starts}
+use Rattle.flatstore_commands.specs.Ordering.{is_whole}
+use Rattle.flatstore_commands.specs.Promise.{Serves, asked_in}
+use Rattle.flatstore_commands.specs.declared.report.Status.TheVariants as statuses
+use Rattle.flatstore_commands.specs.declared.report.Report.{Report}
+
+-- Each core worked off the requests of its keys among those that were begun, from the region as it was attached with these
+-- words to an end, and this is a report on the answers that the cores' workers gave. `refused` says whether the gate may
+-- hold a post back.
+pub record CoresRan (old new : State) (found : ℕ → ℕ) (refused : Bool) (cores : ℕ)
+    (input : List ℕ) (begun : List Request) (sink : SinkUse) (r : Report) : Type 0 where
+  -- The region was attached, and then split and joined; so it is in the last state.
+  pub f : Engine
+  pub from : GoesOnBy Rejoined old f.region new.frame.bytes found
+  pub start : Starts from.at found cores
+  -- Each request that was begun is given to the owner of its key. Each core has a chain of its worker's moves, from the
+  -- worker that opens on what recovery gave for it to an end; the groups' states are lawful.
+  pub lines : List Line
+  pub good : input_of cores input ≡ Ok lines
+  pub given : f.given ≡ begun
+  pub ran : AllRan start.origin start.recovered refused f
+  -- At each cut of the run a crash leaves, of each key, the changes that were finished before the cut, or one more.
+  pub inside : HoldsInside start.origin start.recovered refused f ran.cores
+  -- The region is as it is in the last state. It goes on telling by the stamp after the latest of its pieces' stamps, where
+  -- each piece told to its end.
+  pub ends : new ≡ f.region
+  pub next : IsTelling from.at
+      → ((c : ℕ) (low : c < f.layout.cores) → TellsFrom from.at (ran.cores c low).last.region)
+      → (latest : ℕ) → from.at.stamp ≤ latest
+      → ((c : ℕ) (low : c < f.layout.cores) → (ran.cores c low).last.region.stamp ≤ latest)
+      → new.stamp ≤ counted latest
+  -- The report's finishes and refusals are those of what the workers answered, at the joined region's stamp.
+  pub kept : List (Option Stamped)
+  pub keeps : KeepsAnswers start.origin start.recovered refused f ran.cores kept
+  -- Each of these answers was put into the queue of its window once and taken out once, and no other was.
+  pub once : TakesOnce start.origin start.recovered refused f ran.cores kept
+  pub finishes : r.finishes.items ≡ finishes_in 0 kept
+  pub refusals : r.refusals.items ≡ refusals_in 0 kept
+  pub told_is : told_in r ≡ told_of f
+  -- What is out is the text of whole windows, each behind a look that found the region in its place, between the split and
+  -- the join, and the beginning of that of one window more.
+  pub parted : State
+  pub behind : State
+  pub unasked : IsNotRevalidated from.at parted
+  pub asked_since : IsNotRevalidated behind new
+  pub out : IsOutInWindows parted behind sink.before sink.now (map reply_in kept)
+  -- Whatever a crash leaves of a part now is licensed by its core's view in that state.
+  pub licensed : IsTelling new → AllLicensed f.layout f.group (cell_now new)
+
+-- They did, and there was memory for all of it.
+pub record RanOnThreads (old new : State) (found : ℕ → ℕ) (refused : Bool) (cores : ℕ)
+    (input : List ℕ) (begun : List Request) (sink : SinkUse) (r : Report) : Type 0 where
+  pub all : CoresRan old new found refused cores input begun sink r
+  -- Everything is answered in the last state, every slot is empty and nothing waits.
+  pub answered : AllAnswered all.f
+  pub drained : IsDrained all.f
+  -- The text is that of what the workers answered.
+  pub begins : TakesPrefix sink.before sink.now (replies_text (map reply_in all.kept))
+  pub writes : r.in_place ≡ true → IsAllOut r.status sink
+      → Takes sink.before sink.now (replies_text (map reply_in all.kept))
+  -- The status tells a fault of the region exactly where a core has stopped, or the region was out of its place.
+  pub stops : r.status ≡ statuses.RegionFault → r.in_place ≡ true → HasStopped all.f
+  pub goes : is_whole r.status ≡ true → NoneHasStopped all.f
+
+-- The headline, of a run: each core has a worker in a thread of its own, and the replies of each window of requests are
+-- written behind it, before the next window is begun.
+pub record RunsOnThreads (old new : State) (found : ℕ → ℕ) (source : SourceUse) (refused : Bool)
+    (cores : ℕ) (input : List ℕ) (sink : SinkUse) (r : Report) : Type 0 where
+  -- The requests that were begun are the first of the input's, and all of them where every reply was written, or memory
+  -- lacked in a window: then those that no core was dealt any more count too.
+  pub begun : List Request
+  pub unbegun : List Request
+  pub split : asked_in cores input ≡ begun ++ unbegun
+  pub all_begun : r.in_place ≡ true → IsAllOut r.status sink → unbegun ≡ []
+  pub cut_begun : r.complete ≡ false → unbegun ≡ []
+  pub serves : Serves old new found source cores input begun sink r
+  -- A call of the region that failed kept it from its end only where that was the split: then it is as it was attached.
+  pub unsplit : r.status ≡ statuses.RegionFault → r.complete ≡ false
+      → Attached old new new.frame.bytes found × Rose old.frame.refusals new.frame.refusals
+  -- Where cores began to work, they did so as is said, also where memory ran out then.
+  pub worked : r.began ≡ true → (r.status ≡ statuses.RegionFault → r.complete ≡ true)
+      → CoresRan old new found refused cores input begun sink r
+  -- A report that says so did come to the end.
+  pub run : r.complete ≡ true → RanOnThreads old new found refused cores input begun sink r

@@ -1,0 +1,95 @@
+// The entries of the region's logs are written.
+ghost use Rattle.std.specs.Prelude.{◌≡◌, true, false, IfOk, IfErr};
+ghost use Rattle.pm_region.specs.State.{Faulted, Rose};
+ghost use Rattle.pm_region.specs.Split.{words_in};
+ghost use Rattle.chunk_map.specs.Layouts.{layout_of};
+ghost use Rattle.store_image.specs.Parts.{all_entries};
+ghost use Rattle.store_image.specs.Soundness.{IsSound};
+ghost use Rattle.fs_text.specs.Output.{entries_text};
+ghost use Rattle.flatstore_commands.specs.Ends.{ReportsNothing, sink_use};
+ghost use Rattle.flatstore_commands.specs.Shows.{HasShown, IsUnlisted};
+ghost use Rattle.flatstore_commands.specs.Logs.{Logs};
+ghost use Rattle.flatstore_commands.specs.Ordering.{is_quiet};
+ghost use Rattle.flatstore_commands.specs.declared.report.Status.TheVariants as statuses;
+
+use crate::report::{Report, Status};
+use fs_text::{OutError, Sink, write_entries};
+use pm_region::{AttachError, ReadRegion, Snapshot, SplitRegion};
+use recover::RecoverError;
+use std::alloc::Global;
+use store_image::PlacedEntry;
+
+/// The entries that the words of an attached region spell, by core, chunk and place, or the status where there are none.
+fn placed_entries<R: SplitRegion + ReadRegion>(
+    alloc: Global,
+    region: &R,
+) -> Result<Vec<PlacedEntry>, Status>
+    requires first { (R.state region.now).frame.first ≡ 0 }
+    requires words { (R.state region.now).frame.words ≡ words_in (R.state region.now).frame.bytes }
+    ensures ok { IfOk result (λ entries.
+        IsSound (R.state region.now).frame.bytes (R.word region.now)
+        × (entries.items ≡ all_entries (layout_of (R.word region.now)) (R.word region.now))) }
+    ensures err { IfErr result (IsUnlisted (R.state region.now).frame.bytes (R.word region.now)) }
+{
+    let view = Snapshot::of(region);
+    match recover::log_entries(alloc, &view, region.bytes()) {
+        Err(RecoverError::Memory) => Err(Status::Memory),
+        Err(RecoverError::Fault(fault)) => Err(Status::of_fault(fault)),
+        Ok(entries) => Ok(entries),
+    }
+}
+
+/// Writes the entries, and reports.
+fn write_log<O: Sink>(alloc: Global, sink: &mut O, entries: &[PlacedEntry]) -> Report
+    ensures written { HasShown (entries_text entries.now)
+        (sink_use O.taken O.flushed O.fault_count sink.old sink.new) result.status }
+    ensures attached { result.attached ≡ true }
+    ensures complete { result.complete ≡ true }
+    ensures nothing { ReportsNothing result }
+{
+    let status = match write_entries(alloc, sink, entries) {
+        Ok(()) => Status::Done,
+        Err(OutError::SinkFault) => Status::SinkFault,
+        Err(OutError::Memory) => Status::Memory,
+    };
+    Report {
+        status,
+        finishes: Vec::new(alloc),
+        refusals: Vec::new(alloc),
+        attached: true,
+        began: false,
+        complete: true,
+        in_place: false,
+    }
+}
+
+/// Attaches the region, and writes the entries of its logs by core, chunk and place, as they stand
+/// there: superseded ones and copies too. A region that breaks a rule has none.
+pub fn log_region<O: Sink, R: SplitRegion + ReadRegion>(
+    alloc: Global,
+    sink: &mut O,
+    region: &mut R,
+) -> Report
+    ensures promise { Logs (R.state region.old) (R.state region.new) (R.found region.old)
+        (R.word region.new)
+        (sink_use O.taken O.flushed O.fault_count sink.old sink.new) result }
+    ensures no_usage { result.status ≡ statuses.Usage → ⊥ }
+    ensures no_source_fault { result.status ≡ statuses.SourceFault → ⊥ }
+    ensures sink_fault { result.status ≡ statuses.SinkFault
+        → Rose (O.fault_count sink.old) (O.fault_count sink.new) }
+    ensures region_fault { result.status ≡ statuses.RegionFault
+        → Faulted (R.state region.old) (R.state region.new) }
+    ensures incomplete { result.complete ≡ false → sink.new ≡ sink.old }
+    ensures unattached { result.attached ≡ false → result.complete ≡ false }
+    ensures nothing { ReportsNothing result }
+    ensures sink_untouched { is_quiet result.status ≡ true → sink.new ≡ sink.old }
+{
+    match region.attach(alloc) {
+        Err(AttachError::RegionFault) => Report::of(alloc, Status::RegionFault, false),
+        Err(AttachError::Memory) => Report::of(alloc, Status::Memory, false),
+        Ok(()) => match placed_entries(alloc, region) {
+            Err(status) => Report::of(alloc, status, true),
+            Ok(entries) => write_log(alloc, sink, &entries),
+        },
+    }
+}

@@ -1,0 +1,572 @@
+// The worked rows of a replay on one core, on the top call.
+ghost use Rattle.std.specs.Prelude.{◌≡◌, false};
+
+use crate::change_tests::put;
+use core_room::{Counts, Shortage};
+use flatstore_commands::{Report, Status, command_line, flatstore_alone};
+use fs_errors::Memory;
+use fs_model::Value;
+use fs_text::{MemSink, MemSource, Sink, Source, SteadySink, SteadySource};
+use group_engine::run_report::Refusal;
+use image_yardstick::image_superblock::read_layout;
+use image_yardstick::{first_fault, recovered_cells};
+use pm_region::{
+    Faults, FenceNumber, FileRegion, MemRegion, Pick, ReadRegion, Region, SplitRegion, SteadyRegion,
+};
+use std::alloc::{Alloc, AllocError, AllocGlobal, Global};
+use std::env::{Env, FillError};
+use std::fs;
+use std::test::Fail;
+use std::thread::Threads;
+
+const BYTES: usize = 20480;
+
+const REPLAY: [&str; 3] = ["flatstore", "replay", "region"];
+
+const THREE: &str = "put 5 abc\nget 5\nget 6\n";
+
+pub const PICKS: [Pick; 6] = [
+    Pick::Oldest,
+    Pick::Newest,
+    Pick::Mixed(0),
+    Pick::Mixed(1),
+    Pick::Mixed(2),
+    Pick::Mixed(3),
+];
+
+fn set(bytes: &mut [u8], place: usize, byte: u8) {
+    if let Some(at) = bytes.get_mut(place) {
+        *at = byte;
+    }
+}
+
+// The bytes of the fresh region: the superblock of one core with four chunks of 4,096 bytes.
+fn fresh(alloc: Global) -> Result<Vec<u8>, AllocError> {
+    let mut bytes = vec![in alloc; 0u8; BYTES]?;
+    for (place, byte) in b"FLATST01".iter().enumerate() {
+        set(&mut bytes, place, *byte);
+    }
+    for (place, byte) in [(8, 1), (16, 1), (24, 1), (32, 4), (41, 16)] {
+        set(&mut bytes, place, byte);
+    }
+    Ok(bytes)
+}
+
+pub fn command(alloc: Global, words: &[&str]) -> Result<Vec<String>, AllocError> {
+    let mut line = Vec::new(alloc);
+    for word in words {
+        line.push(String::from_str(alloc, word)?)?;
+    }
+    Ok(line)
+}
+
+// One call of the program, of which only the report counts.
+pub fn call<S: Source, O: Sink, R: SplitRegion + ReadRegion>(
+    rt: &(impl Threads + AllocGlobal),
+    words: &[&str],
+    source: &mut S,
+    sink: &mut O,
+    region: &mut R,
+) -> Result<Report, AllocError>
+    requires open { S.ended source.old ≡ false }
+{
+    let alloc = rt.alloc();
+    let line = command(alloc, words)?;
+    Ok(flatstore_alone(rt, alloc, &line, source, sink, region))
+}
+
+// Replays an input on a region, into a sink that takes everything.
+pub fn replay<R: SplitRegion + ReadRegion>(
+    rt: &(impl Threads + AllocGlobal),
+    region: &mut R,
+    input: &str,
+) -> Result<(Report, Vec<u8>), Fail> {
+    let alloc = rt.alloc();
+    let mut source = SteadySource::new(Vec::from_slice(alloc, input.as_bytes())?, 7);
+    let mut sink = SteadySink::new(alloc, 100_000, 1000)?;
+    let report = call(rt, &REPLAY, &mut source, &mut sink, region)?;
+    let text = Vec::from_slice(alloc, sink.text().unwrap_or(b"not kept"))?;
+    Ok((report, text))
+}
+
+fn steady(alloc: Global) -> Result<SteadyRegion, Memory> {
+    SteadyRegion::new(alloc, fresh(alloc)?, 5000)
+}
+
+// Replays an input on a region in memory that is fresh.
+pub fn row(rt: &(impl Threads + AllocGlobal), input: &str) -> Result<(Report, Vec<u8>), Fail> {
+    let mut region = steady(rt.alloc())?;
+    replay(rt, &mut region, input)
+}
+
+// The words of a region that starts at word 0.
+pub fn words_of<R: Region>(alloc: Global, region: &R) -> Result<Vec<u64>, AllocError> {
+    let mut words = Vec::new(alloc);
+    if region.first() == 0 {
+        for place in 0..region.words() {
+            words.push(region.load(place))?;
+        }
+    }
+    Ok(words)
+}
+
+// A key's cell in an image, once the yardstick has found it sound.
+pub fn cell(alloc: Global, words: &[u64], key: u64) -> Result<Option<Value>, Fail> {
+    let bytes = words.len() as u64 * 8;
+    if first_fault(alloc, words, bytes)?.is_some() || read_layout(words, bytes).is_err() {
+        return Ok(Some(Value::of(Vec::from_slice(alloc, b"not sound")?)));
+    }
+    for pair in recovered_cells(alloc, words)? {
+        if pair.key == key {
+            return Ok(Some(pair.value));
+        }
+    }
+    Ok(None)
+}
+
+// A key's cell in a region that is yet to be attached.
+fn cell_in<R: SplitRegion>(alloc: Global, region: &mut R, key: u64) -> Result<Option<Value>, Fail> {
+    region.attach(alloc)?;
+    let words = words_of(alloc, region)?;
+    cell(alloc, &words, key)
+}
+
+const REPLIES: [(&str, Status, &str); 12] = [
+    ("", Status::Done, ""),
+    (THREE, Status::Done, "stored\nvalue abc\nabsent\n"),
+    ("put 5 \nget 5\n", Status::Done, "stored\nvalue \n"),
+    (
+        "put 1 a\nput 1 bc\nget 1",
+        Status::Done,
+        "stored\nstored\nvalue bc\n",
+    ),
+    (
+        "put 18446744073709551615 m\nget 18446744073709551615\n",
+        Status::Done,
+        "stored\nvalue m\n",
+    ),
+    ("put 5", Status::BadInput { line: 1, rule: 4 }, ""),
+    (
+        "get 18446744073709551616\n",
+        Status::BadInput { line: 1, rule: 5 },
+        "",
+    ),
+    ("get 007\n", Status::BadInput { line: 1, rule: 5 }, ""),
+    ("get -1\n", Status::BadInput { line: 1, rule: 5 }, ""),
+    (
+        "put 1 a\nGet 5\n",
+        Status::BadInput { line: 2, rule: 3 },
+        "",
+    ),
+    ("go 1 1\n", Status::BadInput { line: 1, rule: 6 }, ""),
+    (
+        "get 1\ngo 0 1\nput 1 a\ngo 0\n",
+        Status::Done,
+        "absent\nstored\n",
+    ),
+];
+
+#[test]
+fn replies(rt: HostRuntime) -> Result<(), Fail> {
+    let alloc = rt.alloc();
+    for (input, status, text) in REPLIES {
+        let (report, written) = row(&rt, input)?;
+        assert_eq!(rt; report.status, status);
+        assert_eq!(rt; written.as_slice(), text.as_bytes());
+    }
+    Ok(())
+}
+
+// What a call with these words says, on a fresh region.
+fn said(rt: &(impl Threads + AllocGlobal), words: &[&str]) -> Result<(Status, bool), Fail> {
+    let alloc = rt.alloc();
+    let mut region = steady(alloc)?;
+    let mut source = SteadySource::new(Vec::new(alloc), 1);
+    let mut sink = SteadySink::new(alloc, 10, 1)?;
+    let report = call(rt, words, &mut source, &mut sink, &mut region)?;
+    Ok((report.status, report.attached))
+}
+
+const NO_FORMS: [&[&str]; 7] = [
+    &[],
+    &["flatstore"],
+    &["flatstore", "replay"],
+    &["flatstore", "Replay", "region"],
+    &["flatstore", "replay", "region", "more"],
+    &["flatstore", "run", "region"],
+    &["flatstore", "load", "region", "7", "10"],
+];
+
+#[test]
+fn words_that_are_no_form(rt: HostRuntime) -> Result<(), Fail> {
+    for line in NO_FORMS {
+        assert_eq!(rt; said(&rt, line)?, (Status::Usage, false));
+    }
+    Ok(())
+}
+
+// An environment with one word, which is not UTF-8.
+#[derive(Drop)]
+struct NoText {
+    alloc: Global,
+}
+
+impl Alloc for NoText {
+    type A = Global;
+
+    fn alloc(&self) -> Global {
+        self.alloc
+    }
+}
+
+impl Env for NoText {
+    fn arg(&self, i: usize, buf: &mut [u8]) -> Result<usize, FillError> {
+        if i > 0 {
+            return Err(FillError::NotPresent);
+        }
+        match buf.first_mut() {
+            None => Err(FillError::TooLong),
+            Some(byte) => {
+                *byte = 0xff;
+                Ok(1)
+            }
+        }
+    }
+
+    fn var(&self, _name: &str, _buf: &mut [u8]) -> Result<usize, FillError> {
+        Err(FillError::NotPresent)
+    }
+
+    fn var_at(&self, _i: usize, _buf: &mut [u8]) -> Result<usize, FillError> {
+        Err(FillError::NotPresent)
+    }
+}
+
+#[test]
+fn words_that_are_no_text(rt: HostRuntime) -> Result<(), Fail> {
+    let alloc = rt.alloc();
+    let words = command_line(&NoText { alloc }, alloc)?;
+    assert_eq!(rt; words.len(), 0);
+    Ok(())
+}
+
+// The bytes of the fresh region with others at some places.
+pub fn with(alloc: Global, places: &[(usize, u8)]) -> Result<Vec<u8>, AllocError> {
+    let mut bytes = fresh(alloc)?;
+    for (place, byte) in places {
+        set(&mut bytes, *place, *byte);
+    }
+    Ok(bytes)
+}
+
+// Replays the three lines on a region with these bytes.
+fn three_on(rt: &(impl Threads + AllocGlobal), bytes: Vec<u8>) -> Result<(Status, Vec<u8>), Fail> {
+    let alloc = rt.alloc();
+    let mut region = SteadyRegion::new(alloc, bytes, 5000)?;
+    let (report, written) = replay(rt, &mut region, THREE)?;
+    Ok((report.status, written))
+}
+
+// Key 1 version 1, as `a` in log chunk 0 and as `b` in log chunk 1.
+const TWICE: [(usize, u8); 12] = [
+    (4096, 1),
+    (4104, 8),
+    (4352, 0x15),
+    (4355, 1),
+    (4360, 1),
+    (4368, b'a'),
+    (8192, 1),
+    (8200, 8),
+    (8448, 0x15),
+    (8451, 1),
+    (8456, 1),
+    (8464, b'b'),
+];
+
+// Keys 1 and 2 in log chunk 1, both pointing at 17, a block of class 1 in data chunk 0 with length 256.
+const SHARED: [(usize, u8); 11] = [
+    (4096, 2),
+    (4097, 1),
+    (4353, 1),
+    (8192, 1),
+    (8200, 8),
+    (8448, 0x11),
+    (8451, 17),
+    (8456, 1),
+    (8464, 0x11),
+    (8467, 17),
+    (8472, 2),
+];
+
+const DAMAGED: [(&[(usize, u8)], Status); 4] = [
+    (&[(0, b'G')], Status::NotARegion { rule: 2 }),
+    (&[(32, 5)], Status::NotARegion { rule: 3 }),
+    (
+        &TWICE,
+        Status::Damaged {
+            part: 0,
+            chunk: 1,
+            rule: 8,
+        },
+    ),
+    (
+        &SHARED,
+        Status::Damaged {
+            part: 0,
+            chunk: 1,
+            rule: 11,
+        },
+    ),
+];
+
+#[test]
+fn damaged_regions(rt: HostRuntime) -> Result<(), Fail> {
+    let alloc = rt.alloc();
+    let mut short = fresh(alloc)?;
+    let _ = short.pop();
+    let (said, written) = three_on(&rt, short)?;
+    assert_eq!(rt; said, Status::NotARegion { rule: 1 });
+    assert!(rt; written.is_empty());
+    for (others, status) in DAMAGED {
+        let (said, written) = three_on(&rt, with(alloc, others)?)?;
+        assert_eq!(rt; said, status);
+        assert!(rt; written.is_empty());
+    }
+    Ok(())
+}
+
+#[test]
+fn a_region_with_puts(rt: HostRuntime) -> Result<(), Fail> {
+    let alloc = rt.alloc();
+    let mut region = steady(alloc)?;
+    let (report, _) = replay(&rt, &mut region, THREE)?;
+    assert_eq!(rt; report.status, Status::Done);
+    let (report, written) = replay(&rt, &mut region, "get 5\nput 5 de\n")?;
+    assert_eq!(rt; report.status, Status::Done);
+    assert_eq!(rt; written.as_slice(), b"value abc\nstored\n".as_slice());
+    let (_, written) = replay(&rt, &mut region, "get 5")?;
+    assert_eq!(rt; written.as_slice(), b"value de\n".as_slice());
+    Ok(())
+}
+
+// The only entry is key 9 version 1,048,574 with the value `q`, in log chunk 0.
+pub fn spent(alloc: Global) -> Result<Vec<u8>, AllocError> {
+    let places: [(usize, u8); 8] = [
+        (4096, 1),
+        (4104, 8),
+        (4352, 0xe5),
+        (4353, 0xff),
+        (4354, 0xff),
+        (4355, 1),
+        (4360, 9),
+        (4368, b'q'),
+    ];
+    with(alloc, places.as_slice())
+}
+
+#[test]
+fn versions_spent(rt: HostRuntime) -> Result<(), Fail> {
+    let alloc = rt.alloc();
+    let mut region = SteadyRegion::new(alloc, spent(alloc)?, 5000)?;
+    let (report, written) = replay(&rt, &mut region, "put 9 r\nget 9\n")?;
+    assert_eq!(rt; report.status, Status::Done);
+    assert_eq!(rt; written.as_slice(), b"versions spent\nvalue q\n".as_slice());
+    let why = Shortage::Versions { last: 1_048_574 };
+    assert_eq!(rt;
+        report.refusals.as_slice(),
+        [Refusal { request: 0, why }].as_slice()
+    );
+    Ok(())
+}
+
+// 37 puts of values with 255 bytes, each with turns enough to end it, and the replies to them: a chunk of 60 lines has
+// 12 entries of 5 lines.
+fn many(alloc: Global) -> Result<(String, String), Fail> {
+    let value = String::from_utf8(vec![in alloc; b'v'; 255]?)?;
+    let mut input = String::new(alloc);
+    let mut text = String::new(alloc);
+    for key in 1..38u64 {
+        input.push_str(format!(in alloc; "put {key} {value}\ngo 0 50\n")?.as_str())?;
+        text.push_str(if key < 37 { "stored\n" } else { "full\n" })?;
+    }
+    Ok((input, text))
+}
+
+#[test]
+fn a_full_log(rt: HostRuntime) -> Result<(), Fail> {
+    let alloc = rt.alloc();
+    let (input, text) = many(alloc)?;
+    let (report, written) = row(&rt, input.as_str())?;
+    assert_eq!(rt; report.status, Status::Done);
+    assert_eq!(rt; written.as_slice(), text.as_bytes());
+    assert_eq!(rt; report.finishes.len(), 36);
+    let why = Shortage::Room(Counts {
+        free_chunks: 1,
+        open_lines: 0,
+        pledged_lines: 0,
+        need_lines: 5,
+        class: 0,
+        free_blocks: 0,
+    });
+    assert_eq!(rt;
+        report.refusals.as_slice(),
+        [Refusal { request: 36, why }].as_slice()
+    );
+    Ok(())
+}
+
+fn failing(alloc: Global, number: u64) -> Result<MemRegion, Memory> {
+    let plan = Faults {
+        opens: Vec::new(alloc),
+        fences: vec![in alloc; FenceNumber { piece: 0, number }]?,
+    };
+    MemRegion::new(alloc, fresh(alloc)?, 5000, plan)
+}
+
+// Whether each image of the last stamp has no value for key 1, or this one.
+fn has_none_or(alloc: Global, region: &MemRegion, bytes: &[u8]) -> Result<bool, Fail> {
+    for pick in PICKS {
+        let mut image = region.image_at(alloc, region.stamp(), pick)?;
+        if let Some(value) = cell_in(alloc, &mut image, 1)? {
+            if value.bytes() != bytes {
+                return Ok(false);
+            }
+        }
+    }
+    Ok(true)
+}
+
+#[test]
+fn failing_fences(rt: HostRuntime) -> Result<(), Fail> {
+    let alloc = rt.alloc();
+    for number in 1..5 {
+        let mut region = failing(alloc, number)?;
+        let (report, written) = replay(&rt, &mut region, "put 1 a\nget 1\n")?;
+        assert_eq!(rt; report.status, Status::RegionFault);
+        assert_eq!(rt; written.as_slice(), b"stopped\nstopped\n".as_slice());
+        assert!(rt; has_none_or(alloc, &region, b"a")?);
+    }
+    Ok(())
+}
+
+#[test]
+fn failing_fences_of_a_block(rt: HostRuntime) -> Result<(), Fail> {
+    let alloc = rt.alloc();
+    let value = vec![in alloc; b'b'; 256]?;
+    let input = put(alloc, 1, b'b', 256)?;
+    // the head of the block's chunk and the value, the head of the log's chunk, and the batch
+    for number in 1..7 {
+        let mut region = failing(alloc, number)?;
+        let (report, written) = replay(&rt, &mut region, input.as_str())?;
+        assert_eq!(rt; report.status, Status::RegionFault);
+        assert_eq!(rt; written.as_slice(), b"stopped\n".as_slice());
+        assert!(rt; has_none_or(alloc, &region, value.as_slice())?);
+    }
+    Ok(())
+}
+
+// Whether each image of a stamp has `abc` for key 5, or no value where the change isn't finished.
+fn has_abc(alloc: Global, region: &SteadyRegion, stamp: u64, finished: bool) -> Result<bool, Fail> {
+    for pick in PICKS {
+        let mut image = region.image_at(alloc, stamp, pick)?;
+        let good = match cell_in(alloc, &mut image, 5)? {
+            Some(value) => value.bytes() == b"abc".as_slice(),
+            None => !finished,
+        };
+        if !good {
+            return Ok(false);
+        }
+    }
+    Ok(true)
+}
+
+#[test]
+fn images_at_each_stamp(rt: HostRuntime) -> Result<(), Fail> {
+    let alloc = rt.alloc();
+    let mut region = steady(alloc)?;
+    let (report, _) = replay(&rt, &mut region, THREE)?;
+    let finish = match report.finishes.first() {
+        Some(finish) => finish.stamp,
+        None => u64::MAX,
+    };
+    assert!(rt; finish <= region.stamp());
+    for stamp in 0..region.stamp() {
+        assert!(rt; has_abc(alloc, &region, stamp, finish <= stamp)?);
+    }
+    assert!(rt; has_abc(alloc, &region, region.stamp(), true)?);
+    Ok(())
+}
+
+#[test]
+fn a_failing_source(rt: HostRuntime) -> Result<(), Fail> {
+    let alloc = rt.alloc();
+    // the second read would begin inside line 3
+    let input = Vec::from_slice(alloc, THREE.as_bytes())?;
+    let mut source = MemSource::new(input, 18, vec![in alloc; 2]?);
+    let mut sink = SteadySink::new(alloc, 100, 10)?;
+    let mut region = steady(alloc)?;
+    let report = call(&rt, &REPLAY, &mut source, &mut sink, &mut region)?;
+    assert_eq!(rt; report.status, Status::SourceFault);
+    assert_eq!(rt; sink.text(), Some(b"".as_slice()));
+    assert_eq!(rt; region.stamp(), 0);
+    Ok(())
+}
+
+#[test]
+fn a_failing_sink(rt: HostRuntime) -> Result<(), Fail> {
+    let alloc = rt.alloc();
+    let input = Vec::from_slice(alloc, b"put 5 abc\nget 5\n")?;
+    let mut source = SteadySource::new(input, 100);
+    let mut sink = MemSink::new(alloc, 100, 10, vec![in alloc; 2]?)?;
+    let mut region = steady(alloc)?;
+    let report = call(&rt, &REPLAY, &mut source, &mut sink, &mut region)?;
+    assert_eq!(rt; report.status, Status::SinkFault);
+    assert_eq!(rt; sink.text(), Some(b"stored\nval".as_slice()));
+    Ok(())
+}
+
+// Replays an input on the region in a file.
+fn replay_file(
+    rt: &HostRuntime,
+    threads: &(impl Threads + AllocGlobal),
+    name: &str,
+    input: &str,
+) -> Result<(Report, Vec<u8>), Fail> {
+    let alloc = rt.alloc();
+    let mut region = FileRegion::at(rt.clone()?, String::from_str(alloc, name)?);
+    replay(threads, &mut region, input)
+}
+
+fn words_of_file(rt: &HostRuntime, name: &str) -> Result<Vec<u64>, Fail> {
+    let alloc = rt.alloc();
+    let mut region = FileRegion::at(rt.clone()?, String::from_str(alloc, name)?);
+    region.attach(alloc)?;
+    Ok(words_of(alloc, &region)?)
+}
+
+#[test]
+fn a_region_in_a_file(rt: HostRuntime) -> Result<(), Fail> {
+    let name = "flatstore_a_region_in_a_file";
+    fs::write(&rt, name, fresh(rt.alloc())?.as_slice())?;
+    let (report, written) = replay_file(&rt, &rt, name, THREE)?;
+    assert_eq!(rt; report.status, Status::Done);
+    assert_eq!(rt;
+        written.as_slice(),
+        b"stored\nvalue abc\nabsent\n".as_slice()
+    );
+    let words = words_of_file(&rt, name)?;
+    for (place, word) in [
+        (512, 1),
+        (513, 8),
+        (544, 0x0300_0015),
+        (545, 5),
+        (546, 0x0063_6261),
+    ] {
+        assert_eq!(rt; words.get(place), Some(&word));
+    }
+    fs::remove_file(&rt, name)?;
+    let (report, written) = replay_file(&rt, &rt, name, THREE)?;
+    assert_eq!(rt; report.status, Status::RegionFault);
+    assert!(rt; written.is_empty());
+    Ok(())
+}

@@ -1,0 +1,134 @@
+// The worked rows of deletes and of values in blocks, on the top call.
+use crate::call_tests::{replay, row, spent, with};
+use core_room::{Counts, Shortage};
+use group_engine::run_report::Refusal;
+use pm_region::SteadyRegion;
+use std::alloc::Global;
+use std::test::Fail;
+
+#[test]
+fn a_delete_of_the_last_version(rt: HostRuntime) -> Result<(), Fail> {
+    let alloc = rt.alloc();
+    let mut region = SteadyRegion::new(alloc, spent(alloc)?, 5000)?;
+    let (report, written) = replay(&rt, &mut region, "put 9 r\ndelete 9\nget 9\nput 9 z\n")?;
+    assert_eq!(rt;
+        written.as_slice(),
+        b"versions spent\ndeleted\nabsent\nversions spent\n".as_slice()
+    );
+    let refusal = |request, last| Refusal {
+        request,
+        why: Shortage::Versions { last },
+    };
+    assert_eq!(rt;
+        report.refusals.as_slice(),
+        [refusal(0, 1_048_574), refusal(3, 1_048_575)].as_slice()
+    );
+    Ok(())
+}
+
+// A line that puts so many bytes.
+pub fn put(alloc: Global, key: u64, byte: u8, length: usize) -> Result<String, Fail> {
+    let value = String::from_utf8(vec![in alloc; byte; length]?)?;
+    Ok(format!(in alloc; "put {key} {value}\n")?)
+}
+
+// Puts of 1,000 bytes to keys 1 to 7 and 1, of one byte to key 1, and of 1,000 bytes to key 8, each with turns enough
+// to end it.
+fn seven(alloc: Global) -> Result<String, Fail> {
+    let mut input = String::new(alloc);
+    for key in [1u64, 2, 3, 4, 5, 6, 7, 1] {
+        input.push_str(put(alloc, key, b'v', 1000)?.as_str())?;
+        input.push_str("go 0 50\n")?;
+    }
+    input.push_str("put 1 a\ngo 0 50\n")?;
+    input.push_str(put(alloc, 8, b'v', 1000)?.as_str())?;
+    input.push_str("go 0 50\n")?;
+    Ok(input)
+}
+
+#[test]
+fn no_free_block(rt: HostRuntime) -> Result<(), Fail> {
+    let alloc = rt.alloc();
+    let (report, written) = row(&rt, seven(alloc)?.as_str())?;
+    let text = b"stored\nstored\nstored\nstored\nstored\nstored\nfull\nfull\nstored\nstored\n";
+    assert_eq!(rt; written.as_slice(), text.as_slice());
+    let refusal = |request| Refusal {
+        request,
+        why: Shortage::Block(Counts {
+            free_chunks: 1,
+            open_lines: 54,
+            pledged_lines: 0,
+            need_lines: 1,
+            class: 2,
+            free_blocks: 0,
+        }),
+    };
+    assert_eq!(rt;
+        report.refusals.as_slice(),
+        [refusal(6), refusal(7)].as_slice()
+    );
+    Ok(())
+}
+
+#[test]
+fn the_longest_value(rt: HostRuntime) -> Result<(), Fail> {
+    let alloc = rt.alloc();
+    let (_, written) = row(&rt, put(alloc, 1, b'v', 1016)?.as_str())?;
+    assert_eq!(rt; written.as_slice(), b"stored\n".as_slice());
+    let (report, written) = row(&rt, put(alloc, 1, b'v', 1017)?.as_str())?;
+    assert_eq!(rt; written.as_slice(), b"too long\n".as_slice());
+    let why = Shortage::Length { length: 1017 };
+    assert_eq!(rt;
+        report.refusals.as_slice(),
+        [Refusal { request: 0, why }].as_slice()
+    );
+    Ok(())
+}
+
+#[test]
+fn a_block_of_an_earlier_run(rt: HostRuntime) -> Result<(), Fail> {
+    let alloc = rt.alloc();
+    let mut region = SteadyRegion::new(alloc, with(alloc, &[])?, 5000)?;
+    let mut input = put(alloc, 1, b'b', 256)?;
+    input.push_str(put(alloc, 1, b'c', 256)?.as_str())?;
+    let (_, written) = replay(&rt, &mut region, input.as_str())?;
+    assert_eq!(rt; written.as_slice(), b"stored\nstored\n".as_slice());
+    let (_, written) = replay(&rt, &mut region, "get 1\n")?;
+    let mut text = Vec::from_slice(alloc, b"value ")?;
+    text.resize(262, b'c')?;
+    text.push(b'\n')?;
+    assert_eq!(rt; written.as_slice(), text.as_slice());
+    Ok(())
+}
+
+// Puts of 1,000 bytes to keys 1 to 7, turns, a delete of key 1, turns, and a put of 1,000 bytes to key 8.
+fn given_back(alloc: Global) -> Result<String, Fail> {
+    let mut input = String::new(alloc);
+    for key in 1..8u64 {
+        input.push_str(put(alloc, key, b'v', 1000)?.as_str())?;
+    }
+    input.push_str("go 0 200\ndelete 1\ngo 0 20\n")?;
+    input.push_str(put(alloc, 8, b'v', 1000)?.as_str())?;
+    Ok(input)
+}
+
+#[test]
+fn a_block_that_is_given_back(rt: HostRuntime) -> Result<(), Fail> {
+    let alloc = rt.alloc();
+    let (report, written) = row(&rt, given_back(alloc)?.as_str())?;
+    let text = b"stored\nstored\nstored\nstored\nstored\nstored\nfull\ndeleted\nstored\n";
+    assert_eq!(rt; written.as_slice(), text.as_slice());
+    let why = Shortage::Block(Counts {
+        free_chunks: 2,
+        open_lines: 0,
+        pledged_lines: 6,
+        need_lines: 1,
+        class: 2,
+        free_blocks: 0,
+    });
+    assert_eq!(rt;
+        report.refusals.as_slice(),
+        [Refusal { request: 6, why }].as_slice()
+    );
+    Ok(())
+}

@@ -1,0 +1,30 @@
+//! Tests of the whole program, on its top call. They stand beside the crate that they test, since a crate with tests is
+//! proved twice.
+#![tactic(auto)]
+
+#[cfg(test)]
+mod audit_tests;
+#[cfg(test)]
+mod call_tests;
+#[cfg(test)]
+mod change_tests;
+#[cfg(test)]
+mod dump_tests;
+#[cfg(test)]
+mod format_tests;
+#[cfg(test)]
+mod judging_tests;
+#[cfg(test)]
+mod log_tests;
+#[cfg(test)]
+mod meeting_tests;
+#[cfg(test)]
+mod row_tests;
+#[cfg(test)]
+mod scan_tests;
+#[cfg(test)]
+mod space_tests;
+#[cfg(test)]
+mod thread_tests;
+#[cfg(test)]
+mod window_tests;
