@@ -17,5 +17,5 @@ pub returns-in-Ok-Some-Audit-clause-run_unbegun : goal.returns-in-Ok-Some-Audit-
 returns-in-Ok-Some-Audit-clause-run_unbegun g c = λ run unbegun.
     let form = form_of (words_of c.args.words.now.items) in
     let way = sym c.in-Ok-Some-Audit.ensures.asked ∙ ap (λ t. option_map way_of t) c.in-Ok-Some-Audit.field-0-is
-        ∙ ap (λ t. option_map way_of (Some t)) c.in-Ok-Some-Audit.field-0-0-is in
+    ∙ ap (λ t. option_map way_of (Some t)) c.in-Ok-Some-Audit.field-0-0-is in
     both (is_run form) run (audit_way form c.in-Ok-Some-Audit.workers.count way)
