@@ -1,5 +1,5 @@
 -- The tally of replies, and of the live pairs that a region has behind them.
-use Rattle.std.specs.Prelude.{ℕ, List, length, Bool, true, false, count_by, sum_by, min}
+use Rattle.std.specs.Prelude.{ℕ, ◌≤◌, List, length, Bool, true, false, count_by, sum_by, min}
 use Rattle.fs_model.specs.declared.model.Pair.{Pair}
 use Rattle.fs_model.specs.declared.model.Reply.{Reply}
 use Rattle.fs_model.specs.declared.model.Reply.TheVariants.{Stored, Value, Absent, Deleted, Full, VersionsSpent, TooLong, Stopped}
@@ -34,6 +34,14 @@ most_bytes = 18446744073709551615
 
 abbrev pub bytes_of : List Pair → ℕ
 bytes_of pairs = min (sum_by (λ p. length p.value) pairs) most_bytes
+
+-- none of a tally's kinds has more replies than there are
+pub record IsWithin (t : Tally) : Type 0 where
+  pub stored : t.stored ≤ t.requests
+  pub value : t.value ≤ t.requests
+  pub absent : t.absent ≤ t.requests
+  pub deleted : t.deleted ≤ t.requests
+  pub refused : t.refused ≤ t.requests
 
 -- how many replies there are, and of each kind; how many pairs, and how long their values are together
 abbrev pub tally_of : List Reply → List Pair → Tally

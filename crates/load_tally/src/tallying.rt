@@ -1,14 +1,15 @@
 // A tally that grows.
 ghost use Rattle.std.specs.Prelude.{◌≡◌, ◌+◌, ◌^◌, ◌<◌, List, [], ◌∷◌, ◌++◌, length};
 ghost use Rattle.fs_model.specs.declared.model.Reply as replies_of;
-ghost use Rattle.load_tally.specs.Tallied.{tally_of, bytes_of};
+ghost use Rattle.load_tally.specs.Tallied.{IsWithin, tally_of, bytes_of};
 
 use fs_model::{Pair, Reply};
 use fs_text::Tally;
 
 /// The tally of no requests, on a region without a live pair.
 pub fn nothing() -> Tally
-    ensures { result ≡ tally_of [] [] }
+    ensures none { result ≡ tally_of [] [] }
+    ensures within { IsWithin result }
 {
     Tally {
         requests: 0,
@@ -22,11 +23,14 @@ pub fn nothing() -> Tally
     }
 }
 
-fn add_reply(tally: &mut Tally, reply: &Reply)
-    requires { (rs : List replies_of.Reply) × (tally.old ≡ tally_of rs [])
-        × (length rs + 1 < 2 ^ 64) }
-    ensures { (rs : List replies_of.Reply) → tally.old ≡ tally_of rs []
+/// Counts the next reply, behind those that were counted.
+pub fn add_reply(tally: &mut Tally, reply: &Reply)
+    requires within { IsWithin tally.old }
+    requires room { tally.old.requests + 1 < 2 ^ 64 }
+    ensures counts { (rs : List replies_of.Reply) → tally.old ≡ tally_of rs []
         → tally.new ≡ tally_of (rs ++ reply.now ∷ []) [] }
+    ensures within { IsWithin tally.new }
+    ensures requests { tally.new.requests ≡ tally.old.requests + 1 }
 {
     tally.requests += 1;
     match reply {
@@ -40,10 +44,12 @@ fn add_reply(tally: &mut Tally, reply: &Reply)
 
 /// Counts the next replies, behind those that were counted.
 pub fn add_replies(tally: &mut Tally, replies: &[Reply])
-    requires { (rs : List replies_of.Reply) × (tally.old ≡ tally_of rs [])
-        × (length rs + length replies.now < 2 ^ 64) }
-    ensures { (rs : List replies_of.Reply) → tally.old ≡ tally_of rs []
+    requires within { IsWithin tally.old }
+    requires room { tally.old.requests + length replies.now < 2 ^ 64 }
+    ensures counts { (rs : List replies_of.Reply) → tally.old ≡ tally_of rs []
         → tally.new ≡ tally_of (rs ++ replies.now) [] }
+    ensures within { IsWithin tally.new }
+    ensures requests { tally.new.requests ≡ tally.old.requests + length replies.now }
 {
     for reply in replies {
         add_reply(tally, reply);
@@ -64,7 +70,6 @@ fn bytes_together(pairs: &[Pair]) -> u64
 /// Counts the live pairs that the region has behind the replies that were counted. The bytes of their values stand still
 /// at the type's end.
 pub fn add_pairs(tally: &mut Tally, pairs: &[Pair])
-    requires { (rs : List replies_of.Reply) × (tally.old ≡ tally_of rs []) }
     ensures { (rs : List replies_of.Reply) → tally.old ≡ tally_of rs []
         → tally.new ≡ tally_of rs pairs.now }
 {
