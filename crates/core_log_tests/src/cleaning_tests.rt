@@ -12,6 +12,7 @@ use log_cleaner::{Clearing, Standing, Victim, copy_live, to_copy, victim};
 use log_entry::{Body, Entry, EntryName, WordBuffer, entry_words, write_entry};
 use pm_region::{Pick, Region, RegionFault, SplitRegion, SteadyRegion};
 use std::alloc::Global;
+use std::process::Abort;
 use std::test::Fail;
 
 // A region that tells nothing, as a file does. What it has inside tells what a crash may leave.
@@ -89,24 +90,12 @@ fn name(version: u32) -> EntryName {
     EntryName { key: 1, version }
 }
 
-// Appends a version of key 1, the value `a`, as a batch of its own: one line. Versions up to `dead` are told dead.
-fn with_entry(alloc: Global, stage: Stage, version: u32, dead: u32) -> Result<Stage, Fail>
+// Writes a version of key 1, the value `a`, into an empty buffer.
+fn write_version(alloc: Global, buffer: &mut WordBuffer, version: u32) -> Result<(), Fail>
     requires version { (1 ≤ version) × (version < 100) }
-    requires stands { StandsIn (record (steady_state stage.region.region) { told = λ t. false })
-        stage.log }
-    requires chunks { stage.log.layout.chunks ≡ 4 }
-    requires room { 2176 ≤ stage.buffer.room }
-    ensures stands { IfOk result
-        (λ r. StandsIn (record (steady_state r.region.region) { told = λ t. false }) r.log) }
-    ensures chunks { IfOk result (λ r. r.log.layout.chunks ≡ 4) }
-    ensures room { IfOk result (λ r. 2176 ≤ r.buffer.room) }
+    requires room { 2176 ≤ buffer.old.room }
+    ensures { OnOk result (2176 ≤ buffer.new.room) }
 {
-    let Stage {
-        mut region,
-        mut log,
-        mut standing,
-        mut buffer,
-    } = stage;
     let mut bytes = Vec::new(alloc);
     bytes.push(97)?;
     let entry = Entry {
@@ -116,22 +105,47 @@ fn with_entry(alloc: Global, stage: Stage, version: u32, dead: u32) -> Result<St
     };
     buffer.clear();
     check(entry_words(&entry) <= 34)?;
-    write_entry(&entry, &mut buffer);
-    let lines = (buffer.words().len() as u64 + 7) / 8;
-    check(buffer.words().len() > 0)?;
-    check(lines <= log.room())?;
-    log.append_batch(&mut region, &buffer)?;
-    standing.reserve(1)?;
-    standing.add(name(version));
+    write_entry(&entry, buffer);
+    Ok(())
+}
+
+// Appends what is in the buffer as a batch.
+fn append(stage: &mut Stage) -> Result<(), Fail>
+    requires stands { StandsIn (record (steady_state stage.old.region.region)
+        { told = λ t. false }) stage.old.log }
+    requires chunks { stage.old.log.layout.chunks ≡ 4 }
+    ensures stands { OnOk result (StandsIn (record (steady_state stage.new.region.region)
+        { told = λ t. false }) stage.new.log) }
+    ensures chunks { OnOk result (stage.new.log.layout.chunks ≡ 4) }
+    ensures buffer { stage.new.buffer ≡ stage.old.buffer }
+{
+    let lines = (stage.buffer.words().len() as u64 + 7) / 8;
+    check(stage.buffer.words().len() > 0)?;
+    check(lines <= stage.log.room())?;
+    stage.log.append_batch(&mut stage.region, &stage.buffer)?;
+    Ok(())
+}
+
+// Appends a version of key 1 as a batch of its own: one line. Versions up to `dead` are told dead.
+fn add_version(alloc: Global, stage: &mut Stage, version: u32, dead: u32) -> Result<(), Fail>
+    requires version { (1 ≤ version) × (version < 100) }
+    requires stands { StandsIn (record (steady_state stage.old.region.region)
+        { told = λ t. false }) stage.old.log }
+    requires chunks { stage.old.log.layout.chunks ≡ 4 }
+    requires room { 2176 ≤ stage.old.buffer.room }
+    ensures stands { OnOk result (StandsIn (record (steady_state stage.new.region.region)
+        { told = λ t. false }) stage.new.log) }
+    ensures chunks { OnOk result (stage.new.log.layout.chunks ≡ 4) }
+    ensures room { OnOk result (2176 ≤ stage.new.buffer.room) }
+{
+    write_version(alloc, &mut stage.buffer, version)?;
+    append(stage)?;
+    stage.standing.reserve(1)?;
+    stage.standing.add(name(version));
     if version <= dead {
-        standing.kill(name(version));
+        stage.standing.kill(name(version));
     }
-    Ok(Stage {
-        region,
-        log,
-        standing,
-        buffer,
-    })
+    Ok(())
 }
 
 // A part with an empty log chunk.
@@ -157,30 +171,22 @@ fn begun(alloc: Global) -> Result<Stage, Fail>
     })
 }
 
-// Opens the next log chunk.
-fn opened(stage: Stage) -> Result<Stage, Fail>
-    requires stands { StandsIn (record (steady_state stage.region.region) { told = λ t. false })
-        stage.log }
-    requires chunks { stage.log.layout.chunks ≡ 4 }
-    requires room { 2176 ≤ stage.buffer.room }
-    ensures stands { IfOk result
-        (λ r. StandsIn (record (steady_state r.region.region) { told = λ t. false }) r.log) }
-    ensures chunks { IfOk result (λ r. r.log.layout.chunks ≡ 4) }
-    ensures room { IfOk result (λ r. 2176 ≤ r.buffer.room) }
+// Fills the chunk, opens the next one, and appends a version there.
+fn fill(alloc: Global, stage: &mut Stage, dead: u32) -> Result<(), Fail>
+    requires stands { StandsIn (record (steady_state stage.old.region.region)
+        { told = λ t. false }) stage.old.log }
+    requires chunks { stage.old.log.layout.chunks ≡ 4 }
+    requires room { 2176 ≤ stage.old.buffer.room }
+    ensures stands { OnOk result (StandsIn (record (steady_state stage.new.region.region)
+        { told = λ t. false }) stage.new.log) }
+    ensures chunks { OnOk result (stage.new.log.layout.chunks ≡ 4) }
+    ensures room { OnOk result (2176 ≤ stage.new.buffer.room) }
 {
-    let Stage {
-        mut region,
-        mut log,
-        standing,
-        buffer,
-    } = stage;
-    log.open_chunk(&mut region, 1)?;
-    Ok(Stage {
-        region,
-        log,
-        standing,
-        buffer,
-    })
+    for version in 1..61 {
+        add_version(alloc, stage, version, dead)?;
+    }
+    stage.log.open_chunk(&mut stage.region, 1)?;
+    add_version(alloc, stage, 61, dead)
 }
 
 fn prepared(alloc: Global, dead: u32) -> Result<Stage, Fail>
@@ -190,11 +196,8 @@ fn prepared(alloc: Global, dead: u32) -> Result<Stage, Fail>
     ensures room { IfOk result (λ r. 2176 ≤ r.buffer.room) }
 {
     let mut stage = begun(alloc)?;
-    for version in 1..61 {
-        stage = with_entry(alloc, stage, version, dead)?;
-    }
-    let stage = opened(stage)?;
-    with_entry(alloc, stage, 61, dead)
+    fill(alloc, &mut stage, dead)?;
+    Ok(stage)
 }
 
 const ROOM: Room = Room {
@@ -221,68 +224,43 @@ fn found(alloc: Global, stage: &mut Stage) -> Result<Option<Victim>, Fail>
 }
 
 // Copies what lives of chunk 0, and gives how many entries were copied.
-fn copied(stage: Stage) -> Result<(Stage, u64), Fail>
-    requires stands { StandsIn (record (steady_state stage.region.region) { told = λ t. false })
-        stage.log }
-    requires chunks { stage.log.layout.chunks ≡ 4 }
-    requires room { 2176 ≤ stage.buffer.room }
-    ensures stands { IfOk result
-        (λ r. StandsIn (record (steady_state r.0.region.region) { told = λ t. false }) r.0.log) }
-    ensures chunks { IfOk result (λ r. r.0.log.layout.chunks ≡ 4) }
-    ensures room { IfOk result (λ r. 2176 ≤ r.0.buffer.room) }
+fn copied(stage: &mut Stage) -> Result<u64, Fail>
+    requires stands { StandsIn (record (steady_state stage.old.region.region)
+        { told = λ t. false }) stage.old.log }
+    requires chunks { stage.old.log.layout.chunks ≡ 4 }
+    requires room { 2176 ≤ stage.old.buffer.room }
+    ensures stands { OnOk result (StandsIn (record (steady_state stage.new.region.region)
+        { told = λ t. false }) stage.new.log) }
+    ensures chunks { OnOk result (stage.new.log.layout.chunks ≡ 4) }
+    ensures room { OnOk result (2176 ≤ stage.new.buffer.room) }
 {
-    let Stage {
-        mut region,
-        mut log,
-        mut standing,
-        mut buffer,
-    } = stage;
-    check(has_chunk(&log, 0))?;
-    check(log.opened() != Some(0))?;
-    let chosen = to_copy(&region, &log, &standing, 0);
-    let copied = copy_live(&mut region, &mut log, &mut standing, &chosen, &mut buffer)?;
-    let count = copied.unwrap_or(0);
-    Ok((
-        Stage {
-            region,
-            log,
-            standing,
-            buffer,
-        },
-        count,
-    ))
+    check(has_chunk(&stage.log, 0))?;
+    check(stage.log.opened() != Some(0))?;
+    let chosen = to_copy(&stage.region, &stage.log, &stage.standing, 0);
+    let copied = copy_live(
+        &mut stage.region,
+        &mut stage.log,
+        &mut stage.standing,
+        &chosen,
+        &mut stage.buffer,
+    )?;
+    Ok(copied.unwrap_or(0))
 }
 
-// Gives up chunk 0: how many names were doomed, and which are gone.
-fn cleared(alloc: Global, stage: Stage) -> Result<(Stage, usize, Vec<EntryName>), Fail>
-    requires stands { StandsIn (record (steady_state stage.region.region) { told = λ t. false })
-        stage.log }
-    requires chunks { stage.log.layout.chunks ≡ 4 }
-    requires room { 2176 ≤ stage.buffer.room }
+// Gives up chunk 0: how many names were doomed, how many are gone, and the last of these.
+fn cleared(alloc: Global, stage: &mut Stage) -> Result<(usize, usize, Option<EntryName>), Fail>
+    requires stands { StandsIn (record (steady_state stage.old.region.region)
+        { told = λ t. false }) stage.old.log }
+    requires chunks { stage.old.log.layout.chunks ≡ 4 }
 {
-    let Stage {
-        mut region,
-        mut log,
-        mut standing,
-        buffer,
-    } = stage;
-    check(has_chunk(&log, 0))?;
-    check(log.opened() != Some(0))?;
-    let chosen = to_copy(&region, &log, &standing, 0);
-    let mut clearing = Clearing::begin(alloc, &region, &log, &chosen)?;
-    clearing.gather(&region, &log, &standing);
+    check(has_chunk(&stage.log, 0))?;
+    check(stage.log.opened() != Some(0))?;
+    let chosen = to_copy(&stage.region, &stage.log, &stage.standing, 0);
+    let mut clearing = Clearing::begin(alloc, &stage.region, &stage.log, &chosen)?;
+    clearing.gather(&stage.region, &stage.log, &stage.standing);
     let doomed = clearing.doomed_of().len();
-    let cleared = clearing.clear(&mut region, &mut log, &mut standing)?;
-    Ok((
-        Stage {
-            region,
-            log,
-            standing,
-            buffer,
-        },
-        doomed,
-        cleared.gone,
-    ))
+    let cleared = clearing.clear(&mut stage.region, &mut stage.log, &mut stage.standing)?;
+    Ok((doomed, cleared.gone.len(), cleared.gone.last().copied()))
 }
 
 fn word(region: &SteadyRegion, at: u64) -> u64 {
@@ -310,28 +288,32 @@ fn times(region: &SteadyRegion, version: u64) -> u64 {
     found
 }
 
-#[test]
-fn all_dead(rt: HostRuntime) -> Result<(), Fail> {
-    let alloc = rt.alloc();
-    let mut stage = prepared(alloc, 60)?;
+fn all_dead_steps(test: &impl Abort, alloc: Global, stage: &mut Stage) -> Result<(), Fail>
+    requires stands { StandsIn (record (steady_state stage.old.region.region)
+        { told = λ t. false }) stage.old.log }
+    requires chunks { stage.old.log.layout.chunks ≡ 4 }
+{
     let chosen = Victim {
         chunk: 0,
         entries: 0,
         words: 0,
     };
-    assert_eq!(rt; found(alloc, &mut stage)?, Some(chosen));
-    let (stage, doomed, gone) = cleared(alloc, stage)?;
-    assert_eq!(rt;
-        (doomed, gone.len(), gone.last()),
-        (60, 60, Some(&name(60)))
-    );
-    assert_eq!(rt; word(&stage.region.region, 512), 0);
+    assert_eq!(*test; found(alloc, stage)?, Some(chosen));
+    assert_eq!(*test; cleared(alloc, stage)?, (60, 60, Some(name(60))));
+    assert_eq!(*test; word(&stage.region.region, 512), 0);
     let standing = &stage.standing;
-    assert_eq!(rt;
+    assert_eq!(*test;
         (standing.copies(name(60)), standing.copies(name(61))),
         (0, 1)
     );
     Ok(())
+}
+
+#[test]
+fn all_dead(rt: HostRuntime) -> Result<(), Fail> {
+    let alloc = rt.alloc();
+    let mut stage = prepared(alloc, 60)?;
+    all_dead_steps(&rt, alloc, &mut stage)
 }
 
 const PICKS: [Pick; 6] = [
@@ -360,35 +342,42 @@ fn images(alloc: Global, region: &SteadyRegion, from: u64, to: u64) -> Result<(u
     Ok((have, seen))
 }
 
-#[test]
-fn one_lives(rt: HostRuntime) -> Result<(), Fail> {
-    let alloc = rt.alloc();
-    let mut stage = prepared(alloc, 59)?;
+fn one_lives_steps(test: &impl Abort, alloc: Global, stage: &mut Stage) -> Result<(), Fail>
+    requires stands { StandsIn (record (steady_state stage.old.region.region)
+        { told = λ t. false }) stage.old.log }
+    requires chunks { stage.old.log.layout.chunks ≡ 4 }
+    requires room { 2176 ≤ stage.old.buffer.room }
+{
     let chosen = Victim {
         chunk: 0,
         entries: 1,
         words: 3,
     };
-    assert_eq!(rt; found(alloc, &mut stage)?, Some(chosen));
+    assert_eq!(*test; found(alloc, stage)?, Some(chosen));
     let begin = stage.region.stamp();
-    let (stage, count) = copied(stage)?;
-    assert_eq!(rt; count, 1);
-    let (stage, count) = copied(stage)?;
-    assert_eq!(rt; count, 0);
-    let (stage, doomed, gone) = cleared(alloc, stage)?;
-    assert_eq!(rt; (doomed, gone.len()), (59, 59));
+    assert_eq!(*test; copied(stage)?, 1);
+    assert_eq!(*test; copied(stage)?, 0);
+    let (doomed, gone, _) = cleared(alloc, stage)?;
+    assert_eq!(*test; (doomed, gone), (59, 59));
     let end = stage.region.stamp();
     let region = &stage.region.region;
-    assert_eq!(rt;
+    assert_eq!(*test;
         (times(region, 60), times(region, 59), word(region, 512)),
         (1, 0, 0)
     );
-    assert_eq!(rt; stage.standing.copies(name(60)), 1);
+    assert_eq!(*test; stage.standing.copies(name(60)), 1);
     // the copy of a line makes 13 steps, and the end of the chunk 3: at each of them the living ones stand
-    assert_eq!(rt; end.saturating_sub(begin), 16);
-    assert_eq!(rt;
+    assert_eq!(*test; end.saturating_sub(begin), 16);
+    assert_eq!(*test;
         images(alloc, region, begin, end.saturating_add(1))?,
         (102, 102)
     );
     Ok(())
+}
+
+#[test]
+fn one_lives(rt: HostRuntime) -> Result<(), Fail> {
+    let alloc = rt.alloc();
+    let mut stage = prepared(alloc, 59)?;
+    one_lives_steps(&rt, alloc, &mut stage)
 }

@@ -20,6 +20,7 @@ use pm_region::{Region, SteadyRegion};
 use recover::recover;
 use std::alloc::Global;
 use std::marker::{Brand, PhantomData};
+use std::process::Abort;
 use std::test::Fail;
 
 // No request takes more of them, nor does a cleaning.
@@ -193,6 +194,89 @@ pub fn accept<B: Board>(
     worker.accept(alloc, region, 7, request).is_ok()
 }
 
+/// Has a put accepted, and makes the turns whose gate refuses it: whether it was accepted, what the last of them answered,
+/// and whether the put is left without an answer.
+fn refused_turn<B: Board>(
+    alloc: Global,
+    region: &mut SteadyRegion,
+    board: &mut B,
+    worker: &mut Worker,
+) -> Result<(bool, Turn, bool), Fail>
+    requires { IsSeated (steady_state region.old) (B.seat board.old).place
+        (B.seat board.old).number (B.view board.old) worker.old }
+    ensures { OnOk result (IsSeated (steady_state region.new) (B.seat board.new).place
+        (B.seat board.new).number (B.view board.new) worker.new) }
+{
+    let request = put(alloc, 29)?;
+    let accepted = accept(alloc, &*region, &*board, worker, request);
+    let (turn, answer) = held_back(alloc, region, board, worker)?;
+    Ok((accepted, turn, answer.is_none() && worker.pending()))
+}
+
+/// Makes the turn that posts the put: what it answered, and whether the put is left without an answer.
+fn post_turn<B: Board>(
+    alloc: Global,
+    region: &mut SteadyRegion,
+    board: &mut B,
+    worker: &mut Worker,
+) -> Result<(Turn, bool), Memory>
+    requires { IsSeated (steady_state region.old) (B.seat board.old).place
+        (B.seat board.old).number (B.view board.old) worker.old }
+    ensures { OnOk result (IsSeated (steady_state region.new) (B.seat board.new).place
+        (B.seat board.new).number (B.view board.new) worker.new) }
+{
+    let (turn, answer) = once(alloc, region, board, worker, &OpenGate)?;
+    Ok((turn, answer.is_none()))
+}
+
+/// Whether request 7 was stored.
+fn is_stored(answer: &Option<Answer>) -> bool {
+    matches!(
+        answer,
+        Some(Answer {
+            number: 7,
+            reply: Reply::Stored,
+            ..
+        })
+    )
+}
+
+/// Makes the turns that write the put: how many stand before the one that answers, whether it says that the put was
+/// stored, and whether anything is pending then.
+fn turns_to_the_answer<B: Board>(
+    alloc: Global,
+    region: &mut SteadyRegion,
+    board: &mut B,
+    worker: &mut Worker,
+) -> Result<(u32, bool, bool), Memory>
+    requires { IsSeated (steady_state region.old) (B.seat board.old).place
+        (B.seat board.old).number (B.view board.old) worker.old }
+{
+    let (before, answer) = turns(alloc, region, board, worker, &OpenGate)?;
+    Ok((before, is_stored(&answer), worker.pending()))
+}
+
+/// The put is held back, posted once the gate is open, and answered.
+fn refused_then_stored<B: Board>(
+    test: &impl Abort,
+    alloc: Global,
+    region: &mut SteadyRegion,
+    board: &mut B,
+    worker: &mut Worker,
+) -> Result<(), Fail>
+    requires { IsSeated (steady_state region.old) (B.seat board.old).place
+        (B.seat board.old).number (B.view board.old) worker.old }
+{
+    let refused = refused_turn(alloc, region, board, worker)?;
+    assert_eq!(*test; refused, (true, Turn::Idle, true));
+    let posted = post_turn(alloc, region, board, worker)?;
+    assert_eq!(*test; posted, (Turn::Moved, true));
+    // the lock, the take, the unlock, the log and the mark; then the finish answers
+    let written = turns_to_the_answer(alloc, region, board, worker)?;
+    assert_eq!(*test; written, (5, true, false));
+    Ok(())
+}
+
 #[test]
 fn a_gate_that_refuses(rt: HostRuntime) -> Result<(), Fail> {
     let alloc = rt.alloc();
@@ -205,28 +289,5 @@ fn a_gate_that_refuses(rt: HostRuntime) -> Result<(), Fail> {
         board: &mut board,
         member: 1,
     };
-    let request = put(alloc, 29)?;
-    assert!(rt; accept(alloc, &region, &seat, &mut worker, request));
-    let held = held_back(alloc, &mut region, &mut seat, &mut worker)?;
-    assert_eq!(rt; held.0, Turn::Idle);
-    assert!(rt; held.1.is_none());
-    assert!(rt; worker.pending());
-    let posted = once(alloc, &mut region, &mut seat, &mut worker, &OpenGate)?;
-    assert_eq!(rt; posted.0, Turn::Moved);
-    assert!(rt; posted.1.is_none());
-    // the lock, the take, the unlock, the log and the mark; then the finish answers
-    let written = turns(alloc, &mut region, &mut seat, &mut worker, &OpenGate)?;
-    assert_eq!(rt; written.0, 5);
-    assert!(rt;
-        matches!(
-            &written.1,
-            Some(Answer {
-                number: 7,
-                reply: Reply::Stored,
-                ..
-            })
-        )
-    );
-    assert!(rt; !worker.pending());
-    Ok(())
+    refused_then_stored(&rt, alloc, &mut region, &mut seat, &mut worker)
 }

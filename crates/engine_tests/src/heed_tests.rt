@@ -5,6 +5,7 @@ ghost use Rattle.fs_model.specs.declared.model.Request.{Request};
 ghost use Rattle.fs_model.specs.Cells.{key_of};
 ghost use Rattle.core_worker.specs.Supplies.{HasKeptRoom};
 ghost use Rattle.group_laws.specs.Places.{owner};
+ghost use Rattle.thread_engine.specs.WorkStates.{IsAtWork, sight_by, stands_at};
 ghost use Rattle.engine_tests.specs.WorkerTrials.{IsSeated};
 
 use crate::gate_tests::seated;
@@ -12,7 +13,7 @@ use crate::worker_tests::attached;
 use core_worker::{OpenGate, Worker};
 use fs_model::{Key, Request, Value};
 use group_board::{Board, LocalSeat};
-use pm_region::SteadyRegion;
+use pm_region::{Region, SteadyRegion};
 use std::alloc::Global;
 use std::collections::VecDeque;
 use std::sync::Wait;
@@ -30,23 +31,39 @@ fn queue_of(alloc: Global, key: Key) -> Result<VecDeque<(u64, Request)>, Fail>
     Ok(queue)
 }
 
-// Works such a queue off, where the others have said so much of memory. It gives how many requests are left, and
-// whether one was answered.
+// Works a job off, where the others have said so much of memory. It gives how many requests are left, and whether one
+// was answered.
+fn work_off<B: Board, P: Region>(
+    rt: &impl Wait,
+    alloc: Global,
+    job: &mut CoreJob<B, P>,
+    short: bool,
+) -> (u64, bool)
+    requires { IsAtWork (B.seat job.old.seat)
+        (stands_at (sight_by B.view B.trail B.at) P.state job.old) }
+{
+    job.work(rt, alloc, &OpenGate, &AtomicBool::new(short));
+    let answer = job.worker.next_answer();
+    (job.queue.len() as u64, answer.is_some())
+}
+
+// Works such a queue off, at this seat. The key is passed since what is known of it must be said of what is passed.
 fn worked<B: Board + Drop>(
     rt: &impl Wait,
     alloc: Global,
     seat: B,
     piece: SteadyRegion,
     worker: Worker,
-    key: Key,
+    queue: VecDeque<(u64, Request)>,
+    _key: Key,
     short: bool,
-) -> Result<(u64, bool), Fail>
+) -> (u64, bool)
     requires seated { IsSeated (steady_state piece) (B.seat seat).place (B.seat seat).number
         (B.view seat) worker }
     requires rule { HasKeptRoom worker }
-    requires own { owner (B.seat seat).place key ≡ (B.seat seat).number }
+    requires own { owner (B.seat seat).place _key ≡ (B.seat seat).number }
+    requires queue { (r : Request) × (key_of r ≡ _key) × (queue.items ≡ (7, r) ∷ []) }
 {
-    let queue = queue_of(alloc, key)?;
     let mut job = CoreJob {
         seat,
         piece,
@@ -54,11 +71,11 @@ fn worked<B: Board + Drop>(
         queue,
         pass: None,
     };
-    job.work(rt, alloc, &OpenGate, &AtomicBool::new(short));
-    Ok((job.queue.len() as u64, job.worker.next_answer().is_some()))
+    work_off(rt, alloc, &mut job, short)
 }
 
 fn worked_at_board(rt: &impl Wait, alloc: Global, short: bool) -> Result<(u64, bool), Fail> {
+    let queue = queue_of(alloc, 29)?;
     let region = attached(alloc)?;
     let Some((worker, mut board)) = seated(alloc, &region)? else {
         return Ok((0, false));
@@ -67,7 +84,7 @@ fn worked_at_board(rt: &impl Wait, alloc: Global, short: bool) -> Result<(u64, b
         board: &mut board,
         member: 1,
     };
-    worked(rt, alloc, seat, region, worker, 29, short)
+    Ok(worked(rt, alloc, seat, region, worker, queue, 29, short))
 }
 
 #[test]

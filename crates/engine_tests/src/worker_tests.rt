@@ -5,12 +5,14 @@ ghost use Rattle.pm_region.specs.Steady.{steady_state};
 ghost use Rattle.recover.specs.Regions.{IsCertain};
 ghost use Rattle.engine_tests.specs.WorkerTrials.{MayAccept};
 
-use core_worker::Worker;
+use core_index::CoreIndex;
+use core_worker::{Answer, Worker};
 use fs_errors::Memory;
 use fs_model::{Key, Reply, Request};
 use log_entry::EntryName;
+use log_standing::Standing;
 use pm_region::{Pick, Region, SplitRegion, SteadyRegion};
-use recover::recover;
+use recover::{CoreStart, recover};
 use std::alloc::Global;
 use std::test::Fail;
 
@@ -95,78 +97,96 @@ fn opened(alloc: Global, region: &SteadyRegion, core: u32) -> Result<Option<Work
     Ok(Some(worker))
 }
 
-/// What a get of one of the core's keys answers.
-fn get(alloc: Global, region: &SteadyRegion, core: u32, key: Key) -> Result<Option<Reply>, Fail>
+/// Whether it is an answer with this value, or with none where the key has none.
+fn shows(answer: &Option<Answer>, value: Option<&[u8]>) -> bool {
+    match answer {
+        None => false,
+        Some(answer) => match (&answer.reply, value) {
+            (Reply::Value(found), Some(bytes)) => found.bytes() == bytes,
+            (Reply::Absent, None) => true,
+            _ => false,
+        },
+    }
+}
+
+/// Whether a get of one of core 5's keys answers this value, or none.
+fn get(alloc: Global, region: &SteadyRegion, key: Key, value: Option<&[u8]>) -> Result<bool, Fail>
     requires first { (steady_state region.now).frame.first ≡ 0 }
     requires tells { IsTelling (steady_state region.now) }
     requires certain { IsCertain (steady_state region.now) }
-    requires own { key % 8 ≡ core }
+    requires own { key % 8 ≡ 5 }
 {
-    let Some(mut worker) = opened(alloc, region, core)? else {
-        return Ok(None);
+    let Some(mut worker) = opened(alloc, region, 5)? else {
+        return Ok(false);
     };
     if worker
         .accept(alloc, region, 7, Request::Get { key })
         .is_err()
     {
-        return Ok(None);
+        return Ok(false);
     }
-    match worker.next_answer() {
-        None => Ok(None),
-        Some(answer) => Ok(Some(answer.reply)),
-    }
+    let answer = worker.next_answer();
+    Ok(shows(&answer, value))
 }
 
-/// Whether it is this value.
-fn is_value(reply: &Option<Reply>, bytes: &[u8]) -> bool {
-    match reply {
-        Some(Reply::Value(value)) => value.bytes() == bytes,
-        _ => false,
+/// The values of core 5's keys: two of them stand in the log of the next core, and one key has none.
+fn has_values(alloc: Global, region: &SteadyRegion) -> Result<[bool; 4], Fail>
+    requires first { (steady_state region.now).frame.first ≡ 0 }
+    requires tells { IsTelling (steady_state region.now) }
+    requires certain { IsCertain (steady_state region.now) }
+{
+    Ok([
+        get(alloc, region, 5, Some(b"abc"))?,
+        get(alloc, region, 13, Some(b"d"))?,
+        get(alloc, region, 21, Some(b"b"))?,
+        get(alloc, region, 29, None)?,
+    ])
+}
+
+/// What core 5 gives back that is stopped as soon as it is opened.
+fn stopped(alloc: Global, region: &SteadyRegion) -> Result<Option<CoreStart>, Fail>
+    requires first { (steady_state region.now).frame.first ≡ 0 }
+    requires tells { IsTelling (steady_state region.now) }
+    requires certain { IsCertain (steady_state region.now) }
+{
+    let Some(worker) = opened(alloc, region, 5)? else {
+        return Ok(None);
+    };
+    if worker.pending() || worker.leading() {
+        return Ok(None);
     }
+    Ok(Some(worker.stop()))
+}
+
+/// What waits for core 5, and then for the next one, at two times.
+fn notices(index: &mut CoreIndex) -> [Option<EntryName>; 3] {
+    [
+        index.next_notice(5),
+        index.next_notice(6),
+        index.next_notice(6),
+    ]
 }
 
 #[test]
 fn the_second_group(rt: HostRuntime) -> Result<(), Fail> {
     let alloc = rt.alloc();
     let region = attached(alloc)?;
-    // two of its values stand in the log of the next core
-    assert!(rt; is_value(&get(alloc, &region, 5, 5)?, b"abc"));
-    assert!(rt; is_value(&get(alloc, &region, 5, 13)?, b"d"));
-    assert!(rt; is_value(&get(alloc, &region, 5, 21)?, b"b"));
-    assert!(rt; matches!(get(alloc, &region, 5, 29)?, Some(Reply::Absent)));
-    // of the two old entries the one in the own log was told
-    let Some(worker) = opened(alloc, &region, 5)? else {
-        assert!(rt; false, "core 5 opens");
+    assert_eq!(rt; has_values(alloc, &region)?, [true; 4]);
+    let Some(mut start) = stopped(alloc, &region)? else {
+        assert!(rt; false, "core 5 opens, and is idle");
         return Ok(());
     };
-    if worker.pending() || worker.leading() {
-        assert!(rt; false, "a worker that opens is idle");
-        return Ok(());
-    }
+    // of the two old entries the one in the own log was told
     let told = EntryName {
         key: 21,
         version: 1,
     };
-    let mut index = worker.stop().index;
-    assert!(rt; index.next_notice(5).is_none());
-    assert!(rt; index.next_notice(6) == Some(told));
-    assert!(rt; index.next_notice(6).is_none());
+    assert_eq!(rt; notices(&mut start.index), [None, Some(told), None]);
     Ok(())
 }
 
-#[test]
-fn what_stands_in_the_log(rt: HostRuntime) -> Result<(), Fail> {
-    let alloc = rt.alloc();
-    let region = attached(alloc)?;
-    let Some(worker) = opened(alloc, &region, 5)? else {
-        assert!(rt; false, "core 5 opens");
-        return Ok(());
-    };
-    if worker.pending() || worker.leading() {
-        assert!(rt; false, "a worker that opens is idle");
-        return Ok(());
-    }
-    // the newest value of key 21, and the old one of key 13, which is dead
+/// In how many copies the newest value of key 21 stands, and the old one of key 13, and which of them is dead.
+fn copies(standing: &Standing) -> [(u64, bool); 2] {
     let newest = EntryName {
         key: 21,
         version: 2,
@@ -175,11 +195,21 @@ fn what_stands_in_the_log(rt: HostRuntime) -> Result<(), Fail> {
         key: 13,
         version: 1,
     };
-    let start = worker.stop();
-    assert_eq!(rt; start.standing.copies(newest), 1);
-    assert!(rt; !start.standing.is_dead(newest));
-    assert_eq!(rt; start.standing.copies(old), 1);
-    assert!(rt; start.standing.is_dead(old));
+    [
+        (standing.copies(newest), standing.is_dead(newest)),
+        (standing.copies(old), standing.is_dead(old)),
+    ]
+}
+
+#[test]
+fn what_stands_in_the_log(rt: HostRuntime) -> Result<(), Fail> {
+    let alloc = rt.alloc();
+    let region = attached(alloc)?;
+    let Some(start) = stopped(alloc, &region)? else {
+        assert!(rt; false, "core 5 opens, and is idle");
+        return Ok(());
+    };
+    assert_eq!(rt; copies(&start.standing), [(1, false), (1, true)]);
     assert_eq!(rt; start.standing.settled(), None);
     Ok(())
 }

@@ -1,7 +1,7 @@
 use Rattle.std.proofs.Common.{◌≡◌, ℕ, ◌<◌, ◌≤◌, List, [], ◌∷◌, ◌++◌, sym, ◌∙◌, ap, subst, arith, lit<, lit≤}
 use Rattle.log_entry.specs.declared.entry.Body.TheVariants.{Embedded}
 use Rattle.log_entry.specs.Spelling.{HasSpelling}
-use Rattle.core_log_tests.proofs.cleaning_tests.with_entry.Goals as goal
+use Rattle.core_log_tests.proofs.cleaning_tests.write_version.Goals as goal
 
 spells : (v : ℕ) (bytes : List ℕ) → 1 ≤ v → v < 100 → bytes ≡ 97 ∷ [] → HasSpelling (record { key = 1; version = v; body = Embedded bytes })
 spells v bytes low high is = subst (λ (b : List ℕ). HasSpelling (record { key = 1; version = v; body = Embedded b })) (sym is) (record { key = lit< tt; fits = (low, omega (arith, high), lit≤ tt, (lit< tt, tt)) })

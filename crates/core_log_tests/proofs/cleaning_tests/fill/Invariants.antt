@@ -1,7 +1,7 @@
 use Rattle.std.proofs.Common.{◌≡◌, ◌≤◌, false}
 use Rattle.pm_region.specs.Steady.{steady_state}
 use Rattle.core_log.specs.Log.{StandsIn}
-use Rattle.core_log_tests.proofs.cleaning_tests.prepared.Given as goal
+use Rattle.core_log_tests.proofs.cleaning_tests.fill.Given as goal
 
 abbrev pub invariant-loop-version : goal.invariant-loop-version
 invariant-loop-version l = record {
