@@ -1,7 +1,8 @@
 -- A run on threads: from its supplies, the pieces of the split, what the cores gave back and the joined region to what it comes to.
-use Rattle.std.proofs.Common.{◌≡◌, ℕ, ◌+◌, ◌-◌, ◌*◌, ◌/◌, ◌<◌, ◌≤◌, Bool, true, false, List, [], ◌++◌, length, Option, Some, None, refl, sym, ◌∙◌, ap, subst, arith, append-nil, nat_lt, slice_index_or}
+use Rattle.std.proofs.Common.{◌≡◌, ℕ, ◌+◌, ◌-◌, ◌*◌, ◌/◌, ◌<◌, ◌≤◌, Bool, true, false, List, [], ◌++◌, length, take, Option, Some, None, refl, sym, ◌∙◌, ap, subst, arith, append-nil, nat_lt, slice_index_or}
 use Rattle.std.specs.List.{slice_get}
 use Rattle.std.proofs.lemmas.Bool.{ltb-true, lt-ltb}
+use Rattle.std.proofs.lemmas.List.{take-append-le}
 use Rattle.std.proofs.lemmas.Nat.{div-add-mod'}
 use Rattle.fs_model.specs.declared.model.Request.{Request}
 use Rattle.pm_region.specs.State.{State, Frame, IsTold, InRange, cell_now}
@@ -33,9 +34,11 @@ use Rattle.group_engine.specs.Replayed.{StandsAsFound, BeginsAt, report_in}
 use Rattle.group_engine.specs.Reports.{IsReport}
 use Rattle.thread_engine.specs.declared.muster.Returned.{Returned}
 use Rattle.thread_engine.specs.declared.run_apart.Supplies.{Supplies}
-use Rattle.thread_engine.specs.CoreRuns.{HasView, LoadsLook}
-use Rattle.thread_engine.specs.Windows.{dealt_from}
+use Rattle.thread_engine.specs.CoreRuns.{HasView, LoadsLook, requests_to}
+use Rattle.thread_engine.specs.Windows.{dealt_from, dealt_by}
 use Rattle.thread_engine.specs.Cuts.{steps_of, IsShown}
+use Rattle.thread_engine.specs.Between.{RestsWith, RestsEach, HoldsBehind}
+use Rattle.answer_queue.specs.declared.window_sizes.TheConstants.{WINDOW}
 use Rattle.thread_engine.specs.Collected.{AreBlank, restamped, any_stopped, end_by}
 use Rattle.thread_engine.specs.RanApart.{RanApart}
 use Rattle.thread_engine.specs.Manned.{AreTokensOf, AllEnded}
@@ -44,7 +47,9 @@ use Rattle.thread_engine.specs.Supplied.{IsSupplied, ArePartCuts}
 use Rattle.thread_engine.proofs.Blocks.{tokens_of}
 use Rattle.thread_engine.proofs.CutOrders.{shown_orders, orders_shown, orders_made}
 use Rattle.thread_engine.proofs.Doubts.{one_of}
-use Rattle.thread_engine.proofs.LastState.{CoreEnd, IsEnd, ChainLaw, OpeningKeys, OpeningDoubts, RefusalLaw, MomentLaw, CutLaw, kept_is, ran}
+use Rattle.thread_engine.proofs.LastState.{CoreEnd, IsEnd, ChainLaw, OpeningKeys, OpeningDoubts, RefusalLaw, MomentLaw, CutLaw, kept_is, ran_resting}
+use Rattle.thread_engine.proofs.Behind.{holds_behind}
+use Rattle.thread_engine.proofs.Resting.{windows_low}
 use Rattle.thread_engine.proofs.Rejoining.{StillParted, region_rejoined, region_superblock, next_joined}
 use Rattle.thread_engine.proofs.Places.{get_low, get_at, get_index}
 use Rattle.thread_engine.proofs.RunEnds.{shown_groups, shown_reached, shown_view, owns, first_rest, core_end}
@@ -110,12 +115,12 @@ module _ {P : Type 0} (state : P → State) (refused : Bool) (s : State) (word :
     )
 
     -- what they gave back
-    module _ (back : Returned P) (in_all : Bool) (blanks first_kept : List (Option Stamped)) (A : AllWent state refused pieces x.crew given in_all back blanks first_kept) where
+    module _ (back : Returned P) (windows : ℕ) (in_all : Bool) (blanks first_kept : List (Option Stamped)) (A : AllWent state refused pieces x.crew given windows in_all back blanks first_kept) where
       -- of one core
       abbrev One : ℕ → Type 0
       One c = (p : P) × (t : SeatToken) × (w : Worker) × (q : P) × (u : SeatToken) × (y : Worker)
           × (slice_get pieces c ≡ Some p) × (slice_get x.crew.tokens.items c ≡ Some t) × (slice_get x.crew.workers.items c ≡ Some w)
-          × (slice_get back.pieces.items c ≡ Some q) × (slice_get back.tokens.items c ≡ Some u) × (slice_get back.workers.items c ≡ Some y) × Went state refused p t w (dealt_from (length pieces) c 0 A.dealt) (slice_index_or A.outs c []) q u y
+          × (slice_get back.pieces.items c ≡ Some q) × (slice_get back.tokens.items c ≡ Some u) × (slice_get back.workers.items c ≡ Some y) × Went state refused p t w (dealt_from (length pieces) c 0 A.dealt) (slice_index_or A.outs c []) windows (dealt_by (length pieces) c A.dealt) q u y
 
       one : (c : ℕ) → c < l.cores → One c
       one c low =
@@ -192,7 +197,11 @@ module _ {P : Type 0} (state : P → State) (refused : Bool) (s : State) (word :
         -- core c's end, its worker, its piece, and its steps
         abbrev Full : ℕ → CoreEnd refused → Type 0
         Full c y = IsEnd o r refused t shown given c y × (slice_get back.workers.items c ≡ Some y.last.worker) × ((q : P) × (slice_get back.pieces.items c ≡ Some q) × (state q ≡ y.last.region))
-            × (steps_of (order (group_of l c)) (member_of l c) ≡ y.last.trail.steps) × (y.outs ≡ slice_index_or A.outs c [])
+            × (steps_of (order (group_of l c)) (member_of l c) ≡ y.last.trail.steps) × (y.outs ≡ slice_index_or A.outs c []) × RestsEach y.seat refused windows (λ i. requests_to l c (take (i * WINDOW) given)) y.first y.last y.works
+
+        -- what had joined behind a window
+        joined_by : (c i : ℕ) → i ≤ windows → dealt_by (length pieces) c A.dealt i ≡ requests_to l c (take (i * WINDOW) given)
+        joined_by c i less = ap (λ n. dealt_by n c A.dealt i) piece_count ∙ ap (requests_to l c) (sym (ap (take (i * WINDOW)) A.split ∙ take-append-le (i * WINDOW) A.dealt A.rest (windows_low i windows (length A.dealt) less A.within)))
 
         -- where one doesn't wind down, all were dealt
         all_there : (c : ℕ) (y : Worker) → slice_get back.workers.items c ≡ Some y → y.winds_down ≡ false → A.rest ≡ []
@@ -212,8 +221,9 @@ module _ {P : Type 0} (state : P → State) (refused : Bool) (s : State) (word :
             let loads = subst (λ (w : Group). LoadsLook (view_of w (member_of l c)) (trail_at O.4.own)) (S.manned.opened_on (group_of l c) b.0 b.1) made.1 in
             let taken : TakesPiece t (state O.3) = subst (λ (y : P). TakesPiece t (state y)) (get_index back.pieces.items c O.3 O.3 O.9) (takes c O.3 (get_low back.pieces.items c O.3 O.9)) in
             let end = core_end state refused o r is_layout given tables x.crew pieces x.cuts.items S.manned table_count S.workers.each (seat_there s word r o F B x.crew.workers.items S.seated worker_count) (start_there s word r o F B) A.dealt A.rest A.split piece_count piece_at cuts_are
-            c low O.0 O.1 O.2 O.6 O.7 O.8 t shown O.3 O.4 O.5 (slice_index_or A.outs c []) O.12 taken view loads (all_there c O.5 O.11) in
-            (end.0, (end.1, O.11, (O.3, O.9, refl), made.0, refl))
+            c low O.0 O.1 O.2 O.6 O.7 O.8 t shown O.3 O.4 O.5 (slice_index_or A.outs c []) windows (dealt_by (length pieces) c A.dealt) O.12 taken view loads (all_there c O.5 O.11) in
+            let rests = λ (i : ℕ) (less : i ≤ windows). subst (λ j. RestsWith (seat_of O.1.own) refused j (core_stands state O.0 O.1 O.2 []) (core_stands state O.3 O.4 O.5 O.12.left) O.12.works.works) (joined_by c i less) (O.12.rests i less) in
+            (end.0, (end.1, O.11, (O.3, O.9, refl), made.0, refl, rests))
 
         chosen_by : (c : ℕ) (b : Bool) → nat_lt c l.cores ≡ b → Option (CoreEnd refused)
         chosen_by c true e = Some (ended c (ltb-true c l.cores e)).0
@@ -242,14 +252,22 @@ module _ {P : Type 0} (state : P → State) (refused : Bool) (s : State) (word :
         outs_few = (let less = A.few in let n = piece_count in omega (arith, less, n))
 
         module _ (chain : ChainLaw) (keys_open : OpeningKeys) (doubts_open : OpeningDoubts) where
+          abbrev Ran : Outcome → Type 0
+          Ran out = (R : RanApart s word refused r given t out) × ((i : ℕ) → i ≤ windows → HoldsBehind R.origin r refused R.last R.ran.cores (i * WINDOW)) × (in_all ≡ true → HoldsBehind R.origin r refused R.last R.ran.cores (length given))
+
           -- what it comes to
           pub run_ran : length blanks ≡ length given → AreBlank blanks → (mid : State) → StillParted s mid x.cuts.items → Joined mid t → ComesNext state mid t back.pieces.items → s.frame.parted ≡ false → mid.frame.opens ≡ s.frame.opens → mid.frame.refusals ≡ s.frame.refusals → t.frame.opens ≡ mid.frame.opens
-              → RefusalLaw → MomentLaw → CutLaw → (out : Outcome) → IsReport (restamped t.stamp first_kept) (report_in out) → out.end ≡ end_by in_all (any_stopped back.workers.items) → RanApart s word refused r given t out
+              → RefusalLaw → MomentLaw → CutLaw → (out : Outcome) → IsReport (restamped t.stamp first_kept) (report_in out) → out.end ≡ end_by in_all (any_stopped back.workers.items) → Ran out
           run_ran places_are blank mid D J N whole_is opens refusals opens' refusal moment at_cut out report end =
-              ran chain keys_open doubts_open o B.is is_layout r refused t shown given groups ends all back.workers.items blanks (λ c low. (full c low).2.1) few places_are blank
+              let R = ran_resting chain keys_open doubts_open o B.is is_layout r refused t shown given groups ends all back.workers.items blanks (λ c low. (full c low).2.1) few places_are blank
               A.outs outs_are outs_few first_kept A.taken
               s word out B (region_rejoined s word r o F B x.cuts.items cuts_are mid t D J whole_is opens refusals opens') (λ g low. (at_group g low).2)
               (region_superblock s word r o F B x.cuts.items cuts_are mid t D J) (λ c low. (full c low).2.0.piece.piece.faults)
               (next_joined s mid t x.cuts.items D J state back.pieces.items l.cores (λ c low. (full c low).0.last.region) N (A.pieces_count ∙ piece_count)
               (λ c low q at. (let f = (full c low).2.2 in ap state (one_of q f.0 (sym at ∙ f.1)) ∙ f.2)))
               (subst (λ ys. IsReport ys (report_in out)) (kept_is chain keys_open doubts_open o B.is is_layout r refused t shown given groups ends all back.workers.items blanks (λ c low. (full c low).2.1) few places_are blank A.outs outs_are outs_few first_kept A.taken) report) in_all end refusal moment at_cut order (λ c low. (full c low).2.3) order_shown (λ is c low. A.memory is c (full c low).0.last.worker (full c low).2.1) (λ is c low. A.wound is c (full c low).0.last.worker (full c low).2.1)
+              windows (λ c low. (full c low).2.5) in (
+                R.0,
+                (λ i less. holds_behind chain doubts_open R.0.origin r refused R.0.last R.0.begins.is R.0.ran.layout R.0.ran.cores (i * WINDOW) (R.1 i less)),
+                (λ is. holds_behind chain doubts_open R.0.origin r refused R.0.last R.0.begins.is R.0.ran.layout R.0.ran.cores (length given) (R.2 is)),
+              )

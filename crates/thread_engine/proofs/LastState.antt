@@ -1,8 +1,9 @@
 -- The state in which a run on threads ends, made of what each core has then.
-use Rattle.std.proofs.Common.{◌≡◌, ◌≢◌, ◌⊎◌, inl, inr, ℕ, zero, suc, ◌+◌, ◌*◌, ◌≤◌, ◌<◌, ◌==◌, Bool, true, false, List, [], ◌∷◌, ◌++◌, map, length, slice_index_or, Option, Some, None, refl, sym, ◌∙◌, ap, subst, arith, append-nil, append_assoc}
+use Rattle.std.proofs.Common.{◌≡◌, ◌≢◌, ◌⊎◌, inl, inr, ℕ, zero, suc, ◌+◌, ◌*◌, ◌≤◌, ◌<◌, ◌==◌, Bool, true, false, List, [], ◌∷◌, ◌++◌, map, length, take, slice_index_or, Option, Some, None, refl, sym, ◌∙◌, ap, subst, arith, append-nil, append_assoc}
 use Rattle.std.proofs.lemmas.Bool.{eq-eqb}
 use Rattle.std.proofs.lemmas.Nat.{div-mul-add, mod-mul-add}
 use Rattle.std.specs.List.{AllByRecursion, slice_get, enumerate_from}
+use Rattle.std.proofs.lemmas.List.{take_all}
 use Rattle.std.proofs.lemmas.List.Elements.{filter-append}
 use Rattle.fs_model.specs.declared.model.Request.{Request}
 use Rattle.fs_model.specs.Cells.{key_of}
@@ -62,6 +63,7 @@ use Rattle.thread_engine.specs.Collected.{AreBlank, restamped, any_stopped, end_
 use Rattle.thread_engine.specs.RanApart.{stamped, KeepsAnswers, TakesOnce, Rejoined, RanApart}
 use Rattle.thread_engine.specs.Takings.{TakenAs}
 use Rattle.answer_cores.specs.Passes.{all_answers}
+use Rattle.answer_queue.specs.declared.window_sizes.TheConstants.{WINDOW}
 use Rattle.std.proofs.lemmas.List.Sorted.{IsPermutation-sym}
 use Rattle.thread_engine.proofs.Places.{any_at, any_in}
 use Rattle.thread_engine.proofs.KeptAnswers.{given_for, fixed_for, from_one, blank_none, stored_long}
@@ -71,9 +73,11 @@ use Rattle.thread_engine.specs.WorkStates.{WorkState, IsAtWork, Works, HasEnded,
 use Rattle.thread_engine.specs.WorkLaws.{KeepsDoubts, WorksOff, HasRested, hands_at}
 use Rattle.thread_engine.specs.CoreRuns.{requests_to, fixed_in, HasView, LoadsLook, CoreRun, AllRan}
 use Rattle.thread_engine.specs.Cuts.{steps_of, IsShown, Cut, finished_at, MayLeaveAt}
+use Rattle.thread_engine.specs.Between.{RestsWith, RestsEach, RestsAt}
 use Rattle.thread_engine.proofs.Doubts.{none_some, one_of, clash}
 use Rattle.thread_engine.proofs.PieceStands.{joined_licence}
 use Rattle.thread_engine.proofs.Rested.{has_rested}
+use Rattle.thread_engine.proofs.WorkRests.{rests_last}
 use Rattle.thread_engine.proofs.SameViews.{key_shown, shown_licence}
 use Rattle.thread_engine.proofs.SpotOrder.{spot_there, spot_last, spots_grow}
 use Rattle.thread_engine.proofs.Stops.{chain_frame, ended_because}
@@ -749,3 +753,23 @@ module _ (chain : ChainLaw) (keys_open : OpeningKeys) (doubts_open : OpeningDoub
         fault = has_stopped;
         complete = goes_on;
       }
+
+      -- at rest in the end
+      last_rest : in_all ≡ true → (c : ℕ) (low : c < l.cores) → RestsWith (x c low).seat refused (requests_to l c (take (length given) given)) (x c low).first (x c low).last (x c low).works
+      last_rest is c low =
+          let y = x c low in
+          let runs = memory is c low in
+          let joined = joined_in y.seat refused y.first y.last y.works in
+          let dealt = sym (append-nil joined) ∙ ap (λ ys. joined ++ ys) (sym ((X c low).whole runs)) ∙ (X c low).dealt in
+          rests_last y.seat refused (requests_to l c (take (length given) given)) y.first y.last y.works (dealt ∙ ap (requests_to l c) (sym (take_all (length given) given (omega arith))))
+          (record { work = (X c low).work; ended = (X c low).ended; runs = runs; doubts = (chain y.seat refused y.first y.last (X c low).at_work (doubts c low) y.works).2; none = (X c low).none })
+
+      -- behind m of its requests all its cores rested
+      abbrev pub AllRestAt : RanApart s word refused r given t out → ℕ → Type 0
+      AllRestAt R m = (c : ℕ) (low : c < R.last.layout.cores) → RestsAt (R.ran.cores c low) m
+
+      -- and where they rested
+      pub ran_resting : (windows : ℕ) → ((c : ℕ) (low : c < l.cores) → RestsEach (x c low).seat refused windows (λ i. requests_to l c (take (i * WINDOW) given)) (x c low).first (x c low).last (x c low).works)
+          → (R : RanApart s word refused r given t out) × ((i : ℕ) → i ≤ windows → AllRestAt R (i * WINDOW)) × (in_all ≡ true → AllRestAt R (length given))
+      unfolding ran all_ran core_run
+      ran_resting windows rests = (ran, (λ i less c low. rests c low i less), last_rest)

@@ -1,4 +1,5 @@
 mod WorkMoves
+mod WorkRests
 mod OwnTokens
 mod Doubts
 mod WorkChains
@@ -18,6 +19,7 @@ mod Spots
 mod CutKeys
 mod CutOrders
 mod LastState
+mod Behind
 mod KeptAnswers
 mod WindowAnswers
 mod WindowJob
@@ -38,6 +40,7 @@ mod Deals
 mod Changes
 mod WindowWork
 mod WindingDown
+mod Resting
 mod Supplying
 mod Went
 mod RunEnds

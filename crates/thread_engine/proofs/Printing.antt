@@ -1,11 +1,11 @@
 -- What an outlet over a sink wrote, window by window.
-use Rattle.std.proofs.Common.{◌≡◌, ◌≢◌, inl, inr, ℕ, ◌+◌, ◌≤◌, List, [], ◌∷◌, ◌++◌, Bool, true, false, Option, Some, None, refl, sym, ◌∙◌, ap, subst, append-nil, append_assoc, arith}
+use Rattle.std.proofs.Common.{◌≡◌, ◌≢◌, inl, inr, ℕ, ◌≤◌, List, [], ◌∷◌, ◌++◌, length, Bool, true, false, Option, Some, None, refl, sym, ◌∙◌, ap, subst, append-nil, append_assoc, arith}
 use Rattle.fs_model.specs.declared.model.Reply.{Reply}
 use Rattle.fs_model.specs.declared.model.Request.{Request}
 use Rattle.pm_region.specs.State.{State, Rose, counted}
 use Rattle.pm_region.specs.Split.{IsRevalidated, IsOutOfPlace}
 use Rattle.fs_text.specs.Output.{ended, reply_line, replies_text}
-use Rattle.fs_text.specs.Streams.{Takes, TakesUpTo, TakesPrefix}
+use Rattle.fs_text.specs.Streams.{Takes, TakesPrefix}
 use Rattle.fs_text.proofs.Streaming.{prefix_longer, prefix_none, prefix_of, takes_more, takes_none}
 use Rattle.thread_engine.specs.declared.text_outlet.Unwritten.{Unwritten}
 use Rattle.thread_engine.specs.declared.text_outlet.Unwritten.TheVariants.{Astray, SinkFault, Memory}
@@ -171,12 +171,17 @@ module _ {T S : Type 0} (handle : T → ℕ) (sink : T → S) (cause : T → Opt
       by true e = (H.whole e).1.0 ∙ R.3
       by false e = ap handle (H.short e).3 ∙ R.3
 
-    pub has_printed : Done
-    has_printed = by all heard refl refl where
-      by : (x y : Bool) → all ≡ x → heard ≡ y → Done
-      by true true e f = went e f
-      by true false e f = stopped e f
-      by false y e f = short e
+    -- what is out are the windows that were taken
+    pub printed : (x : Done) × (x.out.windows ≡ H.windows)
+    unfolding went stopped short out_with
+    printed = by all heard refl refl where
+      by : (x y : Bool) → all ≡ x → heard ≡ y → (d : Done) × (d.out.windows ≡ H.windows)
+      by true true e f = (went e f, refl)
+      by true false e f = (stopped e f, refl)
+      by false y e f = (short e, refl)
+
+    abbrev pub has_printed : Done
+    has_printed = printed.0
 
   -- What a run came to whose outlet wrote to a sink, with the cause where a window's text is not out.
   module _ {s : State} {word : ℕ → ℕ} {refused : Bool} {r : Recovered} {asked : List Request} {t : State} {x : RunOutcome} {a b : T} (W : RanInWindows printing s word refused r asked t x a b) (why : Option Unwritten)
@@ -186,6 +191,10 @@ module _ {T S : Type 0} (handle : T → ℕ) (sink : T → S) (cause : T → Opt
 
     P : HasPrinted taken flushed count all x.heard x.outcome.replies.items W.before (sink a) W.behind (sink b) (cause b)
     P = has_printed all x.heard x.outcome.replies.items W.before a W.behind b W.hands
+
+    windows_are : P.out.windows ≡ W.hands.windows
+    unfolding P
+    windows_are = (printed all x.heard x.outcome.replies.items W.before a W.behind b W.hands).1
 
     -- a window's text is out, or there is a cause
     heard_by : why ≡ None → x.heard ≡ true
@@ -215,6 +224,8 @@ module _ {T S : Type 0} (handle : T → ℕ) (sink : T → S) (cause : T → Opt
       unasked = W.unasked;
       asked_since = W.asked_since;
       out = P.out;
+      between = λ i low. W.between i (subst (λ ws. i ≤ length ws) windows_are low);
+      ended = W.ended;
       writes = λ whole is. P.writes whole (heard_by is);
       sunk = λ is. (let U = unheard_by SinkFault is in P.sunk U.0 U.1);
       found = λ whole here. (let rose = P.found whole (λ e is. here (some_ e ∙ is)) in let first = W.unasked in let last = W.asked_since in omega (arith, rose, first, last));

@@ -190,7 +190,7 @@ module _ {P : Type 0} (state : P → State) (refused : Bool) (o : Origin) (r : R
         }
 
     -- and at the end
-    module _ (s : State) (group : ℕ → Group) (b : P) (u : SeatToken) (y : Worker) (outs : List Answer) (G : Went state refused p t w (dealt_from (length pieces) c 0 dealt) outs b u y) (joined : TakesPiece s (state b)) (shown : HasView (group (group_of l c)) (member_of l c) (view_at u.own))
+    module _ (s : State) (group : ℕ → Group) (b : P) (u : SeatToken) (y : Worker) (outs : List Answer) (windows : ℕ) (due : ℕ → List (ℕ × Request)) (G : Went state refused p t w (dealt_from (length pieces) c 0 dealt) outs windows due b u y) (joined : TakesPiece s (state b)) (shown : HasView (group (group_of l c)) (member_of l c) (view_at u.own))
         (loads : LoadsLook (view_of (opened (place_at l (group_of l c)) o.found) (member_of l c)) (trail_at u.own)) (whole : y.winds_down ≡ false → rest ≡ []) where
       -- the requests of its keys
       pub all_dealt : {joined : List (ℕ × Request)} → joined ≡ dealt_from (length pieces) c 0 dealt → joined ++ dealt_from l.cores c (length dealt) rest ≡ requests_to l c given

@@ -4,6 +4,7 @@ use Rattle.std.specs.List.{slice_get, AllByRecursion}
 use Rattle.fs_model.specs.declared.model.Request.{Request}
 use Rattle.pm_region.specs.State.{State}
 use Rattle.group_board.specs.Seats.{SeatAt}
+use Rattle.core_worker.specs.declared.types.Answer.{Answer}
 use Rattle.core_worker.specs.declared.worker.Worker.{Worker}
 use Rattle.core_worker.specs.Beginning.{answers_of}
 use Rattle.group_engine.specs.declared.types.Stamped.{Stamped}
@@ -16,9 +17,10 @@ use Rattle.batch_leader.specs.TurnSteps.{trail_with}
 use Rattle.thread_engine.specs.declared.core_job.CoreJob.{CoreJob}
 use Rattle.thread_engine.specs.declared.muster.Crew.{Crew}
 use Rattle.thread_engine.specs.declared.muster.Returned.{Returned}
-use Rattle.thread_engine.specs.WorkStates.{IsAtWork, WorksOn, HasEnded, stands_at, Sight}
-use Rattle.thread_engine.specs.Windows.{dealt_from, OwnsKeys, AreAtRest, WentOn, WorksThrough}
+use Rattle.thread_engine.specs.WorkStates.{WorkState, IsAtWork, WorksOn, HasEnded, stands_at, Sight}
+use Rattle.thread_engine.specs.Windows.{dealt_from, dealt_by, OwnsKeys, AreAtRest, WentOn, WorksThrough}
 use Rattle.thread_engine.specs.WindowJobs.{IsAtRest}
+use Rattle.thread_engine.specs.Between.{RestsEach}
 use Rattle.thread_engine.specs.Returns.{AreMade, Gave, AllAtRest, AllWent, Went, core_stands}
 use Rattle.thread_engine.proofs.Doubts.{one_of}
 use Rattle.thread_engine.proofs.Places.{get_low, get_index, get_there, get_map, map_get, map_long}
@@ -78,11 +80,15 @@ module _ {P : Type 0} (state : P → State) (pieces : List P) (crew : Crew) (job
         let t = token_at c x at in
         (t.0, t.2, A c x.piece t.0 x.worker (piece_at c x at) t.1 (worker_at c x at))
 
-  module _ (refused : Bool) (given : List Request) (all : Bool) (new : List (CoreJob CoreSeat P)) (kept kept' : List (Option Stamped)) (W : WorksThrough seat_at sight_there state refused given all jobs new kept kept') (r : Returned P) (G : Gave new r) where
+  module _ (refused : Bool) (given : List Request) (windows : ℕ) (all : Bool) (new : List (CoreJob CoreSeat P)) (kept kept' : List (Option Stamped)) (W : WorksThrough seat_at sight_there state refused given windows all jobs new kept kept') (r : Returned P) (G : Gave new r) where
+    -- a chain of core c, which rested behind each of the windows
+    abbrev Works : (c n : ℕ) → List Answer → SeatAt → WorkState → WorkState → Type 0
+    Works c n outs s a b = (G : WorksOn s refused (dealt_from n c 0 W.dealt) outs a b) × RestsEach s refused windows (dealt_by n c W.dealt) a b G.works
+
     one_went : (c : ℕ) (p : P) (t : SeatToken) (w : Worker) (q : P) (u : SeatToken) (y : Worker)
         → slice_get pieces c ≡ Some p → slice_get crew.tokens.items c ≡ Some t → slice_get crew.workers.items c ≡ Some w
         → slice_get r.pieces.items c ≡ Some q → slice_get r.tokens.items c ≡ Some u → slice_get r.workers.items c ≡ Some y
-        → Went state refused p t w (dealt_from (length pieces) c 0 W.dealt) (slice_index_or W.outs c []) q u y
+        → Went state refused p t w (dealt_from (length pieces) c 0 W.dealt) (slice_index_or W.outs c []) windows (dealt_by (length pieces) c W.dealt) q u y
     one_went c p t w q u y at_p at_t at_w at_q at_u at_y =
         let more = dealt_from (length pieces) c 0 W.dealt in
         let outs = slice_index_or W.outs c [] in
@@ -101,20 +107,26 @@ module _ {P : Type 0} (state : P → State) (pieces : List P) (crew : Crew) (job
         let last : slice_index_or new c x ≡ z = get_index new c z x Z.1 in
         let go : WentOn seat_at sight_there state refused more outs x z = subst (λ (n : ℕ). WentOn seat_at sight_there state refused (dealt_from n c 0 W.dealt) outs x z) (sym pieces_long)
         (subst (λ (j : Job). WentOn seat_at sight_there state refused (dealt_from (length jobs) c 0 W.dealt) outs x j) last (subst (λ (j : Job). WentOn seat_at sight_there state refused (dealt_from (length jobs) c 0 W.dealt) outs j (slice_index_or new c x)) first (W.went.each c x low))) in
+        let works : Works c (length pieces) outs (seat_at x.seat) (stands_at sight_there state x) (stands_at sight_there state z) = subst (λ (n : ℕ). Works c n outs (seat_at x.seat) (stands_at sight_there state x) (stands_at sight_there state z)) (sym pieces_long)
+        (subst (λ (j : Job). Works c (length jobs) outs (seat_at x.seat) (stands_at sight_there state x) (stands_at sight_there state j)) last
+        (subst (λ (j : Job). Works c (length jobs) outs (seat_at j.seat) (stands_at sight_there state j) (stands_at sight_there state (slice_index_or new c x))) first ((W.went.each c x low).works, W.rested c x low))) in
         let end : HasEnded (stands_at sight_there state z) = subst (λ (j : Job). HasEnded (stands_at sight_there state j)) last (W.ended c x (get_low new c z Z.1)) in
         let none : answers_of z.worker ≡ [] = subst (λ (j : Job). answers_of j.worker ≡ []) last (W.none c x (get_low new c z Z.1)) in
         let begins : stands_at sight_there state x ≡ core_stands state p t w [] = (λ i. record { region = state (sym X.2 i); view = view_at (own i); trail = trail_with (trail_at (own i)) (committed_at (done_at (own i))); worker = worker i; queue = queue i }) in
         let ends : stands_at sight_there state z ≡ core_stands state q u y z.queue.items = (λ i. record { region = state (sym Z.2 i); view = view_at (own' i); trail = trail_with (trail_at (own' i)) (committed_at (done_at (own' i))); worker = worker' i; queue = z.queue.items }) in
+        let there : Works c (length pieces) outs (seat_of t.own) (core_stands state p t w []) (core_stands state q u y z.queue.items) =
+        subst (λ b. Works c (length pieces) outs (seat_of t.own) (core_stands state p t w []) b) ends (subst (λ a. Works c (length pieces) outs (seat_of t.own) a (stands_at sight_there state z)) begins (subst (λ (o : MemberSeat). Works c (length pieces) outs (seat_of o) (stands_at sight_there state x) (stands_at sight_there state z)) own works)) in
         record {
           seat = ap seat_of (sym own') ∙ go.seat_is ∙ ap seat_of own;
           left = z.queue.items;
           work = subst (IsAtWork (seat_of t.own)) ends (subst (λ (o : MemberSeat). IsAtWork (seat_of o) (stands_at sight_there state z)) own go.work);
-          works = subst (λ b. WorksOn (seat_of t.own) refused more outs (core_stands state p t w []) b) ends (subst (λ a. WorksOn (seat_of t.own) refused more outs a (stands_at sight_there state z)) begins (subst (λ (o : MemberSeat). WorksOn (seat_of o) refused more outs (stands_at sight_there state x) (stands_at sight_there state z)) own go.works));
+          works = there.0;
+          rests = there.1;
           ended = subst HasEnded ends end;
           none = ap answers_of (sym worker') ∙ none;
         }
 
-    pub all_went : AllWent state refused pieces crew given all r kept kept'
+    pub all_went : AllWent state refused pieces crew given windows all r kept kept'
     all_went =
         let long = W.went.count in
         record {
@@ -128,6 +140,7 @@ module _ {P : Type 0} (state : P → State) (pieces : List P) (crew : Crew) (job
           wound = λ is c y at_y.
               let Z = map_get (λ (j : Job). j.worker) new c y (ap (λ l. slice_get l c) (sym G.workers) ∙ at_y) in
               ap (λ (v : Worker). v.winds_down) Z.2 ∙ sym (ap (λ (j : Job). j.worker.winds_down) (get_index new c Z.0 Z.0 Z.1)) ∙ W.wound is c Z.0 (get_low new c Z.0 Z.1);
+          within = W.within;
           outs = W.outs;
           few = (let few = W.went.few in let n = pieces_long in omega (arith, few, n));
           taken = W.taken;

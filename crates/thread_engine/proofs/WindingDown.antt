@@ -1,16 +1,13 @@
 -- When all workers are told to wind down.
-use Rattle.std.proofs.Common.{ℕ, ◌<◌, Bool, true, List, [], ◌++◌, length, slice_index_or, refl, sym, ◌∙◌, ap, subst, append-nil, arith}
-use Rattle.fs_model.specs.declared.model.Request.{Request}
+use Rattle.std.proofs.Common.{◌<◌, Bool, true, List, [], length, slice_index_or, refl, sym, ◌∙◌, ap, subst, arith}
 use Rattle.pm_region.specs.State.{State}
 use Rattle.group_board.specs.Seats.{SeatAt}
-use Rattle.core_worker.specs.declared.types.Answer.{Answer}
 use Rattle.core_worker.specs.Beginning.{answers_of}
 use Rattle.thread_engine.specs.declared.core_job.CoreJob.{CoreJob}
 use Rattle.thread_engine.specs.WorkStates.{Sight, WorkState, HasEnded, stands_at}
 use Rattle.thread_engine.specs.WorkStates.Move.{winds_down}
-use Rattle.thread_engine.specs.Windows.{dealt_from, WentOn, AllWentOn, HaveEnded, HaveGiven, EachChanges, WindDown, Winds}
+use Rattle.thread_engine.specs.Windows.{WentOn, HaveEnded, HaveGiven, EachChanges, WindDown, Winds}
 use Rattle.thread_engine.proofs.WorkMoves.{on_one}
-use Rattle.thread_engine.proofs.WindowWork.{went_on}
 
 module _ {B P : Type 0} (seat : B → SeatAt) (sight : B → Sight) (state : P → State) where
   abbrev Job : Type 0
@@ -22,26 +19,15 @@ module _ {B P : Type 0} (seat : B → SeatAt) (sight : B → Sight) (state : P �
   abbrev wound : Job → Job
   wound x = record x { worker = record x.worker { winds_down = true } }
 
-  module _ (a b : List Job) (W : EachChanges (Winds seat sight state) a b) where
-    -- they do nothing else
-    pub wound_went : (refused : Bool) (n : ℕ) (xs : List Request) (outs : List (List Answer)) (first : List Job) → AllWentOn seat sight state refused n xs outs first a → AllWentOn seat sight state refused n xs outs first b
-    wound_went refused n xs outs first G = record {
-      count = W.count ∙ G.count;
-      few = G.few;
-      each = λ c d low. (let same = G.count in
-          let out = slice_index_or outs c [] in
-          subst (λ q. WentOn seat sight state refused q out (slice_index_or first c d) (slice_index_or b c d)) (append-nil (dealt_from (length first) c n xs))
-          (subst (λ os. WentOn seat sight state refused (dealt_from (length first) c n xs ++ []) os (slice_index_or first c d) (slice_index_or b c d)) (append-nil out)
-          (went_on seat sight state refused (dealt_from (length first) c n xs) [] out [] (slice_index_or first c d) (slice_index_or a c d) (slice_index_or b c d) (G.each c d low)
-          (went (slice_index_or a c d) (slice_index_or b c d) (W.each c d (omega (arith, low, same)))))));
-    } where
-      went : (x y : Job) → Winds seat sight state x y → WentOn seat sight state refused [] [] x y
-      went x y V = record {
-        seat_is = ap (λ (j : Job). seat j.seat) V.winds;
-        work = V.work;
-        works = on_one (seat x.seat) refused (stands x) (stands y) (record { move = winds_down (ap stands V.winds); joins = refl; gives = refl }) V.work;
-      }
+  -- one of them does nothing else
+  pub wound_one : (refused : Bool) (x y : Job) → Winds seat sight state x y → WentOn seat sight state refused [] [] x y
+  wound_one refused x y V = record {
+    seat_is = ap (λ (j : Job). seat j.seat) V.winds;
+    work = V.work;
+    works = on_one (seat x.seat) refused (stands x) (stands y) (record { move = winds_down (ap stands V.winds); joins = refl; gives = refl }) V.work;
+  }
 
+  module _ (a b : List Job) (W : EachChanges (Winds seat sight state) a b) where
     pub wound_ended : HaveEnded sight state a → HaveEnded sight state b
     wound_ended E c d low = (let same = W.count in let low' : c < length a = omega (arith, low, same) in
         subst (λ (y : Job). HasEnded (stands y)) (sym (W.each c d low').winds) (ended (slice_index_or a c d) (E c d low')))

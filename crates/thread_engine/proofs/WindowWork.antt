@@ -1,5 +1,5 @@
 -- Windows of a run, one after another.
-use Rattle.std.proofs.Common.{◌≡◌, ℕ, ◌+◌, ◌%◌, ◌<◌, ◌==◌, zero, suc, ◌||◌, Bool, true, false, not, cond, Result, Ok, Err, OnOk, List, [], ◌∷◌, ◌++◌, length, filter, slice_index_or, refl, sym, ◌∙◌, ap, subst, append-nil, arith}
+use Rattle.std.proofs.Common.{◌≡◌, ℕ, ◌%◌, ◌<◌, ◌==◌, zero, suc, ◌||◌, Bool, true, false, not, cond, Result, Ok, Err, OnOk, List, [], ◌∷◌, ◌++◌, length, filter, slice_index_or, refl, sym, ◌∙◌, ap, subst, append-nil, arith}
 use Rattle.std.specs.List.{AllByRecursion, enumerate_from, list_any}
 use Rattle.std.specs.Result.{is_ok}
 use Rattle.std.proofs.lemmas.Bool.{eqb-true}
@@ -14,10 +14,8 @@ use Rattle.thread_engine.specs.declared.core_job.CoreJob.{CoreJob}
 use Rattle.thread_engine.specs.WorkStates.{Sight, WorkState, IsAtWork, WorksOn, stands_at, with_more}
 use Rattle.thread_engine.specs.Windows.{dealt_from, OwnsKeys, IsDealt, AreAtRest, WentOn, AllWentOn}
 use Rattle.thread_engine.specs.WindowJobs.{Worked}
-use Rattle.thread_engine.specs.Takings.{both_outs}
-use Rattle.thread_engine.proofs.WorkMoves.{on_more, on_none, on_joined}
-use Rattle.thread_engine.proofs.Deals.{dealt-append}
-use Rattle.thread_engine.proofs.Takings.{both_long, outs_at}
+use Rattle.thread_engine.specs.Between.{RestsWith}
+use Rattle.thread_engine.proofs.WorkMoves.{on_more, on_none, on_joined, rests_on}
 
 -- what a filter keeps
 kept : {X : Type 0} (P : X → Type 0) (f : X → Bool) → ((x : X) → f x ≡ true → P x) → (xs : List X) → AllByRecursion P (filter f xs)
@@ -91,24 +89,14 @@ module _ {B P : Type 0} (seat : B → SeatAt) (sight : B → Sight) (state : P �
     works = on_more (seat x.seat) refused xs ys os ps (stands x) (stands y) (stands z) G.works (subst (λ s. WorksOn s refused ys ps (stands y) (stands z)) G.seat_is H.works);
   }
 
+  -- and rested where it did
+  pub went_rests : (joined xs ys : List (ℕ × Request)) (os ps : List Answer) (x y z : Job) (G : WentOn seat sight state refused xs os x y) (H : WentOn seat sight state refused ys ps y z) → RestsWith (seat x.seat) refused joined (stands x) (stands y) G.works.works
+      → RestsWith (seat x.seat) refused joined (stands x) (stands z) (went_on xs ys os ps x y z G H).works.works
+  unfolding went_on
+  went_rests joined xs ys os ps x y z G H R = rests_on (seat x.seat) refused joined xs ys os ps (stands x) (stands y) (stands z) G.works (subst (λ s. WorksOn s refused ys ps (stands y) (stands z)) G.seat_is H.works) R
+
   pub none_went : (n : ℕ) (jobs : List Job) → AreAtRest seat sight state jobs → AllWentOn seat sight state refused n [] [] jobs jobs
   none_went n jobs A = record { count = refl; few = omega arith; each = λ c d low. record { seat_is = refl; work = (A.rest c d low).work; works = on_none (seat (slice_index_or jobs c d).seat) refused (stands (slice_index_or jobs c d)) } }
-
-  pub more_went : (n : ℕ) (xs ys : List Request) (os ps : List (List Answer)) (a b e : List Job) → AllWentOn seat sight state refused n xs os a b → AllWentOn seat sight state refused (n + length xs) ys ps b e → AllWentOn seat sight state refused n (xs ++ ys) (both_outs os ps) a e
-  more_went n xs ys os ps a b e D E = record {
-    count = E.count ∙ D.count;
-    few = both_long (length a) os ps D.few (let same = D.count in let more = E.few in omega (arith, more, same));
-    each = λ c d low.
-        let same = D.count in
-        let later = subst (λ m. WentOn seat sight state refused (dealt_from m c (n + length xs) ys) (slice_index_or ps c []) (slice_index_or b c d) (slice_index_or e c d)) same (E.each c d (omega (arith, low, same))) in
-        subst (λ q. WentOn seat sight state refused q (slice_index_or (both_outs os ps) c []) (slice_index_or a c d) (slice_index_or e c d)) (sym (dealt-append (length a) c n xs ys))
-        (subst (λ out. WentOn seat sight state refused (dealt_from (length a) c n xs ++ dealt_from (length a) c (n + length xs) ys) out (slice_index_or a c d) (slice_index_or e c d)) (sym (outs_at os ps c))
-        (went_on (dealt_from (length a) c n xs) (dealt_from (length a) c (n + length xs) ys) (slice_index_or os c []) (slice_index_or ps c []) (slice_index_or a c d) (slice_index_or b c d) (slice_index_or e c d) (D.each c d low) later));
-  }
-
-  -- a window more
-  pub window_more : (n : ℕ) (xs ys : List Request) (os ps : List (List Answer)) (a b e : List Job) → length xs ≡ n → AllWentOn seat sight state refused 0 xs os a b → AllWentOn seat sight state refused n ys ps b e → AllWentOn seat sight state refused 0 (xs ++ ys) (both_outs os ps) a e
-  window_more n xs ys os ps a b e long D E = more_went 0 xs ys os ps a b e D (subst (λ m. AllWentOn seat sight state refused m ys ps b e) (let z : n ≡ 0 + length xs = omega (arith, long) in z) E)
 
   -- so far they are at work
   pub at_work_on : (n : ℕ) (xs : List Request) (os : List (List Answer)) (a b : List Job) → AllWentOn seat sight state refused n xs os a b → (c : ℕ) (d : Job) → c < length b → IsAtWork (seat (slice_index_or b c d).seat) (stands (slice_index_or b c d))

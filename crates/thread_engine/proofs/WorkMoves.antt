@@ -1,5 +1,5 @@
 -- Moves one after another, and when a core has ended.
-use Rattle.std.proofs.Common.{◌≡◌, ℕ, Bool, true, false, List, [], ◌∷◌, ◌++◌, refl, sym, ◌∙◌, ap, subst, append-nil, append_assoc}
+use Rattle.std.proofs.Common.{◌≡◌, inl, inr, ℕ, Bool, true, false, List, [], ◌∷◌, ◌++◌, refl, sym, ◌∙◌, ap, subst, append-nil, append_assoc}
 use Rattle.std.proofs.Math.Path.{path_j, subst_refl}
 use Rattle.fs_model.specs.declared.model.Request.{Request}
 use Rattle.pm_region.specs.State.{State}
@@ -13,6 +13,7 @@ use Rattle.core_worker.specs.Supplies.{HasKeptRoom}
 use Rattle.thread_engine.specs.declared.core_job.CoreJob.{CoreJob}
 use Rattle.thread_engine.specs.WorkStates.Move.{joins, hands_over}
 use Rattle.thread_engine.specs.WorkStates.{Sight, WorkState, IsAtWork, Move, Leads, Works, joined_by, given_by, joined_along, given_along, OwnMove, WorksOn, with_more, with_answers, GoesOn, stands_at}
+use Rattle.thread_engine.specs.Between.{ComesBy, RestsWith}
 
 pub leads_more : (seat : SeatAt) (refused : Bool) (a : WorkState) (xs : List WorkState) (b : WorkState) (ys : List WorkState) (c : WorkState) → Leads seat refused a xs b → Leads seat refused b ys c → Leads seat refused a (xs ++ ys) c
 leads_more seat refused a [] b ys c e more = subst (λ z. Leads seat refused z ys c) e more
@@ -55,6 +56,19 @@ on_more seat refused xs ys os ps a b c w v = record {
   joins = joined_more seat refused a w.works.path b v.works.path c w.works.leads v.works.leads ∙ (λ i. w.joins i ++ v.joins i);
   gives = given_more seat refused a w.works.path b v.works.path c w.works.leads v.works.leads ∙ (λ i. w.gives i ++ v.gives i);
 }
+
+-- a chain that goes on comes by the same states, and so it rests where it did
+comes_more : (seat : SeatAt) (refused : Bool) (joined : List (ℕ × Request)) (at a : WorkState) (xs : List WorkState) (b : WorkState) (ys : List WorkState) (c : WorkState) (l : Leads seat refused a xs b) (m : Leads seat refused b ys c)
+    → ComesBy seat refused joined at a xs b l → ComesBy seat refused joined at a (xs ++ ys) c (leads_more seat refused a xs b ys c l m)
+unfolding leads_more
+comes_more seat refused joined at a [] b [] c l m there = there
+comes_more seat refused joined at a [] b (y ∷ ys) c l m there = inl there
+comes_more seat refused joined at a (x ∷ xs) b ys c l m (inl here) = inl here
+comes_more seat refused joined at a (x ∷ xs) b ys c l m (inr later) = inr (later.0, later.1, comes_more seat refused later.0 at x xs b ys c l.2 m later.2)
+
+pub rests_on : (seat : SeatAt) (refused : Bool) (joined xs ys : List (ℕ × Request)) (os ps : List Answer) (a b c : WorkState) (w : WorksOn seat refused xs os a b) (v : WorksOn seat refused ys ps b c) → RestsWith seat refused joined a b w.works → RestsWith seat refused joined a c (on_more seat refused xs ys os ps a b c w v).works
+unfolding on_more works_more
+rests_on seat refused joined xs ys os ps a b c w v R = record { at = R.at; there = comes_more seat refused joined R.at a w.works.path b v.works.path c w.works.leads v.works.leads R.there; rest = R.rest }
 
 pub on_none : (seat : SeatAt) (refused : Bool) (a : WorkState) → WorksOn seat refused [] [] a a
 unfolding works_none

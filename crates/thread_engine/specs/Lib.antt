@@ -4,6 +4,7 @@ pub mod Pieces
 pub mod CoreRuns
 pub mod WindowLaws
 pub mod Cuts
+pub mod Between
 pub mod RanApart
 pub mod Manned
 pub mod Requests

@@ -1,5 +1,5 @@
 -- What an outlet over a sink makes of a window's replies.
-use Rattle.std.specs.Prelude.{◌≡◌, ◌≢◌, ◌⊎◌, ℕ, ◌≤◌, List, [], ◌++◌, length, Bool, true, false, Option, Some, None}
+use Rattle.std.specs.Prelude.{◌≡◌, ◌≢◌, ◌⊎◌, ℕ, ◌*◌, ◌≤◌, List, [], ◌++◌, length, Bool, true, false, Option, Some, None}
 use Rattle.std.specs.List.{AllByRecursion}
 use Rattle.fs_model.specs.declared.model.Reply.{Reply}
 use Rattle.fs_model.specs.declared.model.Request.{Request}
@@ -9,6 +9,7 @@ use Rattle.answer_queue.specs.declared.window_sizes.TheConstants.{WINDOW}
 use Rattle.thread_engine.specs.Collected.{had_memory}
 use Rattle.thread_engine.specs.Outlets.{IsAsked, all_replies, TakesAll}
 use Rattle.thread_engine.specs.RanApart.{RanApart}
+use Rattle.thread_engine.specs.Between.{HoldsBehind}
 use Rattle.fs_text.specs.Output.{replies_text}
 use Rattle.fs_text.specs.Streams.{Takes, TakesPrefix}
 use Rattle.recover.specs.declared.types.Recovered.{Recovered}
@@ -94,6 +95,11 @@ pub record RanToSink (before now : Option (List ℕ)) (flushed : Bool) (count co
   pub unasked : IsNotRevalidated s parted
   pub asked_since : IsNotRevalidated behind t
   pub out : IsOutInWindows parted behind before now x.outcome.replies.items
+  -- Behind each window whose text is out every core rested, and a crash from there on leaves all of its changes; so behind the last one, where it was to go out.
+  pub between : (i : ℕ) → i ≤ length out.windows
+      → HoldsBehind ran.origin r refused ran.last ran.ran.cores (i * WINDOW)
+  pub ended : had_memory x.outcome.end ≡ true
+      → HoldsBehind ran.origin r refused ran.last ran.ran.cores (length given)
   pub writes : had_memory x.outcome.end ≡ true → x.unwritten ≡ None
       → Takes before now (replies_text x.outcome.replies.items) × (flushed ≡ true)
   pub sunk : x.unwritten ≡ Some SinkFault → Rose count count'

@@ -1,5 +1,5 @@
 -- What a run on threads comes to.
-use Rattle.std.specs.Prelude.{◌≡◌, ◌≢◌, ℕ, ◌<◌, ◌≤◌, List, [], ◌++◌, length, slice_index_or, Bool, true, false, Option, Some, IsPermutation}
+use Rattle.std.specs.Prelude.{◌≡◌, ◌≢◌, ℕ, ◌*◌, ◌<◌, ◌≤◌, List, [], ◌++◌, length, slice_index_or, Bool, true, false, Option, Some, IsPermutation}
 use Rattle.fs_model.specs.declared.model.Request.{Request}
 use Rattle.fs_model.specs.declared.model.Reply.{Reply}
 use Rattle.pm_region.specs.State.{State, IsTelling, cell_now, counted, Rose}
@@ -13,6 +13,7 @@ use Rattle.engine_laws.specs.Promises.{HasStopped, Promised, IsDone}
 use Rattle.engine_laws.specs.Ceasing.{HasCeased}
 use Rattle.core_worker.specs.declared.types.Answer.{Answer}
 use Rattle.answer_queue.specs.Accounts.{numbers, AreDistinct}
+use Rattle.answer_queue.specs.declared.window_sizes.TheConstants.{WINDOW}
 use Rattle.answer_cores.specs.Passes.{all_answers}
 use Rattle.group_engine.specs.declared.types.Stamped.{Stamped}
 use Rattle.group_engine.specs.declared.run_outcome.End.TheVariants as ends
@@ -22,6 +23,7 @@ use Rattle.group_engine.specs.Replayed.{BeginsAt, report_in}
 use Rattle.group_engine.specs.Reports.{IsReport, ReportsOn}
 use Rattle.thread_engine.specs.CoreRuns.{CoreRun, AllRan, gave_at}
 use Rattle.thread_engine.specs.Cuts.{HoldsInside}
+use Rattle.thread_engine.specs.Between.{HoldsBehind}
 use Rattle.thread_engine.specs.declared.run_apart.RunOutcome.{RunOutcome}
 use Rattle.thread_engine.specs.Collected.{AreBlank, had_memory}
 use Rattle.thread_engine.specs.Outlets.{IsAsked, HandsOut}
@@ -128,3 +130,8 @@ pub record RanInWindows {T : Type 0} (takes : State → T → List Reply → Boo
   pub asked_since : IsNotRevalidated behind t
   pub hands : HandsOut takes (had_memory x.outcome.end) x.heard x.outcome.replies.items
       before old behind new
+  -- Behind each window that was handed over every core rested, and a crash from there on leaves all of its changes; so behind the last one, where it was.
+  pub between : (i : ℕ) → i ≤ length hands.windows
+      → HoldsBehind ran.origin r refused ran.last ran.ran.cores (i * WINDOW)
+  pub ended : had_memory x.outcome.end ≡ true
+      → HoldsBehind ran.origin r refused ran.last ran.ran.cores (length given)

@@ -1,12 +1,12 @@
 -- What the cores of a run begin with, and what they give back.
-use Rattle.std.specs.Prelude.{◌≡◌, ℕ, ◌/◌, ◌<◌, ◌≤◌, List, [], ◌++◌, map, length, slice_index_or, Bool, true, false, Option, Some, vec_capacity}
+use Rattle.std.specs.Prelude.{◌≡◌, ℕ, ◌*◌, ◌/◌, ◌<◌, ◌≤◌, List, [], ◌++◌, map, length, slice_index_or, Bool, true, false, Option, Some, vec_capacity}
 use Rattle.std.specs.List.{slice_get, AllByRecursion}
 use Rattle.fs_model.specs.declared.model.Request.{Request}
 use Rattle.pm_region.specs.State.{State}
 use Rattle.core_worker.specs.declared.types.Answer.{Answer}
 use Rattle.core_worker.specs.declared.worker.Worker.{Worker}
 use Rattle.core_worker.specs.Beginning.{answers_of}
-use Rattle.answer_queue.specs.declared.window_sizes.TheConstants.{PARTS}
+use Rattle.answer_queue.specs.declared.window_sizes.TheConstants.{PARTS, WINDOW}
 use Rattle.group_engine.specs.declared.types.Stamped.{Stamped}
 use Rattle.atomic_board.specs.declared.group_table.GroupTable.{GroupTable}
 use Rattle.atomic_board.specs.declared.token.SeatToken.{SeatToken}
@@ -21,7 +21,8 @@ use Rattle.thread_engine.specs.declared.muster.Returned.{Returned}
 use Rattle.thread_engine.specs.WorkStates.{WorkState, IsAtWork, WorksOn, HasEnded}
 use Rattle.thread_engine.specs.WindowJobs.{IsAtRest}
 use Rattle.thread_engine.specs.Takings.{TakenAs}
-use Rattle.thread_engine.specs.Windows.{dealt_from, OwnsKeys}
+use Rattle.thread_engine.specs.Windows.{dealt_from, dealt_by, OwnsKeys}
+use Rattle.thread_engine.specs.Between.{RestsEach}
 
 -- A token and a worker for each of so many cores; each token is of a seat at the core's table.
 pub record IsCrew (tables : List GroupTable) (group count : ℕ) (x : Crew) : Type 0 where
@@ -74,21 +75,23 @@ AllAtRest {P} state pieces x = (c : ℕ) (p : P) (t : SeatToken) (w : Worker)
     → OwnsKeys (length pieces) c (seat_of t.own)
     × IsAtRest (seat_of t.own) (core_stands state p t w [])
 
--- These requests joined, a core worked to its end, and it handed these answers over.
+-- These requests joined, a core worked to its end, and it handed these answers over. Behind each of the first so many windows it rested, with what had joined by then.
 pub record Went {P : Type 0} (state : P → State) (refused : Bool) (p : P) (t : SeatToken)
-    (w : Worker) (more : List (ℕ × Request)) (outs : List Answer) (q : P) (u : SeatToken)
-    (x : Worker) : Type 0 where
+    (w : Worker) (more : List (ℕ × Request)) (outs : List Answer) (windows : ℕ)
+    (joined : ℕ → List (ℕ × Request)) (q : P) (u : SeatToken) (x : Worker) : Type 0 where
   pub seat : seat_of u.own ≡ seat_of t.own
   pub left : List (ℕ × Request)
   pub work : IsAtWork (seat_of t.own) (core_stands state q u x left)
   pub works : WorksOn (seat_of t.own) refused more outs (core_stands state p t w [])
       (core_stands state q u x left)
+  pub rests : RestsEach (seat_of t.own) refused windows joined (core_stands state p t w [])
+      (core_stands state q u x left) works.works
   pub ended : HasEnded (core_stands state q u x left)
   pub none : answers_of x ≡ []
 
--- All did, and gave back what they have. The first of a run's requests were dealt to the owners of their keys; where there was memory, all of them, and else every worker winds down. All answers were handed over and taken, each once and no other, and are kept by number.
+-- All did, and gave back what they have. The first of a run's requests were dealt to the owners of their keys; where there was memory, all of them, and else every worker winds down. Behind each of the first so many windows every core rested. All answers were handed over and taken, each once and no other, and are kept by number.
 pub record AllWent {P : Type 0} (state : P → State) (refused : Bool) (pieces : List P) (crew : Crew)
-    (given : List Request) (all : Bool) (x : Returned P)
+    (given : List Request) (windows : ℕ) (all : Bool) (x : Returned P)
     (kept kept' : List (Option Stamped)) : Type 0 where
   pub dealt : List Request
   pub rest : List Request
@@ -98,6 +101,7 @@ pub record AllWent {P : Type 0} (state : P → State) (refused : Bool) (pieces :
       → y.winds_down ≡ false
   pub wound : all ≡ false → (c : ℕ) (y : Worker) → slice_get x.workers.items c ≡ Some y
       → y.winds_down ≡ true
+  pub within : windows * WINDOW ≤ length dealt
   pub outs : List (List Answer)
   pub few : length outs ≤ length pieces
   pub taken : TakenAs 0 0 (length given) outs kept kept'
@@ -110,4 +114,4 @@ pub record AllWent {P : Type 0} (state : P → State) (refused : Bool) (pieces :
       → slice_get x.pieces.items c ≡ Some q → slice_get x.tokens.items c ≡ Some u
       → slice_get x.workers.items c ≡ Some y
       → Went state refused p t w (dealt_from (length pieces) c 0 dealt) (slice_index_or outs c [])
-      q u y
+      windows (dealt_by (length pieces) c dealt) q u y

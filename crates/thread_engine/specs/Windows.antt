@@ -1,5 +1,5 @@
 -- The requests of a run, dealt window by window to the cores that own their keys, and worked off.
-use Rattle.std.specs.Prelude.{◌≡◌, ℕ, ◌+◌, ◌%◌, ◌<◌, ◌≤◌, ◌==◌, List, [], ◌++◌, map, take, length, filter, slice_index_or, Bool, true, false, Option}
+use Rattle.std.specs.Prelude.{◌≡◌, ℕ, ◌+◌, ◌*◌, ◌%◌, ◌<◌, ◌≤◌, ◌==◌, List, [], ◌++◌, map, take, length, filter, slice_index_or, Bool, true, false, Option}
 use Rattle.std.specs.List.{enumerate_from}
 use Rattle.fs_model.specs.declared.model.Request.{Request}
 use Rattle.fs_model.specs.declared.model.Reply.{Reply}
@@ -10,6 +10,7 @@ use Rattle.group_board.specs.Seats.{SeatAt}
 use Rattle.thread_engine.specs.declared.core_job.CoreJob.{CoreJob}
 use Rattle.core_worker.specs.declared.types.Answer.{Answer}
 use Rattle.core_worker.specs.Beginning.{answers_of}
+use Rattle.answer_queue.specs.declared.window_sizes.TheConstants.{WINDOW}
 use Rattle.group_engine.specs.declared.types.Stamped.{Stamped}
 use Rattle.group_engine.specs.Reports.{reply_in}
 use Rattle.thread_engine.specs.declared.windows.Course.{Course}
@@ -17,6 +18,7 @@ use Rattle.thread_engine.specs.WorkStates.{Sight, IsAtWork, WorksOn, HasEnded, s
 use Rattle.thread_engine.specs.WindowJobs.{IsAtRest}
 use Rattle.thread_engine.specs.Takings.{TakenAs}
 use Rattle.thread_engine.specs.Outlets.{HandsOut}
+use Rattle.thread_engine.specs.Between.{RestsEach}
 
 -- of some requests, which are numbered from n, those for one of so many cores
 abbrev pub dealt_from : ℕ → ℕ → ℕ → List Request → List (ℕ × Request)
@@ -90,6 +92,20 @@ pub record AllWentOn {B P : Type 0} (seat : B → SeatAt) (sight : B → Sight) 
       → WentOn seat sight state refused (dealt_from (length old) c n xs) (slice_index_or outs c [])
       (slice_index_or old c d) (slice_index_or new c d)
 
+-- the requests of a core's keys in the first i windows
+abbrev pub dealt_by : ℕ → ℕ → List Request → ℕ → List (ℕ × Request)
+dealt_by cores c xs i = dealt_from cores c 0 (take (i * WINDOW) xs)
+
+-- behind each of the first so many windows each core rested, with just the requests of its keys by then
+abbrev pub AllRested : {B P : Type 0} (seat : B → SeatAt) (sight : B → Sight) (state : P → State)
+    (refused : Bool) (windows : ℕ) (xs : List Request) (outs : List (List Answer))
+    (old new : List (CoreJob B P)) → AllWentOn seat sight state refused 0 xs outs old new → Type 0
+AllRested {B} {P} seat sight state refused windows xs outs old new went = (c : ℕ)
+    (d : CoreJob B P) (low : c < length old)
+    → RestsEach (seat (slice_index_or old c d).seat) refused windows (dealt_by (length old) c xs)
+    (stands_at sight state (slice_index_or old c d)) (stands_at sight state (slice_index_or new c d))
+    (went.each c d low).works.works
+
 -- all cores have ended
 abbrev pub HaveEnded : {B P : Type 0} → (B → Sight) → (P → State) → List (CoreJob B P) → Type 0
 HaveEnded {B} {P} sight state jobs = (c : ℕ) (d : CoreJob B P) → c < length jobs
@@ -141,15 +157,17 @@ pub record WorksOffTo {B P : Type 0} (seat : B → SeatAt) (sight : B → Sight)
   pub rest : AreAtRest seat sight state new
   pub taken : TakenAs 0 n m outs kept kept'
 
--- The first of a run's requests were dealt and worked off to the cores' ends; where there was memory, all of them, and else every worker winds down. All answers were handed over and taken, each once and no other, and are kept by number.
+-- The first of a run's requests were dealt and worked off to the cores' ends; where there was memory, all of them, and else every worker winds down. Behind each of the first so many windows every core rested. All answers were handed over and taken, each once and no other, and are kept by number.
 pub record WorksThrough {B P : Type 0} (seat : B → SeatAt) (sight : B → Sight) (state : P → State)
-    (refused : Bool) (given : List Request) (all : Bool) (old new : List (CoreJob B P))
+    (refused : Bool) (given : List Request) (windows : ℕ) (all : Bool) (old new : List (CoreJob B P))
     (kept kept' : List (Option Stamped)) : Type 0 where
   pub dealt : List Request
   pub rest : List Request
   pub split : given ≡ dealt ++ rest
   pub outs : List (List Answer)
   pub went : AllWentOn seat sight state refused 0 dealt outs old new
+  pub within : windows * WINDOW ≤ length dealt
+  pub rested : AllRested seat sight state refused windows dealt outs old new went
   pub ended : HaveEnded sight state new
   pub none : HaveGiven new
   pub taken : TakenAs 0 0 (length given) outs kept kept'
@@ -157,13 +175,13 @@ pub record WorksThrough {B P : Type 0} (seat : B → SeatAt) (sight : B → Sigh
   pub memory : all ≡ true → HaveMemory new
   pub wound : all ≡ false → WindDown new
 
--- The first of these requests were begun, window by window, and this was done to them; what is kept has a place for each of them alone. Their replies were handed to an outlet, each window's behind its window. All requests were begun unless it did not take a window's replies: then nothing was begun behind that window.
+-- The first of these requests were begun, window by window, and this was done to them, by how many windows before the last one were handed over; what is kept has a place for each of them alone. Their replies were handed to an outlet, each window's behind its window. All requests were begun unless it did not take a window's replies: then nothing was begun behind that window.
 pub record InWindows {T : Type 0} (takes : State → T → List Reply → Bool → State → T → Type 0)
-    (left : List Request) (x : Course) (Did : List Request → List (Option Stamped) → Type 0)
+    (left : List Request) (x : Course) (Did : ℕ → List Request → List (Option Stamped) → Type 0)
     (kept kept' : List (Option Stamped)) (s : State) (old : T) (t : State) (new : T) : Type 0 where
   pub given : List Request
   pub more : List Request
   pub split : left ≡ given ++ more
   pub whole : x.heard ≡ true → more ≡ []
-  pub did : Did given (take (length given) kept)
   pub hands : HandsOut takes x.all x.heard (map reply_in kept') s old t new
+  pub did : Did (length hands.windows) given (take (length given) kept)

@@ -19,5 +19,7 @@ pub mod run_apart;
 pub mod run_to_sink;
 pub mod table_end;
 pub mod text_outlet;
+pub mod watch;
+pub mod watched_requests;
 pub mod windows;
 pub mod work_rules;

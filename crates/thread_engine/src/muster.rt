@@ -144,8 +144,8 @@ pub fn work_apart<
     requires room { (jobs.items ≡ []) × (length pieces.items ≤ vec_capacity jobs)
         × HasRoomOf (length pieces.items) room }
     ensures went { InWindows O.takes (Q.left requests.old) result.1
-        (λ given places. AllWent P.state (G.may_refuse gate.now) pieces.items crew given
-        result.1.all result.0 places kept.new.items)
+        (λ windows given places. AllWent P.state (G.may_refuse gate.now) pieces.items crew given
+        windows result.1.all result.0 places kept.new.items)
         kept.old.items kept.new.items (R.state region.old) outlet.old (R.state region.new)
         outlet.new }
     ensures asked { IsAsked (R.state region.old) (R.state region.new) }

@@ -192,8 +192,8 @@ pub fn work_windows<
     requires rest { AreAtRest B.seat (sight_by B.view B.trail B.at) P.state jobs.old }
     requires places { length (Q.left requests.old) ≡ length kept.old.items }
     ensures works { InWindows O.takes (Q.left requests.old) result
-        (λ given places. WorksThrough B.seat (sight_by B.view B.trail B.at) P.state
-        (G.may_refuse gate.now) given result.all jobs.old jobs.new places kept.new.items)
+        (λ windows given places. WorksThrough B.seat (sight_by B.view B.trail B.at) P.state
+        (G.may_refuse gate.now) given windows result.all jobs.old jobs.new places kept.new.items)
         kept.old.items kept.new.items (R.state region.old) outlet.old (R.state region.new)
         outlet.new }
     ensures asked { IsAsked (R.state region.old) (R.state region.new) }

@@ -41,14 +41,15 @@ returns-clause-went g c =
     let all = c.work_windows-course.result.all in
     let I = c.work_windows-course.ensures.works in
     let first = take (length I.given) kept in
-    let W = subst (λ (js : List (CoreJob CoreSeat g.row.P.Denot)). WorksThrough seat_at sight_there state refused I.given all js new first kept') value I.did in
+    let windows = length I.hands.windows in
+    let W = subst (λ (js : List (CoreJob CoreSeat g.row.P.Denot)). WorksThrough seat_at sight_there state refused I.given windows all js new first kept') value I.did in
     let front = take_front c.make_jobs-jobs.result.len new _ (c.make_jobs-jobs.result.ok.0 ∙ sym W.went.count) in
     record {
       given = I.given;
       more = I.more;
       split = I.split;
       whole = I.whole;
-      did = all_went state c.args.pieces.items c.args.crew old c.make_jobs-jobs.ensures refused I.given all new first kept' W
-          c.dismiss.result (subst (λ (js : List (CoreJob CoreSeat g.row.P.Denot)). Gave js c.dismiss.result) front c.dismiss.ensures);
       hands = I.hands;
+      did = all_went state c.args.pieces.items c.args.crew old c.make_jobs-jobs.ensures refused I.given windows all new first kept' W
+          c.dismiss.result (subst (λ (js : List (CoreJob CoreSeat g.row.P.Denot)). Gave js c.dismiss.result) front c.dismiss.ensures);
     }

@@ -1,4 +1,4 @@
-use Rattle.std.proofs.Common.{◌≡◌, ℕ, ◌-◌, ◌<◌, ◌≤◌, List, ◌++◌, length, length-append, map, take, slice_index_or, Ok, sym, ◌∙◌, ap, subst, arith}
+use Rattle.std.proofs.Common.{◌≡◌, ℕ, ◌-◌, ◌<◌, ◌≤◌, List, ◌++◌, length, length-append, take, slice_index_or, Ok, refl, sym, ◌∙◌, ap, subst, arith}
 use Rattle.std.proofs.lemmas.List.{length-take-le}
 use Rattle.pm_region.specs.State.{State}
 use Rattle.pm_region.specs.Split.{AreCuts, IsPiece, Parted, Joined, Refuses}
@@ -89,7 +89,7 @@ close_tables-requires-clause-tokens g c =
     let ps = c.in_ok-pieces.pieces.items in
     let count = c.in_ok-pieces.ensures.count ∙ ap (λ (cs : List ℕ). length cs - 1) c.deref.ensures.value in
     let piece = subst (λ (cs : List ℕ). (i : ℕ) (p : g.row.R-Piece.Denot) → i < length ps → IsPiece s cs i (state (slice_index_or ps i p))) c.deref.ensures.value c.in_ok-pieces.ensures.pieces in
-    tokens_back state refused s word z.0 z.1 I.given (length left) x z.2 z.3 z.4 ps count piece c.work_apart-back.result.0 c.work_apart-back.result.1.all (take (length I.given) x.answers.items) c.work_apart-back.new.kept.items I.did
+    tokens_back state refused s word z.0 z.1 I.given (length left) x z.2 z.3 z.4 ps count piece c.work_apart-back.result.0 (length I.hands.windows) c.work_apart-back.result.1.all (take (length I.given) x.answers.items) c.work_apart-back.new.kept.items I.did
 
 pub join-requires-clause-parted : goal.join-requires-clause-parted
 join-requires-clause-parted g c = c.work_apart-back.ensures.asked.stays.parted ∙ c.in_ok-pieces.ensures.ok.parted
@@ -115,7 +115,7 @@ join-requires-clause-pieces g c =
     let split = g.R.Region.state c.split.new.self in
     let mid = g.R.Region.state c.work_apart-back.new.region in
     let parted = still_parted s split mid x.cuts.items (subst (λ (cs : List ℕ). Parted s split cs) c.deref.ensures.value c.in_ok-pieces.ensures.ok) c.work_apart-back.ensures.asked in
-    pieces_back state refused s word z.0 z.1 I.given (length left) x z.2 z.3 z.4 ps count piece c.work_apart-back.result.0 c.work_apart-back.result.1.all (take (length I.given) x.answers.items) c.work_apart-back.new.kept.items I.did mid parted
+    pieces_back state refused s word z.0 z.1 I.given (length left) x z.2 z.3 z.4 ps count piece c.work_apart-back.result.0 (length I.hands.windows) c.work_apart-back.result.1.all (take (length I.given) x.answers.items) c.work_apart-back.new.kept.items I.did mid parted
 
 pub work_apart-back-requires-clause-places : goal.work_apart-back-requires-clause-places
 work_apart-back-requires-clause-places g c κs within = (let z = c.requires.supplied in sym z.4.places)
@@ -154,15 +154,19 @@ returns-clause-ran g c = λ o r F B S.
     let report = c.outcome_of.ensures.report in
     let all = sym (ap had_memory c.outcome_of.ensures.end ∙ end_memory course.all (any_stopped c.work_apart-back.result.0.workers.items)) in
     let replies = sym (report.replies ∙ same_replies c.stamp.result kept) in
+    let ran = run_ran state refused s word o r I.given (length left) x F B S ps count piece c.work_apart-back.result.0 (length I.hands.windows) course.all blanks kept I.did c.close_tables.ensures t c.join.ensures.pieces c.every_chain.ensures c.every_opening.ensures.keys c.every_opening.ensures.doubts
+    (let places = S.places in length-take-le (length I.given) x.answers.items (omega (arith, few, places))) (fewer_blank (length I.given) x.answers.items S.blank)
+    mid (still_parted s split mid x.cuts.items cut asked) c.join.ensures.whole c.join.ensures.next c.requires.whole (asked.opens ∙ c.in_ok-pieces.ensures.opens) (asked.refusals ∙ c.in_ok-pieces.ensures.cause.else_same (λ is. cc is)) c.join.ensures.opens c.every_refusal.ensures c.every_moment.ensures c.every_cut.ensures
+    c.outcome_of.result (subst (λ n. IsReport (restamped n kept) (report_in c.outcome_of.result)) c.stamp.ensures report) c.outcome_of.ensures.end in
+    let new = c.work_apart-back.new.outlet in
+    let hands = subst (λ b. (H : HandsOut g.O.Outlet.takes b course.heard c.outcome_of.result.replies.items split c.args.outlet.now mid new) × (H.windows ≡ I.hands.windows)) all
+    (subst (λ rs. (H : HandsOut g.O.Outlet.takes course.all course.heard rs split c.args.outlet.now mid new) × (H.windows ≡ I.hands.windows)) replies (I.hands, refl)) in
     record {
       given = I.given;
       more = I.more;
       split = I.split;
       whole = I.whole;
-      ran = run_ran state refused s word o r I.given (length left) x F B S ps count piece c.work_apart-back.result.0 course.all blanks kept I.did c.close_tables.ensures t c.join.ensures.pieces c.every_chain.ensures c.every_opening.ensures.keys c.every_opening.ensures.doubts
-          (let places = S.places in length-take-le (length I.given) x.answers.items (omega (arith, few, places))) (fewer_blank (length I.given) x.answers.items S.blank)
-          mid (still_parted s split mid x.cuts.items cut asked) c.join.ensures.whole c.join.ensures.next c.requires.whole (asked.opens ∙ c.in_ok-pieces.ensures.opens) (asked.refusals ∙ c.in_ok-pieces.ensures.cause.else_same (λ is. cc is)) c.join.ensures.opens c.every_refusal.ensures c.every_moment.ensures c.every_cut.ensures
-          c.outcome_of.result (subst (λ n. IsReport (restamped n kept) (report_in c.outcome_of.result)) c.stamp.ensures report) c.outcome_of.ensures.end;
+      ran = ran.0;
       before = split;
       behind = mid;
       parted = (let same = cut.faults in omega (arith, same));
@@ -170,8 +174,9 @@ returns-clause-ran g c = λ o r F B S.
       joined = c.join.ensures.whole.faults;
       unasked = c.in_ok-pieces.ensures.validations;
       asked_since = c.join.ensures.validations;
-      hands = subst (λ b. HandsOut g.O.Outlet.takes b course.heard c.outcome_of.result.replies.items split c.args.outlet.now mid c.work_apart-back.new.outlet) all
-          (subst (λ rs. HandsOut g.O.Outlet.takes course.all course.heard rs split c.args.outlet.now mid c.work_apart-back.new.outlet) replies I.hands);
+      hands = hands.0;
+      between = λ i low. ran.1 i (subst (λ ws. i ≤ length ws) hands.1 low);
+      ended = λ is. ran.2 (all ∙ is);
     }
 
 pub returns-clause-cause : goal.returns-clause-cause

@@ -1,15 +1,15 @@
-use Rattle.std.proofs.Common.{◌≡◌, ◌⊎◌, inl, inr, ◌+◌, ◌-◌, [], ◌∷◌, ◌++◌, length, length-append, map, take, drop, true, false, refl, sym, ◌∙◌, ap, subst, append-nil, append_assoc, arith}
+use Rattle.std.proofs.Common.{◌≡◌, ◌⊎◌, inl, inr, suc, [], ◌∷◌, ◌++◌, length, length-append, map, take, drop, true, false, refl, sym, ◌∙◌, ap, subst, append-nil, append_assoc, arith}
 use Rattle.std.proofs.lemmas.List.{nil_from_length, take_all}
-use Rattle.answer_queue.specs.declared.window_sizes.TheConstants.{WINDOW}
 use Rattle.group_engine.specs.Reports.{reply_in}
 use Rattle.thread_engine.specs.Outlets.{all_replies}
-use Rattle.thread_engine.specs.Windows.{WorksThrough}
+use Rattle.thread_engine.specs.Windows.{WorksThrough, AllRested}
 use Rattle.thread_engine.specs.Takings.{both_outs, TakenAs}
 use Rattle.thread_engine.proofs.KeptAnswers.{stored_long}
 use Rattle.thread_engine.proofs.Handing.{all_more, full_more, takes_more, unasked, asked_again, taken_front, own, own_long, handed_more, handed_short}
 use Rattle.thread_engine.proofs.Takings.{nothing_taken, more_taken, taken_below}
-use Rattle.thread_engine.proofs.WindowWork.{none_went, window_more, at_work_on}
-use Rattle.thread_engine.proofs.WindingDown.{wound_went, wound_ended, wound_given, wound_all}
+use Rattle.thread_engine.proofs.WindowWork.{none_went, at_work_on}
+use Rattle.thread_engine.proofs.Resting.{none_rested, window_rested, next_rested, wound_rested}
+use Rattle.thread_engine.proofs.WindingDown.{wound_ended, wound_given, wound_all}
 use Rattle.thread_engine.specs.WorkStates.{sight_by}
 use Rattle.thread_engine.proofs.windows.work_windows.Goals as goal
 
@@ -31,6 +31,8 @@ loop-init g c =
         rest = c.requires.rest;
         taken = nothing_taken 0 0 0 c.args.kept.now.items;
         windows = [];
+        begun = refl;
+        rested = none_rested g.B.Board.seat (sight_by g.B.Board.view g.B.Board.trail g.B.Board.at) g.P.Region.state (g.G.Gate.may_refuse c.args.gate.now) c.args.jobs.now (none_went g.B.Board.seat (sight_by g.B.Board.view g.B.Board.trail g.B.Board.at) g.P.Region.state (g.G.Gate.may_refuse c.args.gate.now) 0 c.args.jobs.now c.requires.rest) c.requires.rest;
         full = tt;
         handed = refl;
         heard = (refl, refl);
@@ -82,8 +84,11 @@ returns-then-not-work_window-clause-works g c =
     let S = c.work_window.ensures.some_ in
     let refused = g.G.Gate.may_refuse c.args.gate.now in
     let outs = both_outs I.outs S.outs in
-    let went = window_more seat sight state refused c.loop.from I.dealt S.dealt I.outs S.outs c.args.jobs.now c.loop.jobs c.work_window.new.jobs I.number I.went S.went in
+    let begun = I.begun in
+    let number = I.number in
+    let went = window_rested seat sight state refused c.loop.from (length I.windows) I.dealt S.dealt I.outs S.outs c.args.jobs.now c.loop.jobs c.work_window.new.jobs I.number (omega (arith, begun, number)) (I.went, I.rested) S.went in
     let W = c.wind_all_down.ensures in
+    let ended = wound_rested seat sight state refused (length I.windows) (I.dealt ++ S.dealt) outs c.args.jobs.now c.work_window.new.jobs c.wind_all_down.new.jobs W went in
     let from = c.loop.from in
     let to = c.window_end-to.result in
     let after = c.window_end-to.ensures.after in
@@ -97,12 +102,14 @@ returns-then-not-work_window-clause-works g c =
       more = [];
       split = sym (append-nil left);
       whole = λ heard. refl;
-      did = subst (λ ys. WorksThrough seat sight state refused left false c.args.jobs.now c.wind_all_down.new.jobs ys b) (sym (take_all (length left) c.args.kept.now.items (omega (arith, places)))) (record {
+      did = subst (λ ys. WorksThrough seat sight state refused left (length I.windows) false c.args.jobs.now c.wind_all_down.new.jobs ys b) (sym (take_all (length left) c.args.kept.now.items (omega (arith, places)))) (record {
         dealt = I.dealt ++ S.dealt;
         rest = S.rest;
         split = I.split ∙ ap (λ xs. I.dealt ++ xs) S.split ∙ sym (append_assoc I.dealt S.dealt S.rest);
         outs = outs;
-        went = wound_went seat sight state c.work_window.new.jobs c.wind_all_down.new.jobs W refused 0 (I.dealt ++ S.dealt) outs c.args.jobs.now went;
+        went = ended.0;
+        within = (let long = length-append I.dealt S.dealt in omega (arith, begun, number, long));
+        rested = ended.1;
         ended = wound_ended seat sight state c.work_window.new.jobs c.wind_all_down.new.jobs W S.ended;
         none = wound_given seat sight state c.work_window.new.jobs c.wind_all_down.new.jobs W S.none;
         taken = taken_below 0 0 to (length left) outs c.args.kept.now.items b (omega (arith, within, all))
@@ -148,6 +155,8 @@ returns-then-not-heard-clause-works g c =
     let long : length given ≡ to = (let l = length-append I.dealt S.dealt in let d = S.end in omega (arith, l, d, number)) in
     let taken = taken_front 0 0 to (both_outs I.outs S.outs) c.args.kept.now.items b (more_taken 0 0 from to I.outs S.outs c.args.kept.now.items a b (omega arith) after I.taken S.taken) in
     let cut = c.truncate.ensures.items in
+    let begun = I.begun in
+    let went = window_rested seat sight state refused from (length I.windows) I.dealt S.dealt I.outs S.outs c.args.jobs.now c.loop.jobs c.work_window.new.jobs I.number (omega (arith, begun, number)) (I.went, I.rested) S.went in
     record {
       given = given;
       more = new;
@@ -163,7 +172,9 @@ returns-then-not-heard-clause-works g c =
         rest = [];
         split = sym (append-nil given);
         outs = both_outs I.outs S.outs;
-        went = window_more seat sight state refused from I.dealt S.dealt I.outs S.outs c.args.jobs.now c.loop.jobs c.work_window.new.jobs I.number I.went S.went;
+        went = went.0;
+        within = omega (arith, begun, long, after);
+        rested = went.1;
         ended = λ i d low. (S.rest.rest i d low).ended;
         none = λ i d low. (S.rest.rest i d low).none;
         taken = subst (λ n. TakenAs 0 0 n (both_outs I.outs S.outs) (take n c.args.kept.now.items) c.truncate.new.self.items) (sym long) (subst (λ ys. TakenAs 0 0 to (both_outs I.outs S.outs) (take to c.args.kept.now.items) ys) (sym cut) taken);
@@ -212,7 +223,10 @@ loop-preserved g c =
     let b = c.work_window.new.kept.items in
     let w = own c.loop.from to after S.outs a b S.taken in
     let same = ap length S.taken.kept ∙ stored_long S.taken.taken 0 a in
-    let full = c.window_end-to.ensures.full (let not_yet = c.if-to-count.false in omega (arith, not_yet, within)) in (
+    let full = c.window_end-to.ensures.full (let not_yet = c.if-to-count.false in omega (arith, not_yet, within)) in
+    let begun = I.begun in
+    let went = window_rested seat sight state refused c.loop.from (length I.windows) I.dealt S.dealt I.outs S.outs c.args.jobs.now c.loop.jobs c.work_window.new.jobs I.number (omega (arith, begun, number)) (I.went, I.rested) S.went in
+    let more : length (I.windows ++ w ∷ []) ≡ suc (length I.windows) = (let long = length-append I.windows (w ∷ []) in omega (arith, long)) in (
       tt,
       tt,
       record {
@@ -223,10 +237,14 @@ loop-preserved g c =
         count = (let a = ap length S.split ∙ length-append S.dealt new in let b = I.count in let d = S.end in omega (arith, a, b, d));
         all = I.all;
         places = omega (arith, same, places);
-        went = window_more seat sight state refused c.loop.from I.dealt S.dealt I.outs S.outs c.args.jobs.now c.loop.jobs c.work_window.new.jobs I.number I.went S.went;
+        went = went.0;
         rest = S.rest;
         taken = more_taken 0 0 c.loop.from to I.outs S.outs c.args.kept.now.items c.loop.kept.items c.work_window.new.kept.items (omega arith) after I.taken S.taken;
         windows = I.windows ++ w ∷ [];
+        begun = omega (arith, begun, full, more);
+        rested = subst (λ n. AllRested seat sight state refused n (I.dealt ++ S.dealt) (both_outs I.outs S.outs) c.args.jobs.now c.work_window.new.jobs went.0) (sym more)
+            (next_rested seat sight state refused (I.dealt ++ S.dealt) (both_outs I.outs S.outs) c.args.jobs.now c.work_window.new.jobs went.0 S.rest (length I.windows)
+            (let a = length-append I.dealt S.dealt in let d = S.end in omega (arith, a, d, number, begun, full)) went.1);
         full = full_more I.windows w I.full (let long = own_long c.loop.from to after S.outs a b S.taken (omega (arith, places, same, within)) in omega (arith, long, full));
         handed = handed_more c.loop.from to after S.outs a b S.taken I.windows I.handed ∙ sym (all_more I.windows w);
         heard = takes_more g.O.Outlet.takes I.windows w (g.R.Region.state c.args.region.now) c.args.outlet.now (g.R.Region.state c.loop.region) c.loop.outlet (g.R.Region.state c.hand_window-heard.new.region) c.hand_window-heard.new.outlet I.heard

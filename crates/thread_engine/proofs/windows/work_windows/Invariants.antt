@@ -1,4 +1,4 @@
-use Rattle.std.proofs.Common.{◌≡◌, ◌+◌, List, ◌++◌, length, map, take}
+use Rattle.std.proofs.Common.{◌≡◌, ◌+◌, ◌*◌, List, ◌++◌, length, map, take}
 use Rattle.std.specs.List.{AllByRecursion}
 use Rattle.fs_model.specs.declared.model.Request.{Request}
 use Rattle.fs_model.specs.declared.model.Reply.{Reply}
@@ -7,7 +7,7 @@ use Rattle.group_engine.specs.Reports.{reply_in}
 use Rattle.thread_engine.specs.Outlets.{IsAsked, all_replies, TakesAll}
 use Rattle.core_worker.specs.declared.types.Answer.{Answer}
 use Rattle.thread_engine.specs.Takings.{TakenAs}
-use Rattle.thread_engine.specs.Windows.{AreAtRest, AllWentOn}
+use Rattle.thread_engine.specs.Windows.{AreAtRest, AllWentOn, AllRested}
 use Rattle.thread_engine.specs.WorkStates.{sight_by}
 use Rattle.thread_engine.proofs.windows.work_windows.Given as goal
 
@@ -26,6 +26,8 @@ invariant-loop g l = (goal.iterator-loop g).can_next l.iterator'
       rest : AreAtRest g.B.Board.seat (sight_by g.B.Board.view g.B.Board.trail g.B.Board.at) g.P.Region.state l.jobs;
       taken : TakenAs 0 0 l.from outs l.fn.kept.items l.kept.items;
       windows : List (List Reply);
+      begun : l.from ≡ length windows * WINDOW;
+      rested : AllRested g.B.Board.seat (sight_by g.B.Board.view g.B.Board.trail g.B.Board.at) g.P.Region.state (g.G.Gate.may_refuse l.gate) (length windows) dealt outs l.fn.jobs l.jobs went;
       full : AllByRecursion (λ w. length w ≡ WINDOW) windows;
       handed : map reply_in (take l.from l.kept.items) ≡ all_replies windows;
       heard : TakesAll g.O.Outlet.takes windows (g.R.Region.state l.fn.region) l.fn.outlet (g.R.Region.state l.region) l.outlet;
