@@ -13,10 +13,10 @@ use Rattle.std.specs.Box.{box_value}
 use Rattle.clap.proofs.ValueTestLemmas.{accepts-Accepts, Accepts-accepts}
 use Rattle.clap.proofs.WalkLemmas.{one_text-rows}
 use Rattle.clap.proofs.OnLiterals.{clap_on_literals}
-use Rattle.flatstore_commands.specs.Commands.{Form, program, u64_reader, number_of, number_in, is_good, form_in, form_of, needs_threads, is_run, alone_form_of}
-use Rattle.flatstore_commands.specs.Commands.Form.{Format, Replay, Run, Dump, Log, Scan, Audit}
+use Rattle.flatstore_commands.specs.Commands.{Form, program, u64_reader, number_of, number_in, is_good, form_in, form_of, needs_threads, is_load, is_run, alone_form_of}
+use Rattle.flatstore_commands.specs.Commands.Form.{Format, Replay, Run, Dump, Log, Scan, Audit, Load}
 use Rattle.flatstore_commands.specs.Asked.{threaded, Way}
-use Rattle.flatstore_commands.specs.Asked.Way.{Runs, Audits}
+use Rattle.flatstore_commands.specs.Asked.Way.{Runs, Audits, Loads}
 
 refuse : (b : Bool) (x : Option ℕ) → (b ≡ true → ⊥) → None ≡ (if b then x else None)
 refuse true x never = absurd (never refl)
@@ -84,6 +84,7 @@ run_way (Some (Dump path)) is = cc is
 run_way (Some (Log path)) is = cc is
 run_way (Some (Scan path)) is = cc is
 run_way (Some (Audit path workers)) is = cc is
+run_way (Some (Load path start count)) is = cc is
 
 pub audit_way : (f : Option Form) (n : ℕ) → threaded f ≡ Some (Audits n) → is_run f ≡ false
 audit_way None n is = refl
@@ -94,6 +95,7 @@ audit_way (Some (Dump path)) n is = refl
 audit_way (Some (Log path)) n is = refl
 audit_way (Some (Scan path)) n is = refl
 audit_way (Some (Audit path workers)) n is = refl
+audit_way (Some (Load path start count)) n is = cc is
 
 pub no_way : (f : Option Form) → needs_threads f ≡ false → is_run f ≡ false
 no_way None alone = refl
@@ -104,3 +106,30 @@ no_way (Some (Dump path)) alone = refl
 no_way (Some (Log path)) alone = refl
 no_way (Some (Scan path)) alone = refl
 no_way (Some (Audit path workers)) alone = refl
+no_way (Some (Load path start count)) alone = cc alone
+
+pub load_way : (f : Option Form) (start count : ℕ) → threaded f ≡ Some (Loads start count) → is_run f ≡ false
+load_way None start count is = cc is
+load_way (Some (Format path l)) start count is = cc is
+load_way (Some (Replay path)) start count is = cc is
+load_way (Some (Run path)) start count is = cc is
+load_way (Some (Dump path)) start count is = cc is
+load_way (Some (Log path)) start count is = cc is
+load_way (Some (Scan path)) start count is = cc is
+load_way (Some (Audit path workers)) start count is = cc is
+load_way (Some (Load path first number)) start count is = refl
+
+pub load_is : (f : Option Form) (start count : ℕ) → threaded f ≡ Some (Loads start count) → is_load f ≡ true
+load_is None start count is = cc is
+load_is (Some (Format path l)) start count is = cc is
+load_is (Some (Replay path)) start count is = cc is
+load_is (Some (Run path)) start count is = cc is
+load_is (Some (Dump path)) start count is = cc is
+load_is (Some (Log path)) start count is = cc is
+load_is (Some (Scan path)) start count is = cc is
+load_is (Some (Audit path workers)) start count is = cc is
+load_is (Some (Load path first number)) start count is = refl
+
+-- the numbers that are asked for are those of the words
+pub load_numbers : (f : Option Form) (path : Text) (a b m n : ℕ) → f ≡ Some (Load path a b) → threaded f ≡ Some (Loads m n) → (a ≡ m) × (b ≡ n)
+load_numbers f path a b m n is way = (let same : Some (Loads a b) ≡ Some (Loads m n) = sym (ap threaded is) ∙ way in cc, let same : Some (Loads a b) ≡ Some (Loads m n) = sym (ap threaded is) ∙ way in cc)

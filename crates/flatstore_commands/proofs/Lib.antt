@@ -9,7 +9,9 @@ pub mod Serving
 pub mod Running
 pub mod Replaying
 pub mod Refused
+pub mod Apart
 pub mod ThreadRunning
+pub mod LoadServing
 pub mod Standing
 pub mod Staying
 pub mod Opened

@@ -27,9 +27,9 @@ use Rattle.group_engine.specs.declared.run_report.Refusal.{Refusal}
 use Rattle.group_engine.specs.Answers.{reply_to}
 use Rattle.group_engine.specs.Reports.{as_told, ShowsWhy}
 use Rattle.flatstore_commands.specs.Ends.{SourceUse, SinkUse}
-use Rattle.flatstore_commands.specs.LastStates.{told_in, AreRising}
-use Rattle.flatstore_commands.specs.Ordering.{KeepsOrder, IsServed, due, IsDue, IsFault, status_of, is_broken, is_of_region, is_of_line, is_of_run, is_whole}
-use Rattle.flatstore_commands.specs.Promise.{WritesFront, IsInput, Serves, Replays, asked_in}
+use Rattle.flatstore_commands.specs.LastStates.{told_in, AreRising, WindsDown}
+use Rattle.flatstore_commands.specs.Ordering.{GoesInOrder, KeepsOrder, IsServed, due, IsDue, IsFault, status_of, is_broken, is_of_region, is_of_line, is_of_run, is_whole}
+use Rattle.flatstore_commands.specs.Promise.{Says, IsInput, Serves, Replays, TakesReplies, TakesFront, asked_in}
 use Rattle.flatstore_commands.specs.Reads.{IsUnread}
 use Rattle.flatstore_commands.specs.Statuses.{fault_status}
 use Rattle.flatstore_commands.specs.Played.{IsUnserved, IsCounted, IsRefused}
@@ -38,7 +38,7 @@ use Rattle.flatstore_commands.specs.declared.report.Status.TheVariants as status
 use Rattle.flatstore_commands.specs.declared.report.Report.{Report}
 use Rattle.flatstore_commands.proofs.Answering.{all_stopped, all_stop, each_stop, nothing_answered}
 use Rattle.flatstore_commands.proofs.Attached.{found_words, found_fault, sound_small, crash_at_attach}
-use Rattle.flatstore_commands.proofs.Texts.{both, no_text}
+use Rattle.flatstore_commands.proofs.Texts.{both, silent_front}
 
 may_all : (MayStop : Type 0) (replies : List Reply) → MayStop → AllByRecursion (λ x. is_stopped x ≡ true → MayStop) replies
 may_all MayStop [] may = tt
@@ -118,15 +118,12 @@ module _ (old s : State) (found : ℕ → ℕ) (A : Attached old s s.frame.bytes
   served_by cores u telling = let h = u telling in let f = core_found telling h.0 in (f.0, sym h.1 ∙ f.1)
 
 -- What is so of a report that answers nothing, on a region that says what it said when it was attached, whatever the status.
-module _ (old s : State) (found : ℕ → ℕ) (A : Attached old s s.frame.bytes found) (r : Report) (fin : r.finishes.items ≡ []) (ref : r.refusals.items ≡ []) (cut : r.complete ≡ false) (cores : ℕ) (input : List ℕ) where
+module _ (old s : State) (found : ℕ → ℕ) (A : Attached old s s.frame.bytes found) (r : Report) (fin : r.finishes.items ≡ []) (ref : r.refusals.items ≡ []) (cut : r.complete ≡ false) (trace : List Request) where
   abbrev none : Told
   none = record { finishes = []; refusals = [] }
 
   nothing : told_in r ≡ none
   nothing = (λ i. as_told (fin i) (ref i))
-
-  abbrev trace : List Request
-  trace = asked_in cores input
 
   abbrev MayStop : Type 0
   MayStop = r.complete ≡ true → Rose old.faults s.faults
@@ -148,26 +145,47 @@ module _ (old s : State) (found : ℕ → ℕ) (A : Attached old s s.frame.bytes
       let is : n ≡ s.stamp = omega (arith, stamp, seen) in
       subst (IsTold s) is told
 
-  pub none_begins : (sink : SinkUse) → sink.now ≡ sink.before → WritesFront (IsTelling s) (cells_of found) trace (told_in r) MayStop sink
-  none_begins sink same = subst (λ x. WritesFront (IsTelling s) (cells_of found) trace x MayStop sink) (sym nothing) (no_text (IsTelling s) (cells_of found) trace none MayStop (all_stopped trace) said sink same)
+  none_begins : (Front : List Reply → Type 0) → Front (all_stopped trace) → Says Front (IsTelling s) (cells_of found) trace (told_in r) MayStop
+  none_begins Front out = subst (λ x. Says Front (IsTelling s) (cells_of found) trace x MayStop) (sym nothing) (all_stopped trace, said, out)
 
-  pub none_lost : IsSound s.frame.bytes found → RecoversThroughout s (cells_of found) trace (told_in r)
+  none_lost : IsSound s.frame.bytes found → RecoversThroughout s (cells_of found) trace (told_in r)
   none_lost sound = subst (λ x. RecoversThroughout s (cells_of found) trace x) (sym nothing) (crash_at_attach old s found A sound trace)
 
-  pub none_rising : AreRising (finished_in (told_in r)) × AreRising (refused_in (told_in r))
+  none_rising : AreRising (finished_in (told_in r)) × AreRising (refused_in (told_in r))
   none_rising = subst (λ (z : Told). AreRising (finished_in z) × AreRising (refused_in z)) (sym nothing) (tt, tt)
 
-  pub none_full : AllByRecursion (λ (x : Refusal). reply_to x.why ≡ Full → (k : ℕ) → IsAsked trace x.request k → IsAmpleFor (layout_of found) found trace (owner (layout_of found) k) → ⊥) r.refusals.items
+  none_full : AllByRecursion (λ (x : Refusal). reply_to x.why ≡ Full → (k : ℕ) → IsAsked trace x.request k → IsAmpleFor (layout_of found) found trace (owner (layout_of found) k) → ⊥) r.refusals.items
   none_full = subst (λ xs. AllByRecursion (λ (x : Refusal). reply_to x.why ≡ Full → (k : ℕ) → IsAsked trace x.request k → IsAmpleFor (layout_of found) found trace (owner (layout_of found) k) → ⊥) xs) (sym ref) tt
 
-  pub none_spent : AllByRecursion (λ (x : Refusal). (last : ℕ) → x.why ≡ Versions last → (k : ℕ) → IsAsked trace x.request k → LAST_PUT_VERSION ≤ version_of found k + changes_asked k (take x.request trace)) r.refusals.items
+  none_spent : AllByRecursion (λ (x : Refusal). (last : ℕ) → x.why ≡ Versions last → (k : ℕ) → IsAsked trace x.request k → LAST_PUT_VERSION ≤ version_of found k + changes_asked k (take x.request trace)) r.refusals.items
   none_spent = subst (λ xs. AllByRecursion (λ (x : Refusal). (last : ℕ) → x.why ≡ Versions last → (k : ℕ) → IsAsked trace x.request k → LAST_PUT_VERSION ≤ version_of found k + changes_asked k (take x.request trace)) xs) (sym ref) tt
 
-  pub none_long : AllByRecursion (λ (x : Refusal). (n : ℕ) → x.why ≡ Length n → (q : Request) → slice_get trace x.request ≡ Some q → is_too_long (layout_of found) q ≡ true) r.refusals.items
+  none_long : AllByRecursion (λ (x : Refusal). (n : ℕ) → x.why ≡ Length n → (q : Request) → slice_get trace x.request ≡ Some q → is_too_long (layout_of found) q ≡ true) r.refusals.items
   none_long = subst (λ xs. AllByRecursion (λ (x : Refusal). (n : ℕ) → x.why ≡ Length n → (q : Request) → slice_get trace x.request ≡ Some q → is_too_long (layout_of found) q ≡ true) xs) (sym ref) tt
 
-  pub none_counted : AllByRecursion (ShowsWhy trace) r.refusals.items
+  none_counted : AllByRecursion (ShowsWhy trace) r.refusals.items
   none_counted = subst (AllByRecursion (ShowsWhy trace)) (sym ref) tt
+
+  -- So is what it promises, where its status is none of the writing's.
+  module _ (All Front : List Reply → Type 0) (sink : SinkUse) (out : (replies : List Reply) → Front replies) (unplaced : r.in_place ≡ false) (unwritten : is_whole r.status ≡ false) (short : r.status ≡ statuses.Memory → r.began ≡ true → WindsDown s r) where
+    pub none_serves : Serves All Front old s found trace sink r
+    none_serves = record {
+      asked = λ here. both r.in_place here unplaced;
+      astray = λ complete gone. both r.complete complete cut;
+      done = λ done. both (is_whole r.status) (ap is_whole done) unwritten;
+      failed = λ failed here steady. both r.in_place here unplaced;
+      sunk = λ sunk. both (is_whole r.status) (ap is_whole sunk) unwritten;
+      begins = none_begins Front (out (all_stopped trace));
+      crash = none_lost;
+      last = λ whole. both (is_whole r.status) whole unwritten;
+      rising = none_rising;
+      full = λ telling. none_full;
+      spent = λ telling. none_spent;
+      unrefused = λ telling within. ref;
+      long = λ telling. none_long;
+      counts = none_counted;
+      short = λ memory began no. short memory began;
+    }
 
 module _ (old s : State) (found : ℕ → ℕ) (A : Attached old s s.frame.bytes found) (source : SourceUse) (status : Status) (U : IsRefused s source status) where
   unread_none : (cores : ℕ) → IsUnread source cores status → answers_none status ≡ true
@@ -205,27 +223,18 @@ module _ (old s : State) (found : ℕ → ℕ) (A : Attached old s s.frame.bytes
       whole = λ whole. both (is_whole r.status) whole (ap is_whole is ∙ (no_run status is_none).1);
     }
 
-    serves : Serves old s found source cores input (asked_in cores input) sink r
-    serves = record {
-      cores_are = λ n told. count (told_now old s found A r fin ref cut cores input n told);
+    in_order : GoesInOrder old s found source cores input sink r
+    in_order = record {
+      cores_are = λ n told. count (told_now old s found A r fin ref cut [] n told);
       order = order;
       due = judged;
-      asked = λ here. both r.in_place here unplaced;
-      astray = λ complete gone. both r.complete complete cut;
-      done = λ done. absurd (no_status statuses.Done refl done);
-      failed = λ failed here steady. absurd (no_status statuses.RegionFault refl failed);
-      sunk = λ sunk. absurd (no_status statuses.SinkFault refl sunk);
-      begins = none_begins old s found A r fin ref cut cores input sink same;
-      crash = none_lost old s found A r fin ref cut cores input;
-      last = λ whole telling image may k small. both (is_whole r.status) whole (ap is_whole is ∙ (no_run status is_none).1);
-      rising = none_rising old s found A r fin ref cut cores input;
-      full = λ telling. none_full old s found A r fin ref cut cores input;
-      spent = λ telling. none_spent old s found A r fin ref cut cores input;
-      unrefused = λ telling within. ref;
-      long = λ telling. none_long old s found A r fin ref cut cores input;
-      counts = none_counted old s found A r fin ref cut cores input;
-      short = λ memory began no. both r.began began unbegun;
     }
+
+    serves : Serves (TakesReplies sink) (TakesFront sink) old s found (asked_in cores input) sink r
+    serves = none_serves old s found A r fin ref cut (asked_in cores input) (TakesReplies sink) (TakesFront sink) sink (silent_front sink same) unplaced (ap is_whole is ∙ (no_run status is_none).1) (λ memory began. both r.began began unbegun)
+
+    kept_order : GoesInOrder old s found source cores input sink r × Serves (TakesReplies sink) (TakesFront sink) old s found (asked_in cores input) sink r
+    kept_order = (in_order, serves)
 
   unserved_due : IsUnserved s status → (input : List ℕ) → IsTelling s → (sink : SinkUse) → IsDue s.frame.bytes found input status ⊎ IsFault old s source sink status
   unserved_due (inl u) input telling sink = inl (u.1 ∙ sym (ap (due found input) (sym (found_fault old s found A telling) ∙ u.2 telling)))
@@ -249,7 +258,7 @@ module _ (old s : State) (found : ℕ → ℕ) (A : Attached old s s.frame.bytes
     ]
 
   pub refused_serves : (r : Report) → r.status ≡ status → r.finishes.items ≡ [] → r.refusals.items ≡ [] → r.began ≡ false → r.complete ≡ false → r.in_place ≡ false → (sink : SinkUse) → sink.now ≡ sink.before
-      → (input : List ℕ) × (cores : ℕ) × IsInput source.coming input × Serves old s found source cores input (asked_in cores input) sink r
+      → (input : List ℕ) × (cores : ℕ) × IsInput source.coming input × GoesInOrder old s found source cores input sink r × Serves (TakesReplies sink) (TakesFront sink) old s found (asked_in cores input) sink r
   refused_serves r is fin ref unbegun cut unplaced sink same = by U where
     in_status : (input : List ℕ) → IsDue s.frame.bytes found input status ⊎ IsFault old s source sink status → IsDue s.frame.bytes found input r.status ⊎ IsFault old s source sink r.status
     in_status input h = subst (λ st. IsDue s.frame.bytes found input st ⊎ IsFault old s source sink st) (sym is) h
@@ -257,36 +266,26 @@ module _ (old s : State) (found : ℕ → ℕ) (A : Attached old s s.frame.bytes
     due_line : (cores : ℕ) (input : List ℕ) → IsSound s.frame.bytes found × (cores ≡ found 2) → status ≡ status_of (input_of cores input) → IsDue s.frame.bytes found input status
     due_line cores input h e = e ∙ ap (λ c. status_of (input_of c input)) h.1 ∙ sym (ap (due found input) h.0)
 
-    by : IsRefused s source status → (input : List ℕ) × (cores : ℕ) × IsInput source.coming input × Serves old s found source cores input (asked_in cores input) sink r
+    by : IsRefused s source status → (input : List ℕ) × (cores : ℕ) × IsInput source.coming input × GoesInOrder old s found source cores input sink r × Serves (TakesReplies sink) (TakesFront sink) old s found (asked_in cores input) sink r
     by (inl u) =
-        let input = some_input source.coming in (
-          input.0,
-          found 2,
-          input.1,
-          serves r is fin ref unbegun cut unplaced sink same (found 2) input.0 (λ telling. refl) (λ line. both (is_of_line r.status) line (ap is_of_line is ∙ unserved_line u)) (λ e. absurd (unserved_source u (sym is ∙ e)))
-              (λ telling. in_status input.0 (unserved_due u input.0 telling sink)),
-        )
-    by (inr (cores, counted, inl x)) = (
-      x.1,
-      cores,
-      x.2,
-      serves r is fin ref unbegun cut unplaced sink same cores x.1 (λ telling. (served_by old s found A cores counted telling).1) (λ line. ((λ telling. (served_by old s found A cores counted telling).0), x.0, is ∙ x.4)) (λ e. absurd (broken_no_source (input_of cores x.1) (sym x.4 ∙ sym is ∙ e)))
-          (λ telling. in_status x.1 (inl (due_line cores x.1 (served_by old s found A cores counted telling) x.4))),
-    )
+        let input = some_input source.coming in
+        let k = kept_order r is fin ref unbegun cut unplaced sink same (found 2) input.0 (λ telling. refl) (λ line. both (is_of_line r.status) line (ap is_of_line is ∙ unserved_line u)) (λ e. absurd (unserved_source u (sym is ∙ e)))
+        (λ telling. in_status input.0 (unserved_due u input.0 telling sink)) in
+        (input.0, found 2, input.1, k.0, k.1)
+    by (inr (cores, counted, inl x)) =
+        let k = kept_order r is fin ref unbegun cut unplaced sink same cores x.1 (λ telling. (served_by old s found A cores counted telling).1) (λ line. ((λ telling. (served_by old s found A cores counted telling).0), x.0, is ∙ x.4)) (λ e. absurd (broken_no_source (input_of cores x.1) (sym x.4 ∙ sym is ∙ e)))
+        (λ telling. in_status x.1 (inl (due_line cores x.1 (served_by old s found A cores counted telling) x.4))) in
+        (x.1, cores, x.2, k.0, k.1)
     by (inr (cores, counted, inr (inl f))) =
-        let input = some_input source.coming in (
-          input.0,
-          cores,
-          input.1,
-          serves r is fin ref unbegun cut unplaced sink same cores input.0 (λ telling. (served_by old s found A cores counted telling).1) (λ line. both (is_of_line r.status) line (ap is_of_line (is ∙ f.0))) (λ e telling. (served_by old s found A cores counted telling).0) (λ telling. in_status input.0 (inr (inr (inl f)))),
-        )
+        let input = some_input source.coming in
+        let k = kept_order r is fin ref unbegun cut unplaced sink same cores input.0 (λ telling. (served_by old s found A cores counted telling).1) (λ line. both (is_of_line r.status) line (ap is_of_line (is ∙ f.0))) (λ e telling. (served_by old s found A cores counted telling).0)
+        (λ telling. in_status input.0 (inr (inr (inl f)))) in
+        (input.0, cores, input.1, k.0, k.1)
     by (inr (cores, counted, inr (inr m))) =
-        let input = some_input source.coming in (
-          input.0,
-          cores,
-          input.1,
-          serves r is fin ref unbegun cut unplaced sink same cores input.0 (λ telling. (served_by old s found A cores counted telling).1) (λ line. both (is_of_line r.status) line (ap is_of_line (is ∙ m))) (λ e. absurd (memory_source (sym m ∙ sym is ∙ e))) (λ telling. in_status input.0 (inr (inl m))),
-        )
+        let input = some_input source.coming in
+        let k = kept_order r is fin ref unbegun cut unplaced sink same cores input.0 (λ telling. (served_by old s found A cores counted telling).1) (λ line. both (is_of_line r.status) line (ap is_of_line (is ∙ m))) (λ e. absurd (memory_source (sym m ∙ sym is ∙ e)))
+        (λ telling. in_status input.0 (inr (inl m))) in
+        (input.0, cores, input.1, k.0, k.1)
 
   -- A run that was refused so didn't end with a fault of the region.
   pub refused_fault : (r : Report) → r.status ≡ status → r.status ≡ statuses.RegionFault → ⊥
@@ -296,4 +295,4 @@ module _ (old s : State) (found : ℕ → ℕ) (A : Attached old s s.frame.bytes
       → (input : List ℕ) × (cores : ℕ) × IsInput source.coming input × Replays old s found source cores input sink r
   refused_replays r is fin ref unbegun cut unplaced sink same =
       let x = refused_serves r is fin ref unbegun cut unplaced sink same in
-      (x.0, x.1, x.2, record { serves = x.3; kept_back = λ complete gone. same; ends = λ failed. absurd (refused_fault r is failed); run = λ complete. both r.complete complete cut; broke = λ began no. both r.began began unbegun })
+      (x.0, x.1, x.2, record { order = x.3; serves = x.4; kept_back = λ complete gone. same; ends = λ failed. absurd (refused_fault r is failed); run = λ complete. both r.complete complete cut; broke = λ began no. both r.began began unbegun })

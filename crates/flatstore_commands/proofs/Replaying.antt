@@ -19,15 +19,16 @@ use Rattle.engine_laws.proofs.Clients.{ran_given}
 use Rattle.flatstore_commands.specs.Attaching.{Runs, Asks}
 use Rattle.flatstore_commands.specs.Ends.{SourceUse, SinkUse, CountsFaults}
 use Rattle.flatstore_commands.specs.LastStates.{told_in, RanTo}
-use Rattle.flatstore_commands.specs.Promise.{IsInput, Replays, asked_in}
+use Rattle.flatstore_commands.specs.Promise.{IsInput, Replays, TakesReplies, TakesFront, asked_in}
 use Rattle.flatstore_commands.specs.Played.{Played, HasAnswered, EndsAs, is_ended}
 use Rattle.flatstore_commands.specs.declared.report.Report.{Report}
 use Rattle.flatstore_commands.proofs.Causing.{HasCauses}
 use Rattle.flatstore_commands.proofs.Inputs.{read_trace}
 use Rattle.flatstore_commands.proofs.Running as running
-use Rattle.flatstore_commands.proofs.Serving.{Known, serves, ends_then, counts_faults, cut_end}
+use Rattle.flatstore_commands.proofs.Serving.{Known, serves, in_order, ends_then, counts_faults, cut_end}
 use Rattle.flatstore_commands.proofs.Standing.{origin_cores}
 use Rattle.flatstore_commands.proofs.Staying.{asks_stays, asks_later, asks_none, asks_rose}
+use Rattle.flatstore_commands.proofs.Texts.{silent_front}
 use Rattle.flatstore_commands.proofs.Written.{front_written, ended_so, unplaced_same, cut_same}
 
 none_behind : {X : Type 0} (xs ys : List X) → xs ≡ xs ++ ys → ys ≡ []
@@ -82,7 +83,7 @@ module _ (old s t : State) (found word : ℕ → ℕ) (A : Attached old s s.fram
   low_stamp : (n : ℕ) → o.region.stamp ≤ n
   low_stamp n = let same = ap (λ (z : State). z.stamp) began in let stamp = A.stamp in omega (arith, same, stamp)
 
-  pub known : Known old found cores input trace o f x
+  pub known : Known old found cores trace o f x
   known = record {
     attached = subst (λ (z : State). Attached old z z.frame.bytes found) (sym began) A;
     origin = P.ran.begins.is;
@@ -93,8 +94,6 @@ module _ (old s t : State) (found word : ℕ → ℕ) (A : Attached old s s.fram
     low = let same = ap (λ (z : State). z.faults) began in omega (arith, low, same);
     words = subst (λ z. IsTelling z → (w : ℕ) → w < z.frame.bytes / 8 → o.found w ≡ lasts z w) (sym began) P.ran.begins.tells;
     count = count;
-    lines = P.lines;
-    good = P.ready.read.good;
     promised = P.ran.promised;
     more = P.ran.given.0;
     given = read_trace cores input P.lines P.ready.read.good ∙ P.ran.given.1;
@@ -129,7 +128,7 @@ module _ (old s t : State) (found word : ℕ → ℕ) (A : Attached old s s.fram
         let kept = known.kept in
         omega (arith, rose, low, kept)
 
-    ended : EndsAs x sink r.in_place r.status
+    ended : EndsAs (TakesReplies sink x.replies.items) (TakesFront sink x.replies.items) x.end sink r.in_place r.status
     ended = ended_so x sink r.status r.in_place W
 
     front : TakesPrefix sink.before sink.now (replies_text x.replies.items)
@@ -143,16 +142,17 @@ module _ (old s t : State) (found word : ℕ → ℕ) (A : Attached old s s.fram
 
     replays : Replays old u found source cores input sink r
     replays = record {
-      serves = serves old u found source cores input trace o f x known still later P.ready.read.whole sink r ended front held lost unasked report_told refusals begun complete_is;
+      order = in_order old u found cores trace o f x known still later (TakesReplies sink) (TakesFront sink) sink (silent_front sink) r ended front held lost unasked report_told refusals begun complete_is source input P.lines P.ready.read.good P.ready.read.whole;
+      serves = serves old u found cores trace o f x known still later (TakesReplies sink) (TakesFront sink) sink (silent_front sink) r ended front held lost unasked report_told refusals begun complete_is;
       kept_back = λ whole gone. unplaced_same x sink r.status r.in_place W gone;
-      ends = ends_then old u found source cores input trace o f x known still later P.ready.read.whole sink r ended front held lost unasked report_told refusals begun complete_is;
+      ends = ends_then old u found cores trace o f x known still later (TakesReplies sink) (TakesFront sink) sink (silent_front sink) r ended front held lost unasked report_told refusals begun complete_is;
       run = λ whole. running.ran_to old s t found word A once granted P.recovered P.ready.stands cores input P.lines P.ready.read.good x P.ran count u (asks_stays r.complete r.in_place t u asks) r finishes refusals sink W complete_is whole
           (subst (λ b. Asks b r.in_place t u) whole asks);
       broke = λ began cut. running.breaks_off old s t found word A once granted P.recovered P.ready.stands cores input P.lines P.ready.read.good x P.ran count u (asks_stays r.complete r.in_place t u asks) r finishes refusals (cut_end x.end (sym complete_is ∙ cut)) (subst (λ b. Asks b r.in_place t u) cut asks);
     }
 
     pub replay_counts : CountsFaults old u source sink r.status
-    replay_counts = counts_faults old u found source cores input trace o f x known still later P.ready.read.whole sink r ended front held lost unasked report_told refusals begun complete_is
+    replay_counts = counts_faults old u found cores trace o f x known still later (TakesReplies sink) (TakesFront sink) sink (silent_front sink) r ended front held lost unasked report_told refusals begun complete_is source
 
     pub promise : (input : List ℕ) × (cores : ℕ) × IsInput source.coming input × Replays old u found source cores input sink r
     promise = (input, cores, P.ready.read.is_input, replays)

@@ -28,6 +28,7 @@ use Rattle.group_engine.specs.Runs.{RunState, CoreMoves, first_state, with_reque
 use Rattle.flatstore_commands.specs.Attaching.{GoesOnFrom, Runs, Asks}
 use Rattle.flatstore_commands.specs.Ends.{SinkUse}
 use Rattle.flatstore_commands.specs.LastStates.{Starts, Opens, ReportsKept, ReportsAnswers, RanTo, BreaksOff}
+use Rattle.flatstore_commands.specs.Promise.{TakesReplies, TakesFront}
 use Rattle.flatstore_commands.specs.Played.{HasAnswered, is_ended}
 use Rattle.flatstore_commands.specs.declared.report.Report.{Report}
 use Rattle.flatstore_commands.proofs.Attached.{found_words}
@@ -124,7 +125,7 @@ module _ (old s t : State) (found word : ℕ → ℕ) (A : Attached old s s.fram
       reports = record {
         kept = kept;
         begins = subst (λ rs. TakesPrefix sink.before sink.now (replies_text rs)) P.kept.replies (front_written x sink r.status r.in_place W);
-        writes = λ here out. subst (λ rs. Takes sink.before sink.now (replies_text rs)) P.kept.replies (all_written x sink r.status r.in_place (ended_so x sink r.status r.in_place W) here out);
+        writes = λ here out. subst (λ rs. Takes sink.before sink.now (replies_text rs)) P.kept.replies (all_written (TakesReplies sink x.replies.items) (TakesFront sink x.replies.items) x.end sink r.status r.in_place (ended_so x sink r.status r.in_place W) here out);
       }
 
       licensed : IsTelling t → AllLicensed last.engine.layout last.engine.group (cell_now t)
@@ -142,7 +143,7 @@ module _ (old s t : State) (found word : ℕ → ℕ) (A : Attached old s s.fram
         answered = (P.done not_cut).answered;
         drained = (P.done not_cut).drained;
         reports = reports;
-        stops = λ fault here. P.fault (fault_end x sink r.status r.in_place (ended_so x sink r.status r.in_place W) fault here);
-        goes = λ whole. P.complete (whole_end x sink r.status r.in_place (ended_so x sink r.status r.in_place W) whole);
+        stops = λ fault here. P.fault (fault_end (TakesReplies sink x.replies.items) (TakesFront sink x.replies.items) x.end sink r.status r.in_place (ended_so x sink r.status r.in_place W) fault here);
+        goes = λ whole. P.complete (whole_end (TakesReplies sink x.replies.items) (TakesFront sink x.replies.items) x.end sink r.status r.in_place (ended_so x sink r.status r.in_place W) whole);
         licensed = λ telling. subst (AllLicensed last.engine.layout last.engine.group) (λ i w. sym (cells_still t u still w) i) (licensed (tells_still t u still telling));
       }

@@ -12,8 +12,7 @@ use Rattle.fs_model.specs.declared.model.Reply.TheVariants.{Full}
 use Rattle.fs_model.specs.Lawful.{IsLawful, Fits, is_finish, is_told, is_stopped}
 use Rattle.fs_text.specs.declared.line.Line.{Line}
 use Rattle.fs_text.specs.Input.{input_of}
-use Rattle.fs_text.specs.Streams.{IsReadOut, Takes, TakesPrefix}
-use Rattle.fs_text.specs.Output.{replies_text}
+use Rattle.fs_text.specs.Streams.{IsReadOut}
 use Rattle.log_entry.specs.declared.entry_limits.TheConstants.{LAST_PUT_VERSION}
 use Rattle.chunk_map.specs.declared.layouts.Geometry.{Geometry}
 use Rattle.chunk_map.specs.Layouts.{layout_of, superblock_rule, owner}
@@ -38,8 +37,8 @@ use Rattle.group_engine.specs.Answers.{reply_to}
 use Rattle.group_engine.specs.declared.run_report.Refusal.{Refusal}
 use Rattle.flatstore_commands.specs.Ends.{SourceUse, SinkUse, CountsFaults}
 use Rattle.flatstore_commands.specs.LastStates.{told_in, AreRising, WindsDown}
-use Rattle.flatstore_commands.specs.Ordering.{KeepsOrder, IsServed, due, IsDue, IsFault, status_of, is_broken, is_quiet, is_of_line, is_whole}
-use Rattle.flatstore_commands.specs.Promise.{WritesAll, WritesFront, Serves}
+use Rattle.flatstore_commands.specs.Ordering.{GoesInOrder, KeepsOrder, IsServed, due, IsDue, IsFault, status_of, is_broken, is_quiet, is_of_line, is_whole}
+use Rattle.flatstore_commands.specs.Promise.{Says, Serves}
 use Rattle.flatstore_commands.specs.Played.{EndsAs, is_ended}
 use Rattle.flatstore_commands.specs.declared.report.Status.{Status}
 use Rattle.flatstore_commands.specs.declared.report.Status.TheVariants as statuses
@@ -49,7 +48,7 @@ use Rattle.flatstore_commands.proofs.Agreeing as agreeing
 use Rattle.flatstore_commands.proofs.Numbering.{all_map, rising}
 use Rattle.flatstore_commands.proofs.Staying.{told_still, tells_still, leaves_still, leaves_now}
 use Rattle.flatstore_commands.proofs.Causing.{HasCauses, full_of, spent_of, unrefused_of, long_of}
-use Rattle.flatstore_commands.proofs.Texts.{both, all_text, front_text, no_text, small_sound}
+use Rattle.flatstore_commands.proofs.Texts.{both, small_sound}
 
 -- what did not come to its end wanted memory
 pub cut_end : (e : End) → is_ended e ≡ false → e ≡ ends.Memory
@@ -63,8 +62,8 @@ get_front [] ys n q e = absurd (cc e)
 get_front (x ∷ xs) ys zero q e = e
 get_front (x ∷ xs) ys (suc n) q e = get_front xs ys n q e
 
--- What is known of a run on a region that was attached, by the requests of an input that were begun, whoever made the moves of its cores.
-pub record Known (old : State) (found : ℕ → ℕ) (cores : ℕ) (input : List ℕ) (trace : List Request) (o : Origin) (f : Engine) (x : Outcome) : Type 0 where
+-- What is known of a run on a region that was attached, by the requests that were begun, whoever made the moves of its cores.
+pub record Known (old : State) (found : ℕ → ℕ) (cores : ℕ) (trace : List Request) (o : Origin) (f : Engine) (x : Outcome) : Type 0 where
   pub attached : Attached old o.region o.region.frame.bytes found
   pub low : old.faults ≤ o.region.faults
   pub kept : o.region.faults ≤ f.region.faults
@@ -75,8 +74,6 @@ pub record Known (old : State) (found : ℕ → ℕ) (cores : ℕ) (input : List
   pub was : (n : ℕ) → IsTold f.region n → IsTelling o.region
   pub bytes : f.region.frame.bytes ≡ o.region.frame.bytes
   pub leaves : (cells : ℕ → Cell) (image : ℕ → ℕ) → MayLeave f.region.frame cells image → MayLeave o.region.frame cells image
-  pub lines : List Line
-  pub good : input_of cores input ≡ Ok lines
   pub promised : Promised o f
   pub more : List Request
   pub given : trace ≡ f.given ++ more
@@ -89,7 +86,7 @@ pub record Known (old : State) (found : ℕ → ℕ) (cores : ℕ) (input : List
   pub causes : HasCauses o.found (f.given ++ more) f.answer
 
 -- The region says what it said in the last state, but for its counts.
-module _ (old t : State) (found : ℕ → ℕ) (source : SourceUse) (cores : ℕ) (input : List ℕ) (trace : List Request) (o : Origin) (f : Engine) (x : Outcome) (K : Known old found cores input trace o f x)
+module _ (old t : State) (found : ℕ → ℕ) (cores : ℕ) (trace : List Request) (o : Origin) (f : Engine) (x : Outcome) (K : Known old found cores trace o f x)
     (still : Stays f.region t) (later : (n : ℕ) → n ≤ f.region.faults → Rose n f.region.faults → Rose n t.faults) where
   abbrev s : State
   s = o.region
@@ -122,18 +119,18 @@ module _ (old t : State) (found : ℕ → ℕ) (source : SourceUse) (cores : ℕ
   layout_is : IsTelling s → layout_of found ≡ layout_of o.found
   layout_is telling = agreeing.layout_agrees bytes found o.found (λ w lt. sym (words_found telling w lt)) rule
 
-  cores_found : IsTelling s → cores ≡ found 2
+  pub cores_found : IsTelling s → cores ≡ found 2
   cores_found telling = sym K.count ∙ sym (ap (λ (l : Geometry). l.cores) (layout_is telling))
 
-  served : IsServed t found
+  pub served : IsServed t found
   served telling = subst (λ n. IsSound n found) (sym bytes_then) (sound_found (telling_then telling))
 
   trace_is : trace ≡ f.given ++ K.more
   trace_is = K.given
 
   -- of a report on it, and what was written
-  module _ (read_out : IsReadOut source.coming source.left) (sink : SinkUse) (r : Report) (W : EndsAs x sink r.in_place r.status)
-      (front : TakesPrefix sink.before sink.now (replies_text x.replies.items)) (held : is_ended x.end ≡ false → (sink.now ≡ sink.before) ⊎ (K.more ≡ []))
+  module _ (All Front : List Reply → Type 0) (sink : SinkUse) (silent : sink.now ≡ sink.before → (replies : List Reply) → Front replies) (r : Report) (W : EndsAs (All x.replies.items) (Front x.replies.items) x.end sink r.in_place r.status)
+      (front : Front x.replies.items) (held : is_ended x.end ≡ false → (sink.now ≡ sink.before) ⊎ (K.more ≡ []))
       (lost : r.complete ≡ true → r.in_place ≡ false → Rose old.faults t.faults) (unasked : r.complete ≡ false → f.region ≡ t) (report_told : told_in r ≡ told_by (report_in x)) (report_refused : r.refusals.items ≡ x.refusals.items) (report_began : r.began ≡ true) (report_complete : r.complete ≡ is_ended x.end) where
     pub told_is : told_in r ≡ told_of f
     told_is = report_told ∙ K.reports.told_is
@@ -178,35 +175,41 @@ module _ (old t : State) (found : ℕ → ℕ) (source : SourceUse) (cores : ℕ
       said_whole MayStop to = said_of MayStop (AllAnswered f → HasStopped f) x.replies.items
           (subst (λ q. Answers (IsTelling f.region) (start_of o) q (told_of f) (AllAnswered f → HasStopped f) x.replies.items) (sym given_all) K.reports.answers) (λ h. to (h (K.done not_cut).answered))
 
-      text_of : (MayStop : Type 0) → (HasStopped f → MayStop) → Takes sink.before sink.now (replies_text x.replies.items) → WritesAll (IsTelling t) (cells_of found) trace (told_in r) MayStop sink
-      text_of MayStop to = all_text (IsTelling t) (cells_of found) trace (told_in r) MayStop x.replies.items (said_whole MayStop to) sink
+      text_of : (MayStop : Type 0) → (HasStopped f → MayStop) → All x.replies.items → Says All (IsTelling t) (cells_of found) trace (told_in r) MayStop
+      text_of MayStop to out = (x.replies.items, said_whole MayStop to, out)
 
-      front_of : (MayStop : Type 0) → (HasStopped f → MayStop) → TakesPrefix sink.before sink.now (replies_text x.replies.items) → WritesFront (IsTelling t) (cells_of found) trace (told_in r) MayStop sink
-      front_of MayStop to = front_text (IsTelling t) (cells_of found) trace (told_in r) MayStop x.replies.items (said_whole MayStop to) sink
+      front_of : (MayStop : Type 0) → (HasStopped f → MayStop) → Front x.replies.items → Says Front (IsTelling t) (cells_of found) trace (told_in r) MayStop
+      front_of MayStop to out = (x.replies.items, said_whole MayStop to, out)
 
-    abbrev Front : Type 0
-    Front = WritesFront (IsTelling t) (cells_of found) trace (told_in r) FrontMayStop sink
+    abbrev Beginning : Type 0
+    Beginning = Says Front (IsTelling t) (cells_of found) trace (told_in r) FrontMayStop
 
     -- of a run that didn't, each request without an answer counts as one that is stopped
-    cut_front : is_ended x.end ≡ false → sink.now ≡ sink.before → Front
-    cut_front cut same = no_text (IsTelling t) (cells_of found) trace (told_in r) FrontMayStop (replies_from f.answer 0 (length (f.given ++ K.more)))
-        (said_of FrontMayStop (AllAnswered f → K.more ≡ [] → HasStopped f) (replies_from f.answer 0 (length (f.given ++ K.more))) (K.promised.replies K.more) (λ any complete. both r.complete complete (report_complete ∙ cut))) sink same
+    cut_front : is_ended x.end ≡ false → sink.now ≡ sink.before → Beginning
+    cut_front cut same = (
+      replies_from f.answer 0 (length (f.given ++ K.more)),
+      said_of FrontMayStop (AllAnswered f → K.more ≡ [] → HasStopped f) (replies_from f.answer 0 (length (f.given ++ K.more))) (K.promised.replies K.more) (λ any complete. both r.complete complete (report_complete ∙ cut)),
+      silent same (replies_from f.answer 0 (length (f.given ++ K.more))),
+    )
 
     -- also where a part of it went out, and all were given
-    cut_text : is_ended x.end ≡ false → K.more ≡ [] → Front
-    cut_text cut none = front_text (IsTelling t) (cells_of found) trace (told_in r) FrontMayStop x.replies.items
-        (said_of FrontMayStop (AllAnswered f → HasStopped f) x.replies.items
-        (subst (λ q. Answers (IsTelling f.region) (start_of o) q (told_of f) (AllAnswered f → HasStopped f) x.replies.items) (sym (ap (λ m. f.given ++ m) none ∙ append-nil f.given)) K.reports.answers)
-        (λ any complete. both r.complete complete (report_complete ∙ cut))) sink front
+    cut_text : is_ended x.end ≡ false → K.more ≡ [] → Beginning
+    cut_text cut none = (
+      x.replies.items,
+      said_of FrontMayStop (AllAnswered f → HasStopped f) x.replies.items
+          (subst (λ q. Answers (IsTelling f.region) (start_of o) q (told_of f) (AllAnswered f → HasStopped f) x.replies.items) (sym (ap (λ m. f.given ++ m) none ∙ append-nil f.given)) K.reports.answers)
+          (λ any complete. both r.complete complete (report_complete ∙ cut)),
+      front,
+    )
 
-    begun : (ended_is : Bool) → is_ended x.end ≡ ended_is → Front
+    begun : (ended_is : Bool) → is_ended x.end ≡ ended_is → Beginning
     begun true is = front_of (ended is) FrontMayStop (λ h complete. risen h) front
     begun false cut = elim (held cut) [ inl same ↦ cut_front cut same | inr none ↦ cut_text cut none ]
 
     -- the statuses that it cannot have
     no_status : (Q : Status → Bool) → Q statuses.Done ≡ false → Q statuses.RegionFault ≡ false → Q statuses.SinkFault ≡ false → Q statuses.Memory ≡ false → Q r.status ≡ true → ⊥
     no_status Q done failed sunk memory is = by r.in_place W where
-      by : (p : Bool) → EndsAs x sink p r.status → ⊥
+      by : (p : Bool) → EndsAs (All x.replies.items) (Front x.replies.items) x.end sink p r.status → ⊥
       by true (inl w, any) = both (Q r.status) is (ap Q w.0 ∙ done)
       by true (inr (inl w), any) = both (Q r.status) is (ap Q w.0 ∙ failed)
       by true (inr (inr (inl w)), any) = both (Q r.status) is (ap Q w.0 ∙ sunk)
@@ -214,9 +217,9 @@ module _ (old t : State) (found : ℕ → ℕ) (source : SourceUse) (cores : ℕ
       by false (inl cut) = both (Q r.status) is (ap Q cut.0 ∙ memory)
       by false (inr out) = both (Q r.status) is (ap Q out.0 ∙ failed)
 
-    written : r.status ≡ statuses.Done → WritesAll (IsTelling t) (cells_of found) trace (told_in r) ⊥ sink × (sink.flushed ≡ true)
+    written : r.status ≡ statuses.Done → Says All (IsTelling t) (cells_of found) trace (told_in r) ⊥ × (sink.flushed ≡ true)
     written done = by r.in_place W where
-      by : (p : Bool) → EndsAs x sink p r.status → WritesAll (IsTelling t) (cells_of found) trace (told_in r) ⊥ sink × (sink.flushed ≡ true)
+      by : (p : Bool) → EndsAs (All x.replies.items) (Front x.replies.items) x.end sink p r.status → Says All (IsTelling t) (cells_of found) trace (told_in r) ⊥ × (sink.flushed ≡ true)
       by true (inl w, any) = (text_of (completed w.1) ⊥ (never w.1) w.2, w.3)
       by true (inr (inl w), any) = cc (sym done ∙ w.0)
       by true (inr (inr (inl w)), any) = cc (sym done ∙ w.0)
@@ -224,9 +227,9 @@ module _ (old t : State) (found : ℕ → ℕ) (source : SourceUse) (cores : ℕ
       by false (inl cut) = cc (sym done ∙ cut.0)
       by false (inr out) = cc (sym done ∙ out.0)
 
-    written_failed : r.status ≡ statuses.RegionFault → r.in_place ≡ true → (Rose sink.faults sink.faults' → ⊥) → WritesAll (IsTelling t) (cells_of found) trace (told_in r) (Rose old.faults t.faults) sink × (sink.flushed ≡ true)
+    written_failed : r.status ≡ statuses.RegionFault → r.in_place ≡ true → (Rose sink.faults sink.faults' → ⊥) → Says All (IsTelling t) (cells_of found) trace (told_in r) (Rose old.faults t.faults) × (sink.flushed ≡ true)
     written_failed failed here steady = by r.in_place here W where
-      by : (p : Bool) → p ≡ true → EndsAs x sink p r.status → WritesAll (IsTelling t) (cells_of found) trace (told_in r) (Rose old.faults t.faults) sink × (sink.flushed ≡ true)
+      by : (p : Bool) → p ≡ true → EndsAs (All x.replies.items) (Front x.replies.items) x.end sink p r.status → Says All (IsTelling t) (cells_of found) trace (told_in r) (Rose old.faults t.faults) × (sink.flushed ≡ true)
       by true is (inl w, any) = cc (sym failed ∙ w.0)
       by true is (inr (inl w), any) = elim w.2 [
         | inl all ↦ (text_of (faulted w.1) (Rose old.faults t.faults) risen all.0, all.1)
@@ -236,9 +239,9 @@ module _ (old t : State) (found : ℕ → ℕ) (source : SourceUse) (cores : ℕ
       by true is (inr (inr (inr w)), any) = cc (sym failed ∙ w.0)
       by false is any = cc is
 
-    written_sunk : r.status ≡ statuses.SinkFault → WritesFront (IsTelling t) (cells_of found) trace (told_in r) ⊥ sink
+    written_sunk : r.status ≡ statuses.SinkFault → Says Front (IsTelling t) (cells_of found) trace (told_in r) ⊥
     written_sunk sunk = by r.in_place W where
-      by : (p : Bool) → EndsAs x sink p r.status → WritesFront (IsTelling t) (cells_of found) trace (told_in r) ⊥ sink
+      by : (p : Bool) → EndsAs (All x.replies.items) (Front x.replies.items) x.end sink p r.status → Says Front (IsTelling t) (cells_of found) trace (told_in r) ⊥
       by true (inl w, any) = cc (sym sunk ∙ w.0)
       by true (inr (inl w), any) = cc (sym sunk ∙ w.0)
       by true (inr (inr (inl w)), any) = front_of (completed w.1) ⊥ (never w.1) w.3
@@ -248,7 +251,7 @@ module _ (old t : State) (found : ℕ → ℕ) (source : SourceUse) (cores : ℕ
 
     whole_ends : is_whole r.status ≡ true → x.end ≡ ends.Complete
     whole_ends whole = by r.in_place W where
-      by : (p : Bool) → EndsAs x sink p r.status → x.end ≡ ends.Complete
+      by : (p : Bool) → EndsAs (All x.replies.items) (Front x.replies.items) x.end sink p r.status → x.end ≡ ends.Complete
       by true (inl w, any) = w.1
       by true (inr (inl w), any) = both (is_whole r.status) whole (ap is_whole w.0)
       by true (inr (inr (inl w)), any) = w.1
@@ -259,13 +262,13 @@ module _ (old t : State) (found : ℕ → ℕ) (source : SourceUse) (cores : ℕ
     -- Where the region was in its place, the run came to its end; where it was not, though the run did, that was a fault.
     asked_then : r.in_place ≡ true → r.complete ≡ true
     asked_then here = by r.in_place here W where
-      by : (p : Bool) → p ≡ true → EndsAs x sink p r.status → r.complete ≡ true
+      by : (p : Bool) → p ≡ true → EndsAs (All x.replies.items) (Front x.replies.items) x.end sink p r.status → r.complete ≡ true
       by true is w = report_complete ∙ w.1
       by false is w = cc is
 
     kept_back : r.complete ≡ true → r.in_place ≡ false → r.status ≡ statuses.RegionFault
     kept_back complete gone = by r.in_place gone W where
-      by : (p : Bool) → p ≡ false → EndsAs x sink p r.status → r.status ≡ statuses.RegionFault
+      by : (p : Bool) → p ≡ false → EndsAs (All x.replies.items) (Front x.replies.items) x.end sink p r.status → r.status ≡ statuses.RegionFault
       by true is w = cc (sym is)
       by false is (inl cut) = both r.complete complete (report_complete ∙ cut.1)
       by false is (inr out) = out.0
@@ -273,7 +276,7 @@ module _ (old t : State) (found : ℕ → ℕ) (source : SourceUse) (cores : ℕ
     -- a fault of the region that was counted
     failed_rose : r.status ≡ statuses.RegionFault → Rose old.faults t.faults
     failed_rose failed = by r.in_place refl W where
-      by : (p : Bool) → r.in_place ≡ p → EndsAs x sink p r.status → Rose old.faults t.faults
+      by : (p : Bool) → r.in_place ≡ p → EndsAs (All x.replies.items) (Front x.replies.items) x.end sink p r.status → Rose old.faults t.faults
       by true is (inl w, any) = cc (sym failed ∙ w.0)
       by true is (inr (inl w), any) = risen (K.fault w.1)
       by true is (inr (inr (inl w)), any) = cc (sym failed ∙ w.0)
@@ -301,31 +304,6 @@ module _ (old t : State) (found : ℕ → ℕ) (source : SourceUse) (cores : ℕ
         let qs : f.given ≡ trace = sym (given_all (completed e)) ∙ sym trace_is in
         let told : told_of f ≡ told_in r = sym told_is in
         K.promised.last (K.done (completed e)).answered (K.whole e) (tells_still f.region t still telling) image here k ∙ (λ i. cell_after_all (changes_in (start i) (qs i) (told i) k) (start i k))
-
-    order : KeepsOrder old t found source cores input r
-    order = record {
-      untouched = λ no. both r.began report_began no;
-      read = λ is. absurd (no_status is_quiet refl refl refl refl (ap is_quiet is));
-      line = λ is. absurd (no_status is_of_line refl refl refl refl is);
-      began = λ yes. (served, read_out, ap is_broken K.good);
-      unbegun = λ quiet. absurd (no_status is_quiet refl refl refl refl quiet);
-      run = λ is. report_began;
-      written = λ complete. report_began;
-      whole = λ whole. report_complete ∙ ap is_ended (whole_ends whole);
-    }
-
-    -- the status that is due
-    due_of : IsTelling t → IsDue t.frame.bytes found input r.status ⊎ IsFault old t source sink r.status
-    due_of telling = by r.in_place W where
-      by : (p : Bool) → EndsAs x sink p r.status → IsDue t.frame.bytes found input r.status ⊎ IsFault old t source sink r.status
-      by true (inl w, any) =
-          let sound : first_fault t.frame.bytes found ≡ None = served telling in
-          inl (w.0 ∙ sym (ap (due found input) sound ∙ ap (λ c. status_of (input_of c input)) (sym (cores_found (telling_then telling))) ∙ ap status_of K.good))
-      by true (inr (inl w), any) = inr (inr (inr (inr (w.0, failed_rose w.0))))
-      by true (inr (inr (inl w)), any) = inr (inr (inr (inl (w.0, w.2))))
-      by true (inr (inr (inr w)), any) = inr (inl w.0)
-      by false (inl cut) = inr (inl cut.0)
-      by false (inr out) = inr (inr (inr (inr (out.0, failed_rose out.0))))
 
     -- The causes of refusals, by the words found.
     module _ (telling : IsTelling t) where
@@ -381,11 +359,8 @@ module _ (old t : State) (found : ℕ → ℕ) (source : SourceUse) (cores : ℕ
     short_then : r.complete ≡ false → WindsDown t r
     short_then cut = record { state = f; region = unasked cut; ceased = K.ceased (cut_end x.end (sym report_complete ∙ cut)); told_is = told_is }
 
-    pub serves : Serves old t found source cores input trace sink r
+    pub serves : Serves All Front old t found trace sink r
     serves = record {
-      cores_are = λ n told. cores_found (K.was n (told_still f.region t still n told));
-      order = order;
-      due = due_of;
       asked = asked_then;
       astray = kept_back;
       done = written;
@@ -404,15 +379,15 @@ module _ (old t : State) (found : ℕ → ℕ) (source : SourceUse) (cores : ℕ
     }
 
     -- Each fault that the status tells was counted.
-    pub counts_faults : CountsFaults old t source sink r.status
-    counts_faults = record {
+    pub counts_faults : (source : SourceUse) → CountsFaults old t source sink r.status
+    counts_faults source = record {
       source_fault = λ is. absurd (no_status is_quiet refl refl refl refl (ap is_quiet is));
       sink_fault = sunk_rose;
       region_fault = failed_rose;
     } where
       sunk_rose : r.status ≡ statuses.SinkFault → Rose sink.faults sink.faults'
       sunk_rose sunk = by r.in_place W where
-        by : (p : Bool) → EndsAs x sink p r.status → Rose sink.faults sink.faults'
+        by : (p : Bool) → EndsAs (All x.replies.items) (Front x.replies.items) x.end sink p r.status → Rose sink.faults sink.faults'
         by true (inl w, any) = cc (sym sunk ∙ w.0)
         by true (inr (inl w), any) = cc (sym sunk ∙ w.0)
         by true (inr (inr (inl w)), any) = w.2
@@ -423,7 +398,41 @@ module _ (old t : State) (found : ℕ → ℕ) (source : SourceUse) (cores : ℕ
     -- A call of the region that failed doesn't keep it from its end.
     pub ends_then : r.status ≡ statuses.RegionFault → r.complete ≡ true
     ends_then failed = by r.in_place W where
-      by : (p : Bool) → EndsAs x sink p r.status → r.complete ≡ true
+      by : (p : Bool) → EndsAs (All x.replies.items) (Front x.replies.items) x.end sink p r.status → r.complete ≡ true
       by true w = report_complete ∙ w.1
       by false (inl cut) = cc (sym failed ∙ cut.0)
       by false (inr out) = report_complete ∙ out.1
+
+    -- by the input whose requests they are
+    module _ (source : SourceUse) (input : List ℕ) (lines : List Line) (good : input_of cores input ≡ Ok lines) (read_out : IsReadOut source.coming source.left) where
+      order : KeepsOrder old t found source cores input r
+      order = record {
+        untouched = λ no. both r.began report_began no;
+        read = λ is. absurd (no_status is_quiet refl refl refl refl (ap is_quiet is));
+        line = λ is. absurd (no_status is_of_line refl refl refl refl is);
+        began = λ yes. (served, read_out, ap is_broken good);
+        unbegun = λ quiet. absurd (no_status is_quiet refl refl refl refl quiet);
+        run = λ is. report_began;
+        written = λ complete. report_began;
+        whole = λ whole. report_complete ∙ ap is_ended (whole_ends whole);
+      }
+
+      -- the status that is due
+      due_of : IsTelling t → IsDue t.frame.bytes found input r.status ⊎ IsFault old t source sink r.status
+      due_of telling = by r.in_place W where
+        by : (p : Bool) → EndsAs (All x.replies.items) (Front x.replies.items) x.end sink p r.status → IsDue t.frame.bytes found input r.status ⊎ IsFault old t source sink r.status
+        by true (inl w, any) =
+            let sound : first_fault t.frame.bytes found ≡ None = served telling in
+            inl (w.0 ∙ sym (ap (due found input) sound ∙ ap (λ c. status_of (input_of c input)) (sym (cores_found (telling_then telling))) ∙ ap status_of good))
+        by true (inr (inl w), any) = inr (inr (inr (inr (w.0, failed_rose w.0))))
+        by true (inr (inr (inl w)), any) = inr (inr (inr (inl (w.0, w.2))))
+        by true (inr (inr (inr w)), any) = inr (inl w.0)
+        by false (inl cut) = inr (inl cut.0)
+        by false (inr out) = inr (inr (inr (inr (out.0, failed_rose out.0))))
+
+      pub in_order : GoesInOrder old t found source cores input sink r
+      in_order = record {
+        cores_are = λ n told. cores_found (K.was n (told_still f.region t still n told));
+        order = order;
+        due = due_of;
+      }

@@ -1,15 +1,13 @@
 -- Texts of replies, whole and in part.
 use Rattle.std.proofs.Common.{◌≡◌, ℕ, ◌≤◌, List, [], refl, sym, ◌∙◌, subst, arith, true, false, Bool, Option, Some, None, append-nil}
-use Rattle.fs_model.specs.declared.model.Request.{Request}
 use Rattle.fs_model.specs.declared.model.Reply.{Reply}
 use Rattle.fs_text.specs.Streams.{Takes, TakesPrefix}
 use Rattle.fs_text.specs.Output.{replies_text}
-use Rattle.headline.specs.Headline.{Answers, Told}
 use Rattle.chunk_map.specs.Layouts.{layout_of}
 use Rattle.store_image.specs.Soundness.{IsSound}
 use Rattle.store_image.proofs.Clients.{superblock_facts, layout_numbers, has_layout}
 use Rattle.flatstore_commands.specs.Ends.{SinkUse}
-use Rattle.flatstore_commands.specs.Promise.{WritesAll, WritesFront}
+use Rattle.flatstore_commands.specs.Promise.{TakesFront}
 
 pub both : (b : Bool) {P : Type 0} → b ≡ true → b ≡ false → P
 both b t f = cc (sym t ∙ f)
@@ -24,15 +22,9 @@ takes_front before now text takes = ([], (text, sym (append-nil text), takes))
 pub no_front : (before now : Option (List ℕ)) (text : List ℕ) → now ≡ before → TakesPrefix before now text
 no_front before now text same = (text, ([], refl, subst (λ x. Takes before x []) (sym same) (takes_nothing before)))
 
-module _ (Known : Type 0) (start : ℕ → Option (List ℕ)) (trace : List Request) (r : Told) (MayStop : Type 0) (replies : List Reply) (said : Answers Known start trace r MayStop replies) (sink : SinkUse) where
-  pub all_text : Takes sink.before sink.now (replies_text replies) → WritesAll Known start trace r MayStop sink
-  all_text took = (replies_text replies, took, (replies, said, refl))
-
-  pub front_text : TakesPrefix sink.before sink.now (replies_text replies) → WritesFront Known start trace r MayStop sink
-  front_text took = (took.1.0, took.1.2, (took.0, (replies, said, sym took.1.1)))
-
-  pub no_text : sink.now ≡ sink.before → WritesFront Known start trace r MayStop sink
-  no_text same = ([], subst (λ x. Takes sink.before x []) (sym same) (takes_nothing sink.before), (replies_text replies, (replies, said, refl)))
+-- nothing is the beginning of the text of any replies
+pub silent_front : (sink : SinkUse) → sink.now ≡ sink.before → (replies : List Reply) → TakesFront sink replies
+silent_front sink same replies = no_front sink.before sink.now (replies_text replies) same
 
 -- a sound region has few bytes
 pub small_sound : (bytes : ℕ) (image : ℕ → ℕ) → IsSound bytes image → bytes ≤ 268439552

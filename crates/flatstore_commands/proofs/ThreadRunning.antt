@@ -28,28 +28,28 @@ use Rattle.thread_engine.specs.declared.run_to_sink.SinkRun.{SinkRun}
 use Rattle.thread_engine.specs.declared.text_outlet.Unwritten.{Unwritten}
 use Rattle.thread_engine.specs.declared.text_outlet.Unwritten.TheVariants.{Astray, SinkFault, Memory}
 use Rattle.thread_engine.specs.Collected.{had_memory}
-use Rattle.thread_engine.specs.Printed.{IsOutInWindows, RanToSink}
+use Rattle.thread_engine.specs.Printed.{RanToSink}
 use Rattle.thread_engine.specs.RanApart.{Rejoined}
 use Rattle.flatstore_commands.specs.Attaching.{GoesOnBy, Asks, AsksMeanwhile, AttachesToSplit}
 use Rattle.flatstore_commands.specs.Ends.{SourceUse, SinkUse, IsAllOut, CountsFaults}
 use Rattle.flatstore_commands.specs.LastStates.{told_in}
-use Rattle.flatstore_commands.specs.Ordering.{KeepsOrder, IsServed, is_broken, is_of_line, is_quiet, is_whole}
-use Rattle.flatstore_commands.specs.Promise.{IsInput, Serves, asked_in}
+use Rattle.flatstore_commands.specs.Ordering.{GoesInOrder, KeepsOrder, IsServed, is_broken, is_of_line, is_quiet, is_whole}
+use Rattle.flatstore_commands.specs.Promise.{IsInput, Serves, TakesReplies, TakesFront, asked_in}
 use Rattle.flatstore_commands.specs.Played.{IsReady, IsRefused, EndsAs, is_ended}
 use Rattle.flatstore_commands.specs.ThreadPlays.{PlayedApart, HasNotSplit, IsNotRun, WhyNotRun, why_of, status_for, has_begun, ran_as, is_placed}
-use Rattle.flatstore_commands.specs.ThreadRuns.{CoresRan, RanOnThreads, RunsOnThreads}
+use Rattle.flatstore_commands.specs.ThreadRuns.{CoresRan, WorkedInWindows, RanOnThreads, RunsOnThreads}
 use Rattle.flatstore_commands.specs.declared.report.Status.{Status}
 use Rattle.flatstore_commands.specs.declared.report.Status.TheVariants as statuses
 use Rattle.flatstore_commands.specs.declared.report.Report.{Report}
 use Rattle.flatstore_commands.specs.declared.run_threads.NotRun.{NotRun}
 use Rattle.flatstore_commands.specs.declared.run_threads.NotRun.TheVariants.{Refused, Unsplit}
-use Rattle.flatstore_commands.proofs.Causing.{HasCauses}
+use Rattle.flatstore_commands.proofs.Apart as apart
 use Rattle.flatstore_commands.proofs.Inputs.{read_trace}
-use Rattle.flatstore_commands.proofs.Refused.{served_by, apart_from, told_now, none_begins, none_lost, none_rising, none_full, none_spent, none_long, none_counted, refused_serves, refused_fault, refused_source}
-use Rattle.flatstore_commands.proofs.Serving.{Known, serves, ends_then, counts_faults, words_found, cut_end}
+use Rattle.flatstore_commands.proofs.Refused.{served_by, apart_from, told_now, none_serves, refused_serves, refused_fault, refused_source}
+use Rattle.flatstore_commands.proofs.Serving.{Known, serves, in_order, ends_then, counts_faults, words_found, cut_end}
 use Rattle.flatstore_commands.proofs.Standing.{counted_by, origin_cores}
 use Rattle.flatstore_commands.proofs.Staying.{tells_still, attached_still, asks_stays, asks_later}
-use Rattle.flatstore_commands.proofs.Texts.{both}
+use Rattle.flatstore_commands.proofs.Texts.{both, silent_front}
 use Rattle.flatstore_commands.proofs.Written.{all_written, fault_end, whole_end, answered_loud}
 
 -- what was done to a region that was attached
@@ -84,6 +84,11 @@ module _ (s t : State) (word : ℕ → ℕ) (S : Stays s t) (source : SourceUse)
   pub split_refused : (error : AttachError) → r ≡ Err error → {T : Type 0} (x : Result T NotRun) → IsErrAnd x (λ e. e ≡ why_of error) → IfErr x (IsNotRun s word t source)
   split_refused error is (Ok x) e = tt
   split_refused error is (Err x) e = subst (IsNotRun s word t source) (sym e) (record { stays = S; later = R.later; cause = why_split error is })
+
+-- a status that leaves the region and the sink as they were is none of a split
+pub quiet_why : (why : NotRun) → is_quiet (status_for why) ≡ true → has_begun why ≡ false
+quiet_why (Refused status) quiet = refl
+quiet_why Unsplit quiet = cc quiet
 
 -- No core ran.
 module _ (old s t : State) (found word : ℕ → ℕ) (A : Attached old s s.frame.bytes found) (tells : (w : ℕ) → IsTelling s → lasts s w ≡ word w) (low : old.faults ≤ s.faults) (granted : s.frame.refusals ≡ old.frame.refusals) (source : SourceUse) (why : NotRun)
@@ -148,7 +153,7 @@ module _ (old s t : State) (found word : ℕ → ℕ) (A : Attached old s s.fram
       early_serves : (input : List ℕ) × (cores : ℕ) × IsInput source.coming input × RunsOnThreads old u found source refused cores input sink r
       early_serves =
           let x = refused_serves old u found B source status U r is fin ref unbegun cut unplaced sink same in
-          (x.0, x.1, x.2, record { begun = asked_in x.1 x.0; unbegun = []; split = sym (append-nil (asked_in x.1 x.0)); all_begun = λ here out. refl; cut_begun = λ no. refl; serves = x.3; unsplit = λ failed no. absurd (refused_fault old u found B source status U r is failed); worked = λ began steady. both r.began began unbegun; run = λ complete. both r.complete complete cut })
+          (x.0, x.1, x.2, record { begun = asked_in x.1 x.0; unbegun = []; split = sym (append-nil (asked_in x.1 x.0)); all_begun = λ here out. refl; cut_begun = λ no. refl; order = x.3; serves = x.4; unsplit = λ failed no. absurd (refused_fault old u found B source status U r is failed); worked = λ began steady. both r.began began unbegun; run = λ complete. both r.complete complete cut })
 
     early : (status : Status) → WhyNotRun s word t source (Refused status) → r.status ≡ status → r.began ≡ false → Promised
     early status (inl x) is unbegun = subst (λ z. (input : List ℕ) × (cores : ℕ) × IsInput source.coming input × RunsOnThreads old z found source refused cores input sink r) (sym x.0)
@@ -181,27 +186,15 @@ module _ (old s t : State) (found word : ℕ → ℕ) (A : Attached old s s.fram
         whole = λ whole. both (is_whole r.status) whole (ap is_whole is);
       }
 
-      split_serves : Serves old t found source own_cores own_input (asked_in own_cores own_input) sink r
-      split_serves = record {
-        cores_are = λ n told. (served_then (told_now old t found still r fin ref cut own_cores own_input n told)).1;
+      split_order : GoesInOrder old t found source own_cores own_input sink r
+      split_order = record {
+        cores_are = λ n told. (served_then (told_now old t found still r fin ref cut [] n told)).1;
         order = order;
         due = λ telling. inr (inr (inr (inr (is, risen h))));
-        asked = λ here. both r.in_place here unplaced;
-        astray = λ complete gone. both r.complete complete cut;
-        done = λ done. cc (sym is ∙ done);
-        failed = λ failed here steady. both r.in_place here unplaced;
-        sunk = λ sunk. cc (sym is ∙ sunk);
-        begins = none_begins old t found still r fin ref cut own_cores own_input sink same;
-        crash = none_lost old t found still r fin ref cut own_cores own_input;
-        last = λ whole telling image may k small. both (is_whole r.status) whole (ap is_whole is);
-        rising = none_rising old t found still r fin ref cut own_cores own_input;
-        full = λ telling. none_full old t found still r fin ref cut own_cores own_input;
-        spent = λ telling. none_spent old t found still r fin ref cut own_cores own_input;
-        unrefused = λ telling within. ref;
-        long = λ telling. none_long old t found still r fin ref cut own_cores own_input;
-        counts = none_counted old t found still r fin ref cut own_cores own_input;
-        short = λ memory began no. cc (sym is ∙ memory);
       }
+
+      split_serves : Serves (TakesReplies sink) (TakesFront sink) old t found (asked_in own_cores own_input) sink r
+      split_serves = none_serves old t found still r fin ref cut (asked_in own_cores own_input) (TakesReplies sink) (TakesFront sink) sink (silent_front sink same) unplaced (ap is_whole is) (λ memory began. cc (sym is ∙ memory))
 
       unsplit : Promised
       unsplit = (
@@ -214,6 +207,7 @@ module _ (old s t : State) (found word : ℕ → ℕ) (A : Attached old s s.fram
           split = sym (append-nil (asked_in own_cores own_input));
           all_begun = λ here out. refl;
           cut_begun = λ no. refl;
+          order = split_order;
           serves = split_serves;
           unsplit = λ failed no. (still, subst (λ n. Rose n t.frame.refusals) granted h.refused);
           worked = λ began steady. both r.complete (steady is) cut;
@@ -241,7 +235,7 @@ unastray end (Some Astray) here is = cc here
 unastray end (Some SinkFault) here is = cc is
 unastray end (Some Memory) here is = cc is
 
-memory_of : (end : End) → is_ended end ≡ true → had_memory end ≡ true
+pub memory_of : (end : End) → is_ended end ≡ true → had_memory end ≡ true
 memory_of ends.Complete whole = refl
 memory_of ends.RegionFault whole = refl
 memory_of ends.Memory whole = cc whole
@@ -266,12 +260,12 @@ unwritten_none end (Some Memory) sink sunk here (inr out) = cc out.0
 
 -- and the status says what was written
 ends_as : (s : State) (word : ℕ → ℕ) (refused : Bool) (r : Recovered) (asked : List Request) (t : State) (sink : SinkUse) (y : SinkRun)
-    → RanToSink sink.before sink.now sink.flushed sink.faults sink.faults' s word refused r asked t y → EndsAs y.outcome sink (is_placed y.outcome.end y.unwritten) (ran_as y.outcome.end y.unwritten)
+    → RanToSink sink.before sink.now sink.flushed sink.faults sink.faults' s word refused r asked t y → EndsAs (TakesReplies sink y.outcome.replies.items) (TakesFront sink y.outcome.replies.items) y.outcome.end sink (is_placed y.outcome.end y.unwritten) (ran_as y.outcome.end y.unwritten)
 ends_as s word refused r asked t sink y W = by y.outcome.end y.unwritten refl refl where
   none_lacks : {w : Unwritten} → y.outcome.end ≡ ends.Memory → y.unwritten ≡ Some w → ⊥
   none_lacks e f = cc (sym (W.memory e) ∙ f)
 
-  by : (end : End) (why : Option Unwritten) → y.outcome.end ≡ end → y.unwritten ≡ why → EndsAs y.outcome sink (is_placed end why) (ran_as end why)
+  by : (end : End) (why : Option Unwritten) → y.outcome.end ≡ end → y.unwritten ≡ why → EndsAs (TakesReplies sink y.outcome.replies.items) (TakesFront sink y.outcome.replies.items) y.outcome.end sink (is_placed end why) (ran_as end why)
   by ends.Complete None e f = (let out = W.writes (ap had_memory e) f in (inl (refl, e, out.0, out.1), ap is_ended e))
   by ends.RegionFault None e f = (let out = W.writes (ap had_memory e) f in (inr (inl (refl, e, inl (out.0, out.1))), ap is_ended e))
   by ends.Memory None e f = inl (refl, ap is_ended e)
@@ -307,81 +301,17 @@ module _ (old s t : State) (found word : ℕ → ℕ) (A : Attached old s s.fram
   abbrev input : List ℕ
   input = P.ready.read.input
 
-  began : o.region ≡ s
-  began = P.ran.ran.begins.region
-
-  count : (layout_of o.found).cores ≡ cores
-  count = origin_cores s word P.recovered P.ready.stands o P.ran.ran.begins.reads
-
-  -- the joined region tells one moment
-  told_last : (n : ℕ) → IsTold t n → IsTelling s
-  told_last n told =
-      let since = P.ran.ran.rejoined.since in
-      let low = told.since in
-      let seen = told.seen in
-      let is : n ≡ t.stamp = omega (arith, since, low, seen) in
-      P.ran.ran.rejoined.tells (subst (IsTold t) is told)
-
-  there : (cells : ℕ → Cell) (image : ℕ → ℕ) → MayLeave t.frame cells image → MayLeave s.frame cells image
-  there cells image may w inside =
-      let first = P.ran.ran.rejoined.first in
-      let words = P.ran.ran.rejoined.words in
-      let low = inside.low in
-      let high = inside.high in
-      may w (record { low = omega (arith, first, low); high = omega (arith, first, words, high) })
-
-  all_given : f.given ++ [] ≡ f.given
-  all_given = append-nil f.given
-
-  causes : HasCauses o.found (f.given ++ []) f.answer
-  causes =
-      let C = P.ran.ran.promised.causes in
-      record {
-        full = λ n k a is why asked. C.full [] n k a is why asked;
-        spent = λ n a is why k asked. C.spent [] n k a is why asked;
-        kinds = (P.ran.ran.promised.replies []).each;
-        long = λ n a is why q asked. C.long [] n q a is why asked;
-      }
-
-  pub known : Known old found cores input trace o f x
-  known = record {
-    attached = subst (λ (z : State). Attached old z z.frame.bytes found) (sym began) A;
-    origin = P.ran.ran.begins.is;
-    low = let same = ap (λ (z : State). z.faults) began in omega (arith, low, same);
-    kept = let first = ap (λ (z : State). z.faults) began in let last = ap (λ (z : State). z.faults) P.ran.ran.region in let rose = P.ran.ran.rejoined.faults in omega (arith, first, last, rose);
-    words = subst (λ z. IsTelling z → (w : ℕ) → w < z.frame.bytes / 8 → o.found w ≡ lasts z w) (sym began) P.ran.ran.begins.tells;
-    count = count;
-    was = λ n told. subst IsTelling (sym began) (told_last n (subst (λ z. IsTold z n) P.ran.ran.region told));
-    bytes = ap (λ (z : State). z.frame.bytes) P.ran.ran.region ∙ P.ran.ran.rejoined.bytes ∙ ap (λ (z : State). z.frame.bytes) (sym began);
-    leaves = λ cells image may. subst (λ (z : State). MayLeave z.frame cells image) (sym began) (there cells image (subst (λ (z : State). MayLeave z.frame cells image) P.ran.ran.region may));
-    lines = P.lines;
-    good = P.ready.read.good;
-    promised = P.ran.ran.promised;
-    more = [];
-    given = sym P.ran.ran.given ∙ sym all_given;
-    all_given = λ not_cut. refl;
-    reports = subst (λ z. ReportsOn z o f (report_in x)) (sym P.ran.ran.region) P.ran.ran.reports;
-    done = P.ran.ran.done;
-    fault = P.ran.ran.fault;
-    whole = P.ran.ran.complete;
-    ceased = P.ran.ran.ceased;
-    causes = causes;
-  }
-
-  bytes : t.frame.bytes ≡ s.frame.bytes
-  bytes = P.ran.ran.rejoined.bytes
+  known : Known old found cores trace o f x
+  known = apart.known old s t found word A once granted low refused P.recovered P.ready.stands trace x P.ran.ran
 
   -- The report is on the last state of the cores, which is the region's.
   module _ (r : Report) (status_is : r.status ≡ ran_as x.end y.unwritten) (placed : r.in_place ≡ is_placed x.end y.unwritten)
       (finishes : r.finishes.items ≡ x.finishes.items) (refusals : r.refusals.items ≡ x.refusals.items) (begun : r.began ≡ true) (complete_is : r.complete ≡ is_ended x.end) where
-    same : Asks false true f.region t
-    same = sym P.ran.ran.region
-
     stays : Stays f.region t
-    stays = asks_stays false true f.region t same
+    stays = apart.stays old s t found word A once granted low refused P.recovered P.ready.stands trace x P.ran.ran
 
     later : (n : ℕ) → n ≤ f.region.faults → Rose n f.region.faults → Rose n t.faults
-    later = asks_later false true f.region t same
+    later = apart.later old s t found word A once granted low refused P.recovered P.ready.stands trace x P.ran.ran
 
     unasked : r.complete ≡ false → f.region ≡ t
     unasked cut = P.ran.ran.region
@@ -391,15 +321,12 @@ module _ (old s t : State) (found word : ℕ → ℕ) (A : Attached old s s.fram
         let rose = P.ran.astray (astray_by x.end y.unwritten (sym complete_is ∙ complete) (sym placed ∙ gone)) in
         omega (arith, low, rose)
 
-    ended : EndsAs x sink r.in_place r.status
-    ended = subst (λ p. EndsAs x sink p r.status) (sym placed) (subst (EndsAs x sink (is_placed x.end y.unwritten)) (sym status_is) (ends_as s word refused P.recovered (runs.asked_in P.lines) t sink y P.ran))
+    ended : EndsAs (TakesReplies sink x.replies.items) (TakesFront sink x.replies.items) x.end sink r.in_place r.status
+    ended = subst (λ p. EndsAs (TakesReplies sink x.replies.items) (TakesFront sink x.replies.items) x.end sink p r.status) (sym placed) (subst (EndsAs (TakesReplies sink x.replies.items) (TakesFront sink x.replies.items) x.end sink (is_placed x.end y.unwritten)) (sym status_is) (ends_as s word refused P.recovered (runs.asked_in P.lines) t sink y P.ran))
 
     held : is_ended x.end ≡ false → (sink.now ≡ sink.before) ⊎ (known.more ≡ [])
     unfolding known
-    held cut = inr refl
-
-    abbrev from : GoesOnBy Rejoined old f.region t.frame.bytes found
-    from = record { at = s; attached = subst (λ n. Attached old s n found) (sym bytes) A; once = once; granted = granted; on = subst (λ z. Rejoined s z) (sym P.ran.ran.region) P.ran.ran.rejoined }
+    held cut = inr (apart.none_more old s t found word A once granted low refused P.recovered P.ready.stands trace x P.ran.ran)
 
     pub meanwhile : AsksMeanwhile r s t
     meanwhile = record {
@@ -414,72 +341,64 @@ module _ (old s t : State) (found word : ℕ → ℕ) (A : Attached old s s.fram
     text_is : replies_text x.replies.items ≡ replies_text (map reply_in P.ran.ran.kept)
     text_is = ap replies_text P.ran.ran.report.replies
 
-    licensed_last : IsTelling f.region → AllLicensed f.layout f.group (cell_now f.region)
-    licensed_last = subst (λ z. IsTelling z → AllLicensed f.layout f.group (cell_now z)) (sym P.ran.ran.region) P.ran.ran.licensed
+    abbrev cores_ran : CoresRan old t found refused cores trace r
+    cores_ran = apart.cores_ran old s t found word A once granted low refused P.recovered P.ready.stands trace x P.ran.ran r finishes refusals
 
-    cores_ran : CoresRan old t found refused cores input trace sink r
-    cores_ran = record {
-      f = f;
-      from = from;
-      start = record {
-        word = word;
-        recovered = P.recovered;
-        stands = P.ready.stands;
-        origin = o;
-        begins = P.ran.ran.begins;
-        words = subst (λ (z : State). IsTelling z → (w : ℕ) → w < z.frame.bytes / 8 → o.found w ≡ found w) began
-            (words_found old t found source cores input trace o f x known stays later);
-        count = count;
-      };
+    by_windows : WorkedInWindows old t found refused cores input trace sink r
+    by_windows = record {
       lines = P.lines;
       good = P.ready.read.good;
-      given = P.ran.ran.given;
-      ran = P.ran.ran.ran;
-      inside = P.ran.ran.inside;
-      ends = same;
-      next = P.ran.ran.next;
-      kept = P.ran.ran.kept;
-      keeps = P.ran.ran.keeps;
-      once = P.ran.ran.once;
-      finishes = finishes ∙ P.ran.ran.report.finishes;
-      refusals = refusals ∙ P.ran.ran.report.refusals;
-      told_is = report_told ∙ P.ran.ran.reports.told_is;
+      worked = cores_ran;
       parted = P.ran.parted;
       behind = P.ran.behind;
       unasked = P.ran.unasked;
       asked_since = P.ran.asked_since;
-      out = subst (IsOutInWindows P.ran.parted P.ran.behind sink.before sink.now) P.ran.ran.report.replies P.ran.out;
-      licensed = subst (λ z. IsTelling z → AllLicensed f.layout f.group (cell_now z)) P.ran.ran.region licensed_last;
+      out = record {
+        windows = P.ran.out.windows;
+        full = P.ran.out.full;
+        last = P.ran.out.last;
+        few = P.ran.out.few;
+        rest = P.ran.out.rest;
+        split = sym P.ran.ran.report.replies ∙ P.ran.out.split;
+        at = P.ran.out.at;
+        mid = P.ran.out.mid;
+        whole = P.ran.out.whole;
+        front = P.ran.out.front;
+      };
+      between = P.ran.between;
+      behind_all = λ complete. P.ran.ended (memory_of x.end (sym complete_is ∙ complete));
     }
 
     ran_then : r.complete ≡ true → RanOnThreads old t found refused cores input trace sink r
-    unfolding cores_ran
+    unfolding by_windows
     ran_then complete =
         let end : is_ended x.end ≡ true = sym complete_is ∙ complete in
         let not_cut : x.end ≢ ends.Memory = ended_by end in
         record {
-          all = cores_ran;
-          answered = (P.ran.ran.done not_cut).answered;
-          drained = (P.ran.ran.done not_cut).drained;
+          all = by_windows;
           begins = subst (λ text. TakesPrefix sink.before sink.now text) text_is P.ran.begins;
-          writes = λ here out. subst (λ text. Takes sink.before sink.now text) text_is (all_written x sink r.status r.in_place ended here out);
-          stops = λ fault here. P.ran.ran.fault (fault_end x sink r.status r.in_place ended fault here);
-          goes = λ whole. P.ran.ran.complete (whole_end x sink r.status r.in_place ended whole);
+          writes = λ here out. subst (λ text. Takes sink.before sink.now text) text_is (all_written (TakesReplies sink x.replies.items) (TakesFront sink x.replies.items) x.end sink r.status r.in_place ended here out);
+          ended = record {
+            answered = (P.ran.ran.done not_cut).answered;
+            drained = (P.ran.ran.done not_cut).drained;
+            stops = λ fault here. P.ran.ran.fault (fault_end (TakesReplies sink x.replies.items) (TakesFront sink x.replies.items) x.end sink r.status r.in_place ended fault here);
+            goes = λ whole. P.ran.ran.complete (whole_end (TakesReplies sink x.replies.items) (TakesFront sink x.replies.items) x.end sink r.status r.in_place ended whole);
+          };
         }
       where
         ended_by : is_ended x.end ≡ true → x.end ≢ ends.Memory
         ended_by is m = both (is_ended x.end) is (ap is_ended m)
 
     pub run_counts : CountsFaults old t source sink r.status
-    run_counts = counts_faults old t found source cores input trace o f x known stays later P.ready.read.whole sink r ended P.ran.begins held lost unasked report_told refusals begun complete_is
+    run_counts = counts_faults old t found cores trace o f x known stays later (TakesReplies sink) (TakesFront sink) sink (silent_front sink) r ended P.ran.begins held lost unasked report_told refusals begun complete_is source
 
     -- a fault of the region did not keep it from its end
     pub run_ends : r.status ≡ statuses.RegionFault → r.complete ≡ true
-    run_ends = ends_then old t found source cores input trace o f x known stays later P.ready.read.whole sink r ended P.ran.begins held lost unasked report_told refusals begun complete_is
+    run_ends = ends_then old t found cores trace o f x known stays later (TakesReplies sink) (TakesFront sink) sink (silent_front sink) r ended P.ran.begins held lost unasked report_told refusals begun complete_is
 
     -- it ended with no status that leaves the region and the sink as they were
     pub run_loud : is_quiet r.status ≡ false
-    run_loud = answered_loud x sink r.status r.in_place ended
+    run_loud = answered_loud (TakesReplies sink x.replies.items) (TakesFront sink x.replies.items) x.end sink r.status r.in_place ended
 
     all_out : r.in_place ≡ true → IsAllOut r.status sink → P.ran.more ≡ []
     all_out here out = P.ran.whole (unwritten_none x.end y.unwritten sink P.ran.sunk (sym placed ∙ here) (subst (λ z. IsAllOut z sink) status_is out))
@@ -498,9 +417,10 @@ module _ (old s t : State) (found word : ℕ → ℕ) (A : Attached old s s.fram
         split = read_trace cores input P.lines P.ready.read.good ∙ P.ran.split;
         all_begun = all_out;
         cut_begun = cut_out;
-        serves = serves old t found source cores input trace o f x known stays later P.ready.read.whole sink r ended P.ran.begins held lost unasked report_told refusals begun complete_is;
+        order = in_order old t found cores trace o f x known stays later (TakesReplies sink) (TakesFront sink) sink (silent_front sink) r ended P.ran.begins held lost unasked report_told refusals begun complete_is source input P.lines P.ready.read.good P.ready.read.whole;
+        serves = serves old t found cores trace o f x known stays later (TakesReplies sink) (TakesFront sink) sink (silent_front sink) r ended P.ran.begins held lost unasked report_told refusals begun complete_is;
         unsplit = λ failed no. both r.complete (run_ends failed) no;
-        worked = λ begun_is steady. cores_ran;
+        worked = λ begun_is steady. by_windows;
         run = ran_then;
       },
     )

@@ -1,6 +1,6 @@
 -- What a command that was read asks for.
 use Rattle.flatstore_commands.specs.Commands.{Form}
-use Rattle.flatstore_commands.specs.Commands.Form.{Format, Replay, Run, Dump, Log, Scan, Audit}
+use Rattle.flatstore_commands.specs.Commands.Form.{Format, Replay, Run, Dump, Log, Scan, Audit, Load}
 use Rattle.clap.specs.Words.{Text}
 use Rattle.std.specs.Prelude.{ℕ, Option, Some, None}
 use Rattle.flatstore_commands.specs.declared.command.Command.{Command}
@@ -16,6 +16,7 @@ asked (commands.Dump path) = Dump path.now
 asked (commands.Log path) = Log path.now
 asked (commands.Scan path) = Scan path.now
 asked (commands.Audit path workers) = Audit path.now workers.count
+asked (commands.Load path size) = Load path.now size.start size.count
 
 abbrev pub path_of : Form → Text
 path_of (Format path layout) = path
@@ -25,11 +26,14 @@ path_of (Dump path) = path
 path_of (Log path) = path
 path_of (Scan path) = path
 path_of (Audit path workers) = path
+path_of (Load path start count) = path
 
--- What is asked for that is done in threads: a run, or an audit by so many workers.
+-- What is asked for that is done in threads: a run, an audit by so many workers, or a load of so many requests from a
+-- number on.
 pub data Way : Type 0 where
   Runs : Way
   Audits : ℕ → Way
+  Loads : ℕ → ℕ → Way
 
 abbrev pub threaded : Option Form → Option Way
 threaded None = None
@@ -40,7 +44,9 @@ threaded (Some (Dump path)) = None
 threaded (Some (Log path)) = None
 threaded (Some (Scan path)) = None
 threaded (Some (Audit path workers)) = Some (Audits workers)
+threaded (Some (Load path start count)) = Some (Loads start count)
 
 abbrev pub way_of : Threaded → Way
 way_of ways.Run = Runs
 way_of (ways.Audit workers) = Audits workers.count
+way_of (ways.Load size) = Loads size.start size.count

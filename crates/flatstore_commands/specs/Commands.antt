@@ -9,6 +9,7 @@ use Rattle.clap.specs.declared.builder.value_parser.ValueParser.{ValueParser}
 use Rattle.clap.specs.declared.builder.value_parser.ValueParser.TheVariants as parsers
 use Rattle.chunk_map.specs.declared.layouts.Geometry.{Geometry}
 use Rattle.chunk_map.specs.Checked.{layout_by_rule}
+use Rattle.flatstore_commands.specs.declared.load_size.TheConstants.{MOST_LOAD_REQUESTS}
 use Rattle.flatstore_commands.specs.declared.workers.TheConstants.{MOST_WORKERS}
 
 -- the bytes of each word
@@ -48,19 +49,30 @@ number_word_rule name = record (new_rule name) { parser = Some u64_reader; requi
 abbrev pub audit_command : App
 audit_command = with_rule (region_command (codes "audit")) (number_word_rule (codes "workers"))
 
+abbrev pub load_command : App
+load_command =
+    with_rule (with_rule (region_command (codes "load")) (number_word_rule (codes "start")))
+    (number_word_rule (codes "count"))
+
 abbrev pub bare_program : App
 bare_program = on_top (λ s. record s { subcommand_required = true }) (new_app (codes "flatstore"))
 
--- with what makes a region and what change one
+-- with what makes a region and replays a trace
 abbrev pub writing_program : App
 writing_program =
-    with_subcommand (with_subcommand (with_subcommand bare_program format_command.top)
-    (region_command (codes "replay")).top) (region_command (codes "run")).top
+    with_subcommand (with_subcommand bare_program format_command.top)
+    (region_command (codes "replay")).top
+
+-- with what runs on threads
+abbrev pub running_program : App
+running_program =
+    with_subcommand (with_subcommand writing_program (region_command (codes "run")).top)
+    load_command.top
 
 -- with what shows one
 abbrev pub reading_program : App
 reading_program =
-    with_subcommand (with_subcommand writing_program (region_command (codes "dump")).top)
+    with_subcommand (with_subcommand running_program (region_command (codes "dump")).top)
     (region_command (codes "log")).top
 
 -- the command of the program
@@ -87,6 +99,7 @@ pub data Form : Type 0 where
   Log : Text → Form
   Scan : Text → Form
   Audit : Text → ℕ → Form
+  Load : Text → ℕ → ℕ → Form
 
 -- the number that the reader makes of a text
 abbrev pub number_of : Text → Option ℕ
@@ -117,6 +130,16 @@ workers_within n = if nat_le 1 n && nat_le n MOST_WORKERS then Some n else None
 abbrev pub workers_in : List Row → Option ℕ
 workers_in rows = option_and_then workers_within (number_in (codes "workers") rows)
 
+-- from which number on a load makes its requests, and how many
+abbrev pub load_within : ℕ → ℕ → Option (ℕ × ℕ)
+load_within start count =
+    if nat_le 1 count && nat_le count MOST_LOAD_REQUESTS then Some (start, count) else None
+
+abbrev pub load_in : List Row → Option (ℕ × ℕ)
+load_in rows =
+    option_and_then (λ start. option_and_then (load_within start)
+    (number_in (codes "count") rows)) (number_in (codes "start") rows)
+
 abbrev pub form_named : Text → List Row → Text → Option Form
 form_named name rows path =
     if bytes_eq name (codes "format") then option_map (λ l. Format path l) (layout_in rows)
@@ -126,7 +149,8 @@ form_named name rows path =
     else (if bytes_eq name (codes "log") then Some (Log path)
     else (if bytes_eq name (codes "scan") then Some (Scan path)
     else (if bytes_eq name (codes "audit") then option_map (λ n. Audit path n) (workers_in rows)
-    else None))))))
+    else (if bytes_eq name (codes "load") then option_map (λ l. Load path l.0 l.1) (load_in rows)
+    else None)))))))
 
 abbrev pub form_in : Option (Text × List Row) → Option Form
 form_in subcommand =
@@ -137,7 +161,7 @@ form_in subcommand =
 abbrev pub form_of : List Text → Option Form
 form_of words = if is_taken words then form_in (subcommand_of program words) else None
 
--- the words are those of `run` or of `audit`
+-- the words are those of `run`, of `audit` or of `load`
 abbrev pub needs_threads : Option Form → Bool
 needs_threads None = false
 needs_threads (Some (Format path l)) = false
@@ -147,6 +171,7 @@ needs_threads (Some (Dump path)) = false
 needs_threads (Some (Log path)) = false
 needs_threads (Some (Scan path)) = false
 needs_threads (Some (Audit path workers)) = true
+needs_threads (Some (Load path start count)) = true
 
 -- the words are those of `run`
 abbrev pub is_run : Option Form → Bool
@@ -158,7 +183,20 @@ is_run (Some (Dump path)) = false
 is_run (Some (Log path)) = false
 is_run (Some (Scan path)) = false
 is_run (Some (Audit path workers)) = false
+is_run (Some (Load path start count)) = false
 
--- What the words ask of a call that starts no thread: those of `run` and `audit` count as no form.
+-- the words are those of `load`
+abbrev pub is_load : Option Form → Bool
+is_load None = false
+is_load (Some (Format path l)) = false
+is_load (Some (Replay path)) = false
+is_load (Some (Run path)) = false
+is_load (Some (Dump path)) = false
+is_load (Some (Log path)) = false
+is_load (Some (Scan path)) = false
+is_load (Some (Audit path workers)) = false
+is_load (Some (Load path start count)) = true
+
+-- What the words ask of a call that starts no thread: those of `run`, `audit` and `load` count as no form.
 abbrev pub alone_form_of : List Text → Option Form
 alone_form_of words = if needs_threads (form_of words) then None else form_of words

@@ -17,6 +17,8 @@ pub mod Asking
 pub mod Played
 pub mod ThreadPlays
 pub mod ThreadRuns
+pub mod Loads
+pub mod LoadPlays
 pub use Rattle.chunk_map.specs.Checked
 pub use Rattle.chunk_map.specs.Layouts
 pub use Rattle.chunk_map.specs.Superblock

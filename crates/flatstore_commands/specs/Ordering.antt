@@ -1,6 +1,6 @@
 -- The order of a replay's work: attaching, the region's rules, reading the source to its end, the input's rules, the run, the writing.
 use Rattle.std.specs.Prelude.{◌≡◌, ◌⊎◌, ℕ, List, Bool, true, false, Option, Some, None, Result, Ok, Err}
-use Rattle.pm_region.specs.State.{State, IsTelling, Faulted, Rose}
+use Rattle.pm_region.specs.State.{State, IsTold, IsTelling, Faulted, Rose}
 use Rattle.pm_region.specs.Split.{Attached}
 use Rattle.fs_text.specs.declared.line.Line.{Line}
 use Rattle.fs_text.specs.Input.{input_of}
@@ -121,3 +121,12 @@ pub record KeepsOrder (old new : State) (found : ℕ → ℕ) (source : SourceUs
   pub run : is_of_run r.status ≡ true → r.began ≡ true
   pub written : r.complete ≡ true → r.began ≡ true
   pub whole : is_whole r.status ≡ true → r.complete ≡ true
+
+-- The same, with the status: the words found and the input decide on it, but for faults that were counted and want of memory.
+pub record GoesInOrder (old new : State) (found : ℕ → ℕ) (source : SourceUse) (cores : ℕ)
+    (input : List ℕ) (sink : SinkUse) (r : Report) : Type 0 where
+  -- Of the region: its cores by the words read, which are those found, where it tells.
+  pub cores_are : (t : ℕ) → IsTold new t → cores ≡ found 2
+  pub order : KeepsOrder old new found source cores input r
+  pub due : IsTelling new → IsDue new.frame.bytes found input r.status
+      ⊎ IsFault old new source sink r.status

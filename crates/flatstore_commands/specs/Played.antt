@@ -7,8 +7,6 @@ use Rattle.pm_region.specs.Words.{lasts}
 use Rattle.store_image.specs.declared.types.Fault.{Fault}
 use Rattle.store_image.specs.Soundness.{first_fault}
 use Rattle.fs_text.specs.declared.line.Line.{Line}
-use Rattle.fs_text.specs.Streams.{Takes, TakesPrefix}
-use Rattle.fs_text.specs.Output.{replies_text}
 use Rattle.group_engine.specs.declared.run_outcome.End.{End}
 use Rattle.group_engine.specs.declared.run_outcome.End.TheVariants as ends
 use Rattle.group_engine.specs.declared.run_outcome.Outcome.{Outcome}
@@ -16,6 +14,7 @@ use Rattle.group_engine.specs.Replayed.{Replayed, StandsAsFound}
 use Rattle.recover.specs.declared.types.Recovered.{Recovered}
 use Rattle.fs_text.specs.Bounds.{IsWithin}
 use Rattle.flatstore_commands.specs.Ends.{SourceUse, SinkUse}
+use Rattle.flatstore_commands.specs.Promise.{TakesReplies, TakesFront}
 use Rattle.flatstore_commands.specs.Reads.{IsRead, IsUnread}
 use Rattle.flatstore_commands.specs.Statuses.{fault_status}
 use Rattle.flatstore_commands.specs.declared.report.Status.{Status}
@@ -65,35 +64,38 @@ is_ended ends.Complete = true
 is_ended ends.RegionFault = true
 is_ended ends.Memory = false
 
--- What the writing did behind a run that came to its end: everything was written and flushed, or the front of it, and the
+-- What the writing did behind a run that came to this end: everything was written and flushed, or the front of it, and the
 -- status says which. A fault of the region goes before one of the sink.
-abbrev pub HasWritten : Outcome → SinkUse → Status → Type 0
-HasWritten x sink status =
-    ((status ≡ statuses.Done) × (x.end ≡ ends.Complete)
-    × Takes sink.before sink.now (replies_text x.replies.items) × (sink.flushed ≡ true))
-    ⊎ (((status ≡ statuses.RegionFault) × (x.end ≡ ends.RegionFault)
-    × ((Takes sink.before sink.now (replies_text x.replies.items) × (sink.flushed ≡ true))
-    ⊎ (Rose sink.faults sink.faults'
-    × TakesPrefix sink.before sink.now (replies_text x.replies.items))))
-    ⊎ (((status ≡ statuses.SinkFault) × (x.end ≡ ends.Complete) × Rose sink.faults sink.faults'
-    × TakesPrefix sink.before sink.now (replies_text x.replies.items))
-    ⊎ ((status ≡ statuses.Memory) × (is_ended x.end ≡ true)
-    × TakesPrefix sink.before sink.now (replies_text x.replies.items))))
+abbrev pub HasWritten : Type 0 → Type 0 → End → SinkUse → Status → Type 0
+HasWritten All Front end sink status =
+    ((status ≡ statuses.Done) × (end ≡ ends.Complete) × All × (sink.flushed ≡ true))
+    ⊎ (((status ≡ statuses.RegionFault) × (end ≡ ends.RegionFault)
+    × ((All × (sink.flushed ≡ true)) ⊎ (Rose sink.faults sink.faults' × Front)))
+    ⊎ (((status ≡ statuses.SinkFault) × (end ≡ ends.Complete) × Rose sink.faults sink.faults'
+    × Front)
+    ⊎ ((status ≡ statuses.Memory) × (is_ended end ≡ true) × Front)))
+
+-- the same, of the replies of a run
+abbrev pub HasWrittenReplies : Outcome → SinkUse → Status → Type 0
+HasWrittenReplies x sink status =
+    HasWritten (TakesReplies sink x.replies.items) (TakesFront sink x.replies.items) x.end sink
+    status
 
 -- Why not everything was written: the run didn't come to its end, or the region was out of its place.
-abbrev pub IsKeptBack : Outcome → Status → Type 0
-IsKeptBack x status = ((status ≡ statuses.Memory) × (is_ended x.end ≡ false))
-    ⊎ ((status ≡ statuses.RegionFault) × (is_ended x.end ≡ true))
+abbrev pub IsKeptBack : End → Status → Type 0
+IsKeptBack end status = ((status ≡ statuses.Memory) × (is_ended end ≡ false))
+    ⊎ ((status ≡ statuses.RegionFault) × (is_ended end ≡ true))
 
 -- what became of the replies, by whether the region was found in its place behind the run
 abbrev pub HasAnswered : Outcome → SinkUse → Bool → Status → Type 0
-HasAnswered x sink true status = HasWritten x sink status × (is_ended x.end ≡ true)
-HasAnswered x sink false status = (sink.now ≡ sink.before) × IsKeptBack x status
+HasAnswered x sink true status = HasWrittenReplies x sink status × (is_ended x.end ≡ true)
+HasAnswered x sink false status = (sink.now ≡ sink.before) × IsKeptBack x.end status
 
 -- the same, but for what went out where not everything did
-abbrev pub EndsAs : Outcome → SinkUse → Bool → Status → Type 0
-EndsAs x sink true status = HasWritten x sink status × (is_ended x.end ≡ true)
-EndsAs x sink false status = IsKeptBack x status
+abbrev pub EndsAs : Type 0 → Type 0 → End → SinkUse → Bool → Status → Type 0
+EndsAs All Front end sink true status =
+    HasWritten All Front end sink status × (is_ended end ≡ true)
+EndsAs All Front end sink false status = IsKeptBack end status
 
 -- the status of a run by its end, and whether a write failed
 abbrev pub ended_as : End → Bool → Status

@@ -2,11 +2,13 @@
 use Rattle.std.specs.Prelude.{◌≡◌, ◌⊎◌, ℕ, ◌+◌, ◌≤◌, List, [], take, true, false, Option, Some, None}
 use Rattle.std.specs.List.{AllByRecursion, slice_get}
 use Rattle.fs_model.specs.declared.model.Request.{Request}
+use Rattle.fs_model.specs.declared.model.Reply.{Reply}
 use Rattle.fs_model.specs.declared.model.Reply.TheVariants.{Full}
 use Rattle.pm_region.specs.State.{State, IsTold, IsTelling, Faulted, Rose}
 use Rattle.fs_text.specs.Input.{trace_of}
-use Rattle.fs_text.specs.Streams.{Takes}
-use Rattle.headline.specs.Headline.{Told, cells_of, finished_in, refused_in, WritesReplies, BeginsReplies, RecoversThroughout, RecoversAll}
+use Rattle.fs_text.specs.Output.{replies_text}
+use Rattle.fs_text.specs.Streams.{Takes, TakesPrefix}
+use Rattle.headline.specs.Headline.{Answers, Told, cells_of, finished_in, refused_in, RecoversThroughout, RecoversAll}
 use Rattle.headline.specs.Ample.{IsAmpleFor}
 use Rattle.headline.specs.Limits.{IsAsked, version_of, changes_asked, is_too_long, IsWithinLimits}
 use Rattle.chunk_map.specs.Layouts.{layout_of, owner}
@@ -17,7 +19,7 @@ use Rattle.group_engine.specs.Answers.{reply_to}
 use Rattle.group_engine.specs.Reports.{ShowsWhy}
 use Rattle.flatstore_commands.specs.Ends.{SourceUse, SinkUse}
 use Rattle.flatstore_commands.specs.LastStates.{told_in, AreRising, RanTo, BreaksOff, WindsDown}
-use Rattle.flatstore_commands.specs.Ordering.{KeepsOrder, IsDue, IsFault, is_whole}
+use Rattle.flatstore_commands.specs.Ordering.{GoesInOrder, is_whole}
 use Rattle.flatstore_commands.specs.declared.report.Status.TheVariants as statuses
 use Rattle.flatstore_commands.specs.declared.report.Report.{Report}
 
@@ -30,44 +32,40 @@ IsInput (Some coming) input = coming ≡ input
 abbrev pub asked_in : ℕ → List ℕ → List Request
 asked_in cores input = trace_of cores input
 
--- The sink took the whole text of replies that fit the report, or the beginning of such a text. They are lawful where the cells are known. One is `stopped` only for a cause.
-abbrev pub WritesAll : Type 0 → (ℕ → Option (List ℕ)) → List Request → Told → Type 0 → SinkUse
-    → Type 0
-WritesAll Known start trace r MayStop sink = (written : List ℕ)
-    × Takes sink.before sink.now written × WritesReplies Known start trace r MayStop written
+-- The sink took the whole text of these replies, or the beginning of it.
+abbrev pub TakesReplies : SinkUse → List Reply → Type 0
+TakesReplies sink replies = Takes sink.before sink.now (replies_text replies)
 
-abbrev pub WritesFront : Type 0 → (ℕ → Option (List ℕ)) → List Request → Told → Type 0 → SinkUse
-    → Type 0
-WritesFront Known start trace r MayStop sink = (written : List ℕ)
-    × Takes sink.before sink.now written × BeginsReplies Known start trace r MayStop written
+abbrev pub TakesFront : SinkUse → List Reply → Type 0
+TakesFront sink replies = TakesPrefix sink.before sink.now (replies_text replies)
 
--- The headline, of a run of this input on a region that was attached with these words, whoever makes the moves of its
--- cores: of its requests those that were begun. Of the region: its cores by the words read, which are those found, where
--- it tells.
-pub record Serves (old new : State) (found : ℕ → ℕ) (source : SourceUse) (cores : ℕ)
-    (input : List ℕ) (begun : List Request) (sink : SinkUse) (r : Report) : Type 0 where
-  pub cores_are : (t : ℕ) → IsTold new t → cores ≡ found 2
-  pub order : KeepsOrder old new found source cores input r
-  -- The words found and the input decide on the status, but for faults that were counted and want of memory.
-  pub due : IsTelling new → IsDue new.frame.bytes found input r.status
-      ⊎ IsFault old new source sink r.status
+-- This is so of replies that fit the report. They are lawful where the cells are known. One is `stopped` only for a cause.
+abbrev pub Says : (List Reply → Type 0) → Type 0 → (ℕ → Option (List ℕ)) → List Request → Told
+    → Type 0 → Type 0
+Says IsOut Known start trace r MayStop =
+    (replies : List Reply) × Answers Known start trace r MayStop replies × IsOut replies
+
+-- The headline, of a run of these requests on a region that was attached with these words, whoever makes the moves of its
+-- cores. `All` is so of replies whose whole text the sink took, and `Front` of those of which it took the beginning.
+pub record Serves (All Front : List Reply → Type 0) (old new : State) (found : ℕ → ℕ)
+    (begun : List Request) (sink : SinkUse) (r : Report) : Type 0 where
   -- Of a run that came to its end the region was asked whether it is in its place. Where it was not, that is a fault of
   -- the region.
   pub asked : r.in_place ≡ true → r.complete ≡ true
   pub astray : r.complete ≡ true → r.in_place ≡ false → r.status ≡ statuses.RegionFault
   -- At the end the whole text was written and flushed, without a `stopped`; also where a call of the region failed, and no write did.
-  pub done : r.status ≡ statuses.Done → WritesAll (IsTelling new) (cells_of found)
-      begun (told_in r) ⊥ sink × (sink.flushed ≡ true)
+  pub done : r.status ≡ statuses.Done
+      → Says All (IsTelling new) (cells_of found) begun (told_in r) ⊥ × (sink.flushed ≡ true)
   pub failed : r.status ≡ statuses.RegionFault → r.in_place ≡ true
       → (Rose sink.faults sink.faults' → ⊥)
-      → WritesAll (IsTelling new) (cells_of found) begun (told_in r)
-      (Faulted old new) sink × (sink.flushed ≡ true)
+      → Says All (IsTelling new) (cells_of found) begun (told_in r) (Faulted old new)
+      × (sink.flushed ≡ true)
   -- Where a write failed and no call of the region did, the beginning of such a text, without a `stopped`.
-  pub sunk : r.status ≡ statuses.SinkFault → WritesFront (IsTelling new) (cells_of found)
-      begun (told_in r) ⊥ sink
+  pub sunk : r.status ≡ statuses.SinkFault
+      → Says Front (IsTelling new) (cells_of found) begun (told_in r) ⊥
   -- Always the beginning of such a text, where a request is `stopped` only if a call of the region failed, or the run did not come to its end.
-  pub begins : WritesFront (IsTelling new) (cells_of found) begun (told_in r)
-      (r.complete ≡ true → Faulted old new) sink
+  pub begins : Says Front (IsTelling new) (cells_of found) begun (told_in r)
+      (r.complete ≡ true → Faulted old new)
   -- Whatever a crash leaves at any told moment since the attach is sound, and recovers for each key its finished changes, or one more.
   pub crash : IsSound new.frame.bytes found → RecoversThroughout new (cells_of found)
       begun (told_in r)
@@ -102,8 +100,10 @@ pub record Serves (old new : State) (found : ℕ → ℕ) (source : SourceUse) (
 -- The headline, of a replay: one thread makes the moves of all cores, by the lines of the input.
 pub record Replays (old new : State) (found : ℕ → ℕ) (source : SourceUse) (cores : ℕ)
     (input : List ℕ) (sink : SinkUse) (r : Report) : Type 0 where
+  pub order : GoesInOrder old new found source cores input sink r
   -- All requests of the input were begun.
-  pub serves : Serves old new found source cores input (asked_in cores input) sink r
+  pub serves : Serves (TakesReplies sink) (TakesFront sink) old new found
+      (asked_in cores input) sink r
   -- Nothing was written where the region was out of its place behind the run.
   pub kept_back : r.complete ≡ true → r.in_place ≡ false → sink.now ≡ sink.before
   -- Where a call of the region failed, it came to its end all the same.

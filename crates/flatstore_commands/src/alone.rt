@@ -26,8 +26,8 @@ use pm_region::{ReadRegion, SplitRegion};
 use std::alloc::Global;
 use std::thread::Threads;
 
-/// Does what the words of a command line ask, in the thread that calls it, and returns: the words of `run` and `audit`
-/// count as no form. The first word is the program's name. For `format` the region is created and its superblock
+/// Does what the words of a command line ask, in the thread that calls it, and returns: the words of `run`, `audit`
+/// and `load` count as no form. The first word is the program's name. For `format` the region is created and its superblock
 /// written. For `replay` the region is attached, the input is read, its lines are run in order, each core's moves by
 /// its `go` lines, and the replies are written once all are answered. For `dump` the region is attached, and its live
 /// pairs are written, and for `log` the entries of its logs. For `scan` the region is attached, the input is read, and
@@ -103,6 +103,7 @@ pub fn flatstore_alone<T: Threads, S: Source, O: Sink, R: SplitRegion + ReadRegi
 
     // Nothing is lost or changed by a refusal.
     ensures sink_untouched { is_quiet result.status ≡ true → sink.new ≡ sink.old }
+    ensures quiet_unbegun { is_quiet result.status ≡ true → result.began ≡ false }
     ensures no_form_untouched { alone_form_of (words_of words.now.items) ≡ None
         → (region.new ≡ region.old) × (source.new ≡ source.old) × (sink.new ≡ sink.old)
         × (result.attached ≡ false) }
@@ -118,7 +119,9 @@ pub fn flatstore_alone<T: Threads, S: Source, O: Sink, R: SplitRegion + ReadRegi
     match command {
         Command::Format { layout, .. } => format_region(alloc, region, layout),
         Command::Replay { .. } => replay_region(alloc, source, sink, region),
-        Command::Run { .. } | Command::Audit { .. } => Report::of(alloc, Status::Usage, false),
+        Command::Run { .. } | Command::Audit { .. } | Command::Load { .. } => {
+            Report::of(alloc, Status::Usage, false)
+        }
         Command::Dump { .. } => dump_region(alloc, sink, region),
         Command::Log { .. } => log_region(alloc, sink, region),
         Command::Scan { .. } => scan_region(alloc, source, sink, region),

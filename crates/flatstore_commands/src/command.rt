@@ -1,9 +1,10 @@
 // The words of the command line.
 ghost use Rattle.std.specs.Prelude.{◌≡◌, IfOk, option_map, is_some, string_bytes};
 ghost use Rattle.clap.specs.Words.{found_of, rows_of, subcommand_rows_of};
-ghost use Rattle.flatstore_commands.specs.Commands.{form_of, form_in, form_named, layout_in, needs_threads, number_in, words_of, workers_in};
+ghost use Rattle.flatstore_commands.specs.Commands.{form_of, form_in, form_named, layout_in, load_in, needs_threads, number_in, words_of, workers_in};
 ghost use Rattle.flatstore_commands.specs.Asked.{asked, path_of, threaded, way_of};
 
+use crate::load_size::LoadSize;
 use crate::parser::program;
 use crate::workers::Workers;
 use chunk_map::Layout;
@@ -29,6 +30,8 @@ pub enum Command<'a> {
     Scan { path: &'a str },
     /// A verdict on the replies of the input, by so many workers.
     Audit { path: &'a str, workers: Workers },
+    /// A tally of the answers to so many requests that are made.
+    Load { path: &'a str, size: LoadSize },
 }
 
 fn number_in(matches: &ArgMatches, name: &str) -> Option<u64>
@@ -52,6 +55,15 @@ fn workers_in(matches: &ArgMatches) -> Option<Workers>
 {
     let count = number_in(matches, "workers")?;
     Workers::of(count)
+}
+
+fn load_in(matches: &ArgMatches) -> Option<LoadSize>
+    ensures { option_map (λ l. (l.start, l.count)) result
+        ≡ load_in (rows_of (found_of matches.now)) }
+{
+    let start = number_in(matches, "start")?;
+    let count = number_in(matches, "count")?;
+    LoadSize::of(start, count)
 }
 
 /// The command of a subcommand's name, its matches and its path.
@@ -81,6 +93,10 @@ fn command_named<'a>(name: &str, matches: &ArgMatches, path: &'a str) -> Option<
     if name == "audit" {
         let workers = workers_in(matches)?;
         return Some(Command::Audit { path, workers });
+    }
+    if name == "load" {
+        let size = load_in(matches)?;
+        return Some(Command::Load { path, size });
     }
     None
 }
@@ -126,6 +142,7 @@ impl<'a> Command<'a> {
             Command::Log { path } => path,
             Command::Scan { path } => path,
             Command::Audit { path, .. } => path,
+            Command::Load { path, .. } => path,
         }
     }
 }
@@ -149,6 +166,8 @@ pub enum Threaded {
     Run,
     /// An audit by so many workers.
     Audit { workers: Workers },
+    /// A run of so many requests that are made.
+    Load { size: LoadSize },
 }
 
 /// What the words ask for that needs threads.
@@ -162,6 +181,7 @@ pub fn asked_of_threads(alloc: Global, words: &Vec<String>) -> Result<Option<Thr
         Err(error) => Err(error),
         Ok(Some(Command::Run { .. })) => Ok(Some(Threaded::Run)),
         Ok(Some(Command::Audit { workers, .. })) => Ok(Some(Threaded::Audit { workers })),
+        Ok(Some(Command::Load { size, .. })) => Ok(Some(Threaded::Load { size })),
         Ok(_) => Ok(None),
     }
 }

@@ -20,7 +20,10 @@ use recover::RecoverError;
 use std::alloc::Global;
 
 /// The live pairs of the words that an attached region reads, by rising key, or the status where there are none.
-fn live_pairs<R: SplitRegion + ReadRegion>(alloc: Global, region: &R) -> Result<Vec<Pair>, Status>
+pub fn live_pairs<R: SplitRegion + ReadRegion>(
+    alloc: Global,
+    region: &R,
+) -> Result<Vec<Pair>, Status>
     requires first { (R.state region.now).frame.first ≡ 0 }
     requires words { (R.state region.now).frame.words ≡ words_in (R.state region.now).frame.bytes }
     ensures ok { IfOk result (λ pairs. IsSound (R.state region.now).frame.bytes (R.word region.now)

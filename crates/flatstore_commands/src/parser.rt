@@ -2,7 +2,7 @@
 ghost use Rattle.std.specs.Prelude.{◌≡◌, IfOk, false};
 ghost use Rattle.clap.specs.Words.{app_of, rule_of};
 ghost use Rattle.clap.specs.declared.builder.command.Command.TheViews.{out-Command};
-ghost use Rattle.flatstore_commands.specs.Commands.{number_rule, number_word_rule, word_rule, audit_command, region_command, format_command, bare_program, writing_program, reading_program, program};
+ghost use Rattle.flatstore_commands.specs.Commands.{number_rule, number_word_rule, word_rule, audit_command, load_command, region_command, format_command, bare_program, writing_program, running_program, reading_program, program};
 
 use clap::{Arg, Command, value_parser};
 use std::alloc::{AllocError, Global};
@@ -52,6 +52,16 @@ fn audit_command<'a>(alloc: Global) -> Result<Command<'a>, AllocError>
     region_command(alloc, "audit")?.arg(number_word(alloc, "workers"))
 }
 
+/// A subcommand with the path of a region, the number at which a load begins and how many requests it has.
+fn load_command<'a>(alloc: Global) -> Result<Command<'a>, AllocError>
+    ensures app { IfOk result (λ c. app_of c ≡ load_command) }
+    ensures local { IfOk result (λ c. (out-Command c).has_globals ≡ false) }
+{
+    region_command(alloc, "load")?
+        .arg(number_word(alloc, "start"))?
+        .arg(number_word(alloc, "count"))
+}
+
 fn format_command<'a>(alloc: Global) -> Result<Command<'a>, AllocError>
     ensures app { IfOk result (λ c. app_of c ≡ format_command) }
     ensures local { IfOk result (λ c. (out-Command c).has_globals ≡ false) }
@@ -71,21 +81,29 @@ fn bare_program<'a>(alloc: Global) -> Command<'a>
     Command::new(alloc, "flatstore").subcommand_required(true)
 }
 
-/// The command with the subcommands that make a region and change one.
+/// The command with the subcommands that make a region and replay a trace.
 fn writing_program<'a>(alloc: Global) -> Result<Command<'a>, AllocError>
     ensures app { IfOk result (λ c. app_of c ≡ writing_program) }
 {
     bare_program(alloc)
         .subcommand(format_command(alloc)?)?
-        .subcommand(region_command(alloc, "replay")?)?
-        .subcommand(region_command(alloc, "run")?)
+        .subcommand(region_command(alloc, "replay")?)
+}
+
+/// The command with the subcommands whose cores run on threads, too.
+fn running_program<'a>(alloc: Global) -> Result<Command<'a>, AllocError>
+    ensures app { IfOk result (λ c. app_of c ≡ running_program) }
+{
+    writing_program(alloc)?
+        .subcommand(region_command(alloc, "run")?)?
+        .subcommand(load_command(alloc)?)
 }
 
 /// The command with the subcommands that show a region, too.
 fn reading_program<'a>(alloc: Global) -> Result<Command<'a>, AllocError>
     ensures app { IfOk result (λ c. app_of c ≡ reading_program) }
 {
-    writing_program(alloc)?
+    running_program(alloc)?
         .subcommand(region_command(alloc, "dump")?)?
         .subcommand(region_command(alloc, "log")?)
 }

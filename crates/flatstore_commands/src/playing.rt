@@ -47,6 +47,7 @@ pub fn replay_region<S: Source, O: Sink, R: SplitRegion + ReadRegion>(
     ensures unread { is_of_region result.status ≡ true → source.new ≡ source.old }
     ensures unattached_unread { result.attached ≡ false → source.new ≡ source.old }
     ensures sink_untouched { is_quiet result.status ≡ true → sink.new ≡ sink.old }
+    ensures quiet_unbegun { is_quiet result.status ≡ true → result.began ≡ false }
     ensures region_untouched { is_quiet result.status ≡ true → result.attached ≡ true
         → Attached (R.state region.old) (R.state region.new) (R.state region.new).frame.bytes
         (R.found region.old) }

@@ -8,7 +8,7 @@ ghost use Rattle.fs_text.specs.Bounds.{IsWithin};
 ghost use Rattle.flatstore_commands.specs.Attaching.{Asks};
 ghost use Rattle.flatstore_commands.specs.Ends.{sink_use, source_use};
 ghost use Rattle.flatstore_commands.specs.Reads.{IsRead, IsUnread, unread_as};
-ghost use Rattle.flatstore_commands.specs.Played.{StandsWhole, IsReady, Played, IsUnserved, IsRefused, HasWritten, HasAnswered, is_ended, ended_as};
+ghost use Rattle.flatstore_commands.specs.Played.{StandsWhole, IsReady, Played, IsUnserved, IsRefused, HasWrittenReplies, HasAnswered, is_ended, ended_as};
 ghost use Rattle.flatstore_commands.specs.Ordering.{is_of_region};
 
 use crate::report::{Report, Status};
@@ -140,7 +140,7 @@ pub fn status_of(end: End, sunk: bool) -> Status
 // Writes the replies of a run that came to its end.
 fn write_text<O: Sink>(alloc: Global, sink: &mut O, outcome: &Outcome) -> Status
     requires { is_ended outcome.now.end ≡ true }
-    ensures { HasWritten outcome.now (sink_use O.taken O.flushed O.fault_count sink.old sink.new)
+    ensures { HasWrittenReplies outcome.now (sink_use O.taken O.flushed O.fault_count sink.old sink.new)
         result }
 {
     match write_replies(alloc, sink, outcome.replies.as_slice()) {

@@ -23,6 +23,8 @@ use std::thread::Threads;
 use thread_engine::requests::TraceRequests;
 use thread_engine::run_to_sink::{SinkRun, run_to_sink};
 use thread_engine::text_outlet::Unwritten;
+use thread_engine::watch::Watch;
+use thread_engine::watched_requests::WatchedRequests;
 
 /// Why no core ran.
 #[derive(Clone, Copy, Debug, PartialEq, Eq)]
@@ -53,7 +55,8 @@ impl From<AttachError> for NotRun {
 }
 
 impl NotRun {
-    fn report(self, alloc: Global) -> Report
+    /// The report of a call in which no core ran.
+    pub fn report(self, alloc: Global) -> Report
         ensures status { result.status ≡ status_for self }
         ensures finishes { result.finishes.items ≡ [] }
         ensures refusals { result.refusals.items ≡ [] }
@@ -82,6 +85,7 @@ fn run_cores<
     O: Sink,
     R: SplitRegion + ReadRegion,
     G: Gate + Sync,
+    W: Watch,
 >(
     rt: &T,
     alloc: Global,
@@ -89,6 +93,7 @@ fn run_cores<
     sink: &mut O,
     region: &mut R,
     gate: &G,
+    watch: &mut W,
 ) -> Result<SinkRun, NotRun>
     requires open { S.ended source.old ≡ false }
     requires whole { StandsWhole (R.state region.old) }
@@ -107,7 +112,8 @@ fn run_cores<
         → source.new ≡ source.old) }
 {
     let (recovered, input) = prepared(alloc, source, region)?;
-    let mut requests = TraceRequests::of(input);
+    let asked = TraceRequests::of(input);
+    let mut requests = WatchedRequests::of(asked, watch);
     let ran = run_to_sink(rt, alloc, region, sink, recovered, &mut requests, gate)?;
     Ok(ran)
 }
@@ -157,7 +163,16 @@ pub fn run_region<
     O: Sink,
     R: SplitRegion + ReadRegion,
     G: Gate + Sync,
->(rt: &T, alloc: Global, source: &mut S, sink: &mut O, region: &mut R, gate: &G) -> Report
+    W: Watch,
+>(
+    rt: &T,
+    alloc: Global,
+    source: &mut S,
+    sink: &mut O,
+    region: &mut R,
+    gate: &G,
+    watch: &mut W,
+) -> Report
     requires open { S.ended source.old ≡ false }
     ensures attaches { AttachesToSplit (R.state region.old) (R.state region.new)
         (R.found region.old) result }
@@ -186,6 +201,7 @@ pub fn run_region<
     ensures unread { is_of_region result.status ≡ true → source.new ≡ source.old }
     ensures unattached_unread { result.attached ≡ false → source.new ≡ source.old }
     ensures sink_untouched { is_quiet result.status ≡ true → sink.new ≡ sink.old }
+    ensures quiet_unbegun { is_quiet result.status ≡ true → result.began ≡ false }
     ensures region_untouched { is_quiet result.status ≡ true → result.attached ≡ true
         → Attached (R.state region.old) (R.state region.new) (R.state region.new).frame.bytes
         (R.found region.old) }
@@ -193,7 +209,7 @@ pub fn run_region<
     match region.attach(alloc) {
         Err(AttachError::RegionFault) => Report::of(alloc, Status::RegionFault, false),
         Err(AttachError::Memory) => Report::of(alloc, Status::Memory, false),
-        Ok(()) => match run_cores(rt, alloc, source, sink, region, gate) {
+        Ok(()) => match run_cores(rt, alloc, source, sink, region, gate, watch) {
             Err(why) => why.report(alloc),
             Ok(ran) => report_of(ran),
         },

@@ -3,11 +3,12 @@ ghost use Rattle.std.specs.Prelude.{◌≡◌, ◌⊎◌, ℕ, ◌≤◌, List, 
 ghost use Rattle.pm_region.specs.Split.{Attached};
 ghost use Rattle.chunk_map.specs.declared.layouts.Geometry.{Geometry};
 ghost use Rattle.flatstore_commands.specs.Ends.{AnswersNothing, CountsFaults, ReportsNothing, sink_use, source_use};
-ghost use Rattle.flatstore_commands.specs.Commands.{form_of, is_run, words_of};
-ghost use Rattle.flatstore_commands.specs.Commands.Form.{Format, Replay, Run, Dump, Log, Scan, Audit};
+ghost use Rattle.flatstore_commands.specs.Commands.{form_of, is_load, is_run, words_of};
+ghost use Rattle.flatstore_commands.specs.Commands.Form.{Format, Replay, Run, Dump, Log, Scan, Audit, Load};
 ghost use Rattle.flatstore_commands.specs.Audits.{Audits};
 ghost use Rattle.flatstore_commands.specs.Dumps.{Dumps};
 ghost use Rattle.flatstore_commands.specs.Formats.{Formats};
+ghost use Rattle.flatstore_commands.specs.Loads.{AttachesToLoad, LoadsOnThreads};
 ghost use Rattle.flatstore_commands.specs.Logs.{Logs};
 ghost use Rattle.flatstore_commands.specs.Attaching.{AttachesToRun, AttachesToSplit};
 ghost use Rattle.flatstore_commands.specs.Ordering.{is_of_region, is_quiet};
@@ -19,6 +20,7 @@ ghost use Rattle.flatstore_commands.specs.declared.report.Status.TheVariants as 
 use crate::alone::flatstore_alone;
 use crate::auditing::audit_region;
 use crate::command::{Threaded, asked_of_threads};
+use crate::loading::load_region;
 use crate::report::{Report, Status};
 use crate::run_threads::run_region;
 use core_worker::Gate;
@@ -28,12 +30,14 @@ use pm_region::{ReadRegion, SplitRegion};
 use std::alloc::Global;
 use std::sync::Wait;
 use std::thread::Threads;
+use thread_engine::watch::Watch;
 
 /// Does what the words of a command line ask. The first word is the program's name. For `run` the region is attached,
 /// the input is read, and each core of the region has a worker in a thread of its own, which answers the requests of
 /// its keys, and asks the gate before it posts; behind each window of requests their replies are written in the order of
-/// the requests. It may then wait for its threads. For `audit` the region is attached, the input is read, and its
-/// requests are judged by shares in threads of their own. Every other form is done in the thread that calls it
+/// the requests, and the watch is told how many are answered. It may then wait for its threads. For `audit` the region is attached, the input is read, and its
+/// requests are judged by shares in threads of their own. For `load` the requests are made and run as those of `run` are,
+/// and the tally of their replies is written behind the run. Every other form is done in the thread that calls it
 /// (`flatstore_alone`).
 #[tactic(auto, using(crate::proofs::Forms::run_way, crate::proofs::Forms::audit_way, crate::proofs::Forms::no_way))]
 pub fn flatstore<
@@ -42,6 +46,7 @@ pub fn flatstore<
     O: Sink,
     R: SplitRegion + ReadRegion,
     G: Gate + Sync,
+    W: Watch,
 >(
     rt: &T,
     alloc: Global,
@@ -50,6 +55,7 @@ pub fn flatstore<
     sink: &mut O,
     region: &mut R,
     gate: &G,
+    watch: &mut W,
 ) -> Report
     requires open { S.ended source.old ≡ false }
     // The words alone decide on Usage, but for want of memory.
@@ -103,6 +109,18 @@ pub fn flatstore<
         (G.may_refuse gate.now) cores input
         (sink_use O.taken O.flushed O.fault_count sink.old sink.new) result }
 
+    // The same of a load, whose requests are made, and whose replies are counted.
+    ensures attaches_load { (path : List ℕ) (start count : ℕ)
+        → form_of (words_of words.now.items) ≡ Some (Load path start count)
+        → AttachesToLoad (R.state region.old) (R.state region.new) (R.found region.old) result }
+    ensures load { (path : List ℕ) (start count : ℕ)
+        → form_of (words_of words.now.items) ≡ Some (Load path start count)
+        → (result.attached ≡ true
+        → LoadsOnThreads (R.state region.old) (R.state region.new) (R.found region.old)
+        (R.word region.new) (G.may_refuse gate.now) start count
+        (sink_use O.taken O.flushed O.fault_count sink.old sink.new) result)
+        × (source.new ≡ source.old) }
+
     // The verdict is that on the replies of the input, from the cells that the words read recover.
     ensures audit { (path : List ℕ) (workers : ℕ)
         → form_of (words_of words.now.items) ≡ Some (Audit path workers)
@@ -136,21 +154,26 @@ pub fn flatstore<
     ensures unread { is_of_region result.status ≡ true → source.new ≡ source.old }
     ensures unattached_unread { result.attached ≡ false → source.new ≡ source.old }
 
-    // Nothing is lost or changed by a refusal.
+    // Nothing is lost or changed by a refusal. A load alone may find behind its run that its region breaks a rule.
     ensures sink_untouched { is_quiet result.status ≡ true → sink.new ≡ sink.old }
     ensures no_form_untouched { form_of (words_of words.now.items) ≡ None
         → (region.new ≡ region.old) × (source.new ≡ source.old) × (sink.new ≡ sink.old)
         × (result.attached ≡ false) }
-    ensures region_untouched { is_quiet result.status ≡ true → result.attached ≡ true
-        → Attached (R.state region.old) (R.state region.new) (R.state region.new).frame.bytes
+    ensures quiet_unbegun { is_load (form_of (words_of words.now.items)) ≡ false
+        → is_quiet result.status ≡ true → result.began ≡ false }
+    ensures region_untouched { is_quiet result.status ≡ true → result.began ≡ false
+        → result.attached ≡ true → Attached (R.state region.old) (R.state region.new) (R.state region.new).frame.bytes
         (R.found region.old) }
 {
     match asked_of_threads(alloc, words) {
         Err(Memory) => Report::of(alloc, Status::Memory, false),
-        Ok(Some(Threaded::Run)) => run_region(rt, alloc, source, sink, region, gate),
+        Ok(Some(Threaded::Run)) => run_region(rt, alloc, source, sink, region, gate, watch),
         Ok(Some(Threaded::Audit { workers })) => {
             audit_region(rt, alloc, source, sink, region, workers)
         }
+        Ok(Some(Threaded::Load { size })) => load_region(
+            rt, alloc, sink, region, size, gate, watch,
+        ),
         Ok(None) => flatstore_alone(rt, alloc, words, source, sink, region),
     }
 }

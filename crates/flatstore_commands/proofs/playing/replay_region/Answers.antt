@@ -3,7 +3,7 @@ use Rattle.std.proofs.Common.{List, ℕ, Bool, refl, sym, ap, subst}
 use Rattle.flatstore_commands.specs.Attaching.{Asks}
 use Rattle.flatstore_commands.specs.Ends.{sink_use, source_use}
 use Rattle.flatstore_commands.specs.Ordering.{is_quiet}
-use Rattle.flatstore_commands.specs.Promise.{IsInput, Replays}
+use Rattle.flatstore_commands.specs.Promise.{IsInput, Replays, TakesReplies, TakesFront}
 use Rattle.flatstore_commands.proofs.Opened.{granted_by, attaches_to_run, no_more}
 use Rattle.flatstore_commands.proofs.Replaying.{promise, replay_counts, onward}
 use Rattle.flatstore_commands.proofs.Refused.{refused_replays}
@@ -64,4 +64,11 @@ returns-in-Ok-replay-clause-region_untouched g c = λ quiet attached.
     let sink = sink_use g.O.Sink.taken g.O.Sink.flushed g.O.Sink.fault_count c.args.sink.now c.write_outcome.new.sink in
     let r = c.write_outcome.result in
     let ended = ended_so c.in-Ok-replay.outcome sink r.status r.in_place c.write_outcome.ensures.answered in
-    both (is_quiet r.status) quiet (answered_loud c.in-Ok-replay.outcome sink r.status r.in_place ended)
+    both (is_quiet r.status) quiet (answered_loud (TakesReplies sink c.in-Ok-replay.outcome.replies.items) (TakesFront sink c.in-Ok-replay.outcome.replies.items) c.in-Ok-replay.outcome.end sink r.status r.in_place ended)
+
+pub returns-in-Ok-replay-clause-quiet_unbegun : goal.returns-in-Ok-replay-clause-quiet_unbegun
+returns-in-Ok-replay-clause-quiet_unbegun g c = λ quiet.
+    let sink = sink_use g.O.Sink.taken g.O.Sink.flushed g.O.Sink.fault_count c.args.sink.now c.write_outcome.new.sink in
+    let r = c.write_outcome.result in
+    let ended = ended_so c.in-Ok-replay.outcome sink r.status r.in_place c.write_outcome.ensures.answered in
+    both (is_quiet r.status) quiet (answered_loud (TakesReplies sink c.in-Ok-replay.outcome.replies.items) (TakesFront sink c.in-Ok-replay.outcome.replies.items) c.in-Ok-replay.outcome.end sink r.status r.in_place ended)

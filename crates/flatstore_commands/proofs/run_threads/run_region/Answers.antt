@@ -3,7 +3,7 @@ use Rattle.std.proofs.Common.{refl, sym, ◌∙◌, ap}
 use Rattle.flatstore_commands.specs.Ends.{sink_use, source_use}
 use Rattle.flatstore_commands.specs.Ordering.{is_quiet}
 use Rattle.flatstore_commands.proofs.Opened.{granted_by}
-use Rattle.flatstore_commands.proofs.ThreadRunning.{attaches_then, not_asked, meanwhile, ran_on, run_counts, run_ends, run_loud, not_run}
+use Rattle.flatstore_commands.proofs.ThreadRunning.{attaches_then, not_asked, meanwhile, ran_on, run_counts, run_ends, run_loud, not_run, quiet_why}
 use Rattle.flatstore_commands.proofs.Texts.{both}
 use Rattle.flatstore_commands.proofs.run_threads.run_region.Goals as goal
 
@@ -83,3 +83,15 @@ returns-in-Ok-run_cores-clause-region_untouched g c = λ quiet attached.
     c.attach.ensures.opens (granted_by old s c.attach.result _ c.in-Ok.is c.attach.ensures.cause) c.attach.ensures.cause.later (g.G.Gate.may_refuse c.args.gate.now)
     (source_use g.S.Source.coming g.S.Source.fault_count c.args.source.now c.run_cores.new.source) (sink_use g.O.Sink.taken g.O.Sink.flushed g.O.Sink.fault_count c.args.sink.now c.run_cores.new.sink)
     c.in-Ok-run_cores.ran c.in-Ok-run_cores.ensures.played c.report_of.result c.report_of.ensures.status c.report_of.ensures.in_place c.report_of.ensures.finishes c.report_of.ensures.refusals c.report_of.ensures.began c.report_of.ensures.complete)
+
+pub returns-in-Ok-run_cores-clause-quiet_unbegun : goal.returns-in-Ok-run_cores-clause-quiet_unbegun
+returns-in-Ok-run_cores-clause-quiet_unbegun g c = λ quiet.
+    let old = g.R.Region.state c.args.region.now in
+    let s = g.R.Region.state c.attach.new.self in
+    both (is_quiet c.report_of.result.status) quiet (run_loud old s (g.R.Region.state c.run_cores.new.region) (g.R.SplitRegion.found c.args.region.now) (g.R.ReadRegion.word c.attach.new.self) c.in-Ok.ensures.ok
+    c.attach.ensures.opens (granted_by old s c.attach.result _ c.in-Ok.is c.attach.ensures.cause) c.attach.ensures.cause.later (g.G.Gate.may_refuse c.args.gate.now)
+    (source_use g.S.Source.coming g.S.Source.fault_count c.args.source.now c.run_cores.new.source) (sink_use g.O.Sink.taken g.O.Sink.flushed g.O.Sink.fault_count c.args.sink.now c.run_cores.new.sink)
+    c.in-Ok-run_cores.ran c.in-Ok-run_cores.ensures.played c.report_of.result c.report_of.ensures.status c.report_of.ensures.in_place c.report_of.ensures.finishes c.report_of.ensures.refusals c.report_of.ensures.began c.report_of.ensures.complete)
+
+pub returns-in-Err-clause-quiet_unbegun : goal.returns-in-Err-clause-quiet_unbegun
+returns-in-Err-clause-quiet_unbegun g c = λ quiet. c.report.ensures.began ∙ quiet_why c.in-Err.why (sym (ap is_quiet c.report.ensures.status) ∙ quiet)
