@@ -1,6 +1,8 @@
 //! The program `flatstore`: a key-value store in a region file.
 #![tactic(auto)]
 
+mod terminal_watch;
+
 use core_worker::OpenGate;
 use flatstore_commands::{Status, command_line, flatstore, region_path};
 use fs_errors::Memory;
@@ -11,6 +13,7 @@ use std::io;
 use std::process::ExitCode;
 use std::sync::Wait;
 use std::thread::Threads;
+use terminal_watch::TerminalWatch;
 
 /// Does what the command line asks, with the region in its file, standard input and standard output. The
 /// runtime is handed in twice, as what it is and as the leave to start threads and to wait for them.
@@ -32,6 +35,7 @@ fn run(
     let mut region = FileRegion::at(own, path);
     let mut source = StdSource::over(rt.reader());
     let mut sink = StdSink::over(io::writer(rt));
+    let mut watch = TerminalWatch::on(rt);
     let report = flatstore(
         threads,
         alloc,
@@ -40,7 +44,9 @@ fn run(
         &mut sink,
         &mut region,
         &OpenGate,
+        &mut watch,
     );
+    watch.clear();
     Ok(report.status)
 }
 
