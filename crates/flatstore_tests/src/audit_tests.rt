@@ -1,25 +1,40 @@
 // The worked rows of an audit, on the top call.
-use crate::call_tests::replay;
+use crate::call_tests::all_done;
 use crate::row_tests::fresh_of;
-use crate::thread_tests::{threads, two_thousand};
+use crate::thread_tests::{threads_end, two_thousand};
 use core_worker::OpenGate;
-use flatstore_commands::{Report, Status};
+use flatstore_commands::Status;
 use pm_region::{ReadRegion, Region, SplitRegion, SteadyRegion};
-use std::alloc::AllocGlobal;
+use std::alloc::{AllocGlobal, Global};
 use std::sync::Wait;
 use std::test::Fail;
 use std::thread::Threads;
 
 const WORKERS: [&str; 2] = ["1", "4"];
 
+// What an audit says, where this text is wanted.
 fn audit<R: SplitRegion + ReadRegion>(
     rt: &(impl Threads + Wait + Sync + AllocGlobal),
     region: &mut R,
     workers: &str,
     input: &str,
-) -> Result<(Report, Vec<u8>), Fail> {
+    text: &str,
+) -> Result<(Status, bool), Fail> {
     let words = ["flatstore", "audit", "region", workers];
-    threads(rt, &words, region, input, &OpenGate)
+    Ok(threads_end(rt, &words, region, input, text, &OpenGate)?.said())
+}
+
+// What an audit of a fresh region says, where this text is wanted, and the region's stamp then.
+fn fresh_audit(
+    rt: &(impl Threads + Wait + Sync + AllocGlobal),
+    workers: &str,
+    input: &str,
+    text: &str,
+) -> Result<((Status, bool), u64), Fail> {
+    let alloc = rt.alloc();
+    let mut region = SteadyRegion::new(alloc, fresh_of(alloc, 1, 1)?, 5000)?;
+    let said = audit(rt, &mut region, workers, input, text)?;
+    Ok((said, region.stamp()))
 }
 
 const ROWS: [(&str, Status, &str); 11] = [
@@ -70,14 +85,10 @@ const ROWS: [(&str, Status, &str); 11] = [
 
 #[test]
 fn rows(rt: HostRuntime) -> Result<(), Fail> {
-    let alloc = rt.alloc();
     for (input, status, text) in ROWS {
         for workers in WORKERS {
-            let mut region = SteadyRegion::new(alloc, fresh_of(alloc, 1, 1)?, 5000)?;
-            let (report, written) = audit(&rt, &mut region, workers, input)?;
-            assert_eq!(rt; report.status, status);
-            assert_eq!(rt; written.as_slice(), text.as_bytes());
-            assert_eq!(rt; region.stamp(), 0);
+            let said = fresh_audit(&rt, workers, input, text)?;
+            assert_eq!(rt; said, ((status, true), 0), "{input}");
         }
     }
     Ok(())
@@ -86,36 +97,36 @@ fn rows(rt: HostRuntime) -> Result<(), Fail> {
 // The cells of the region are where the replies begin.
 #[test]
 fn cells_of_the_region(rt: HostRuntime) -> Result<(), Fail> {
-    let alloc = rt.alloc();
-    let mut region = SteadyRegion::new(alloc, fresh_of(alloc, 1, 1)?, 5000)?;
-    let (report, _) = replay(&rt, &mut region, "put 7 x\nput 8 y\ndelete 8\n")?;
-    assert_eq!(rt; report.status, Status::Done);
+    let mut region = SteadyRegion::new(rt.alloc(), fresh_of(rt.alloc(), 1, 1)?, 5000)?;
+    let rows = [("put 7 x\nput 8 y\ndelete 8\n", "stored\nstored\ndeleted\n")];
+    all_done(&rt, &mut region, &rows)?;
     let input = "get 7\nget 8\nreplies\nvalue x\nabsent\n";
-    let (_, written) = audit(&rt, &mut region, "4", input)?;
-    assert_eq!(rt; written.as_slice(), b"lawful\n".as_slice());
+    let said = audit(&rt, &mut region, "4", input, "lawful\n")?;
+    assert_eq!(rt; said, (Status::Done, true));
     Ok(())
+}
+
+// The two thousand requests, and their replies behind them.
+fn two_thousand_answered(alloc: Global) -> Result<String, Fail> {
+    let (trace, replies) = two_thousand(alloc)?;
+    Ok(format!(in alloc; "{trace}replies\n{replies}")?)
 }
 
 #[test]
 fn two_thousand_requests(rt: HostRuntime) -> Result<(), Fail> {
-    let alloc = rt.alloc();
-    let (trace, replies) = two_thousand(alloc)?;
-    let input = format!(in alloc; "{trace}replies\n{replies}")?;
+    let input = two_thousand_answered(rt.alloc())?;
     for workers in WORKERS {
-        let mut region = SteadyRegion::new(alloc, fresh_of(alloc, 1, 1)?, 5000)?;
-        let (_, written) = audit(&rt, &mut region, workers, input.as_str())?;
-        assert_eq!(rt; written.as_slice(), b"lawful\n".as_slice());
+        let (said, _) = fresh_audit(&rt, workers, input.as_str(), "lawful\n")?;
+        assert_eq!(rt; said, (Status::Done, true));
     }
     Ok(())
 }
 
 #[test]
 fn too_many_workers(rt: HostRuntime) -> Result<(), Fail> {
-    let alloc = rt.alloc();
     for workers in ["0", "17", "x", ""] {
-        let mut region = SteadyRegion::new(alloc, fresh_of(alloc, 1, 1)?, 5000)?;
-        let (report, _) = audit(&rt, &mut region, workers, "replies\n")?;
-        assert_eq!(rt; report.status, Status::Usage);
+        let (said, _) = fresh_audit(&rt, workers, "replies\n", "")?;
+        assert_eq!(rt; said, (Status::Usage, true));
     }
     Ok(())
 }

@@ -16,6 +16,7 @@ use pm_region::{
 use std::alloc::{Alloc, AllocError, AllocGlobal, Global};
 use std::env::{Env, FillError};
 use std::fs;
+use std::process::Abort;
 use std::test::Fail;
 use std::thread::Threads;
 
@@ -89,14 +90,71 @@ pub fn replay<R: SplitRegion + ReadRegion>(
     Ok((report, text))
 }
 
+// What a report says beside its lists, and whether the text that was written is the wanted one.
+#[derive(Clone, Copy)]
+pub struct Ended {
+    pub status: Status,
+    pub attached: bool,
+    pub complete: bool,
+    pub in_place: bool,
+    pub finishes: usize,
+    pub as_wanted: bool,
+}
+
+impl Ended {
+    pub fn of(report: &Report, written: &[u8], text: &[u8]) -> Ended {
+        Ended {
+            status: report.status,
+            attached: report.attached,
+            complete: report.complete,
+            in_place: report.in_place,
+            finishes: report.finishes.len(),
+            as_wanted: written == text,
+        }
+    }
+
+    pub fn said(&self) -> (Status, bool) {
+        (self.status, self.as_wanted)
+    }
+}
+
+// How a replay on a region ends, where this text is wanted.
+pub fn ends<R: SplitRegion + ReadRegion>(
+    rt: &(impl Threads + AllocGlobal),
+    region: &mut R,
+    input: &str,
+    text: &str,
+) -> Result<Ended, Fail> {
+    let (report, written) = replay(rt, region, input)?;
+    Ok(Ended::of(&report, written.as_slice(), text.as_bytes()))
+}
+
+// The same, and whether it reports just these refusals.
+pub fn refuses<R: SplitRegion + ReadRegion>(
+    rt: &(impl Threads + AllocGlobal),
+    region: &mut R,
+    input: &str,
+    text: &str,
+    refusals: &[Refusal],
+) -> Result<(Ended, bool), Fail> {
+    let (report, written) = replay(rt, region, input)?;
+    let ended = Ended::of(&report, written.as_slice(), text.as_bytes());
+    Ok((ended, report.refusals.as_slice() == refusals))
+}
+
 fn steady(alloc: Global) -> Result<SteadyRegion, Memory> {
     SteadyRegion::new(alloc, fresh(alloc)?, 5000)
 }
 
-// Replays an input on a region in memory that is fresh.
-pub fn row(rt: &(impl Threads + AllocGlobal), input: &str) -> Result<(Report, Vec<u8>), Fail> {
+// How a replay on a region in memory ends that is fresh, and whether it reports just these refusals.
+pub fn row(
+    rt: &(impl Threads + AllocGlobal),
+    input: &str,
+    text: &str,
+    refusals: &[Refusal],
+) -> Result<(Ended, bool), Fail> {
     let mut region = steady(rt.alloc())?;
-    replay(rt, &mut region, input)
+    refuses(rt, &mut region, input, text, refusals)
 }
 
 // The words of a region that starts at word 0.
@@ -168,11 +226,9 @@ const REPLIES: [(&str, Status, &str); 12] = [
 
 #[test]
 fn replies(rt: HostRuntime) -> Result<(), Fail> {
-    let alloc = rt.alloc();
     for (input, status, text) in REPLIES {
-        let (report, written) = row(&rt, input)?;
-        assert_eq!(rt; report.status, status);
-        assert_eq!(rt; written.as_slice(), text.as_bytes());
+        let (ended, refused) = row(&rt, input, text, &[])?;
+        assert_eq!(rt; (ended.said(), refused), ((status, true), true), "{input}");
     }
     Ok(())
 }
@@ -259,12 +315,17 @@ pub fn with(alloc: Global, places: &[(usize, u8)]) -> Result<Vec<u8>, AllocError
     Ok(bytes)
 }
 
-// Replays the three lines on a region with these bytes.
-fn three_on(rt: &(impl Threads + AllocGlobal), bytes: Vec<u8>) -> Result<(Status, Vec<u8>), Fail> {
-    let alloc = rt.alloc();
-    let mut region = SteadyRegion::new(alloc, bytes, 5000)?;
-    let (report, written) = replay(rt, &mut region, THREE)?;
-    Ok((report.status, written))
+// How a replay of the three lines ends on a region with these bytes, and whether nothing is written.
+fn three_on(rt: &(impl Threads + AllocGlobal), bytes: Vec<u8>) -> Result<(Status, bool), Fail> {
+    let mut region = SteadyRegion::new(rt.alloc(), bytes, 5000)?;
+    Ok(ends(rt, &mut region, THREE, "")?.said())
+}
+
+// The bytes of the fresh region but the last one.
+fn short(alloc: Global) -> Result<Vec<u8>, AllocError> {
+    let mut bytes = fresh(alloc)?;
+    let _ = bytes.pop();
+    Ok(bytes)
 }
 
 // Key 1 version 1, as `a` in log chunk 0 and as `b` in log chunk 1.
@@ -322,31 +383,39 @@ const DAMAGED: [(&[(usize, u8)], Status); 4] = [
 #[test]
 fn damaged_regions(rt: HostRuntime) -> Result<(), Fail> {
     let alloc = rt.alloc();
-    let mut short = fresh(alloc)?;
-    let _ = short.pop();
-    let (said, written) = three_on(&rt, short)?;
-    assert_eq!(rt; said, Status::NotARegion { rule: 1 });
-    assert!(rt; written.is_empty());
+    assert_eq!(rt;
+        three_on(&rt, short(alloc)?)?,
+        (Status::NotARegion { rule: 1 }, true)
+    );
     for (others, status) in DAMAGED {
-        let (said, written) = three_on(&rt, with(alloc, others)?)?;
-        assert_eq!(rt; said, status);
-        assert!(rt; written.is_empty());
+        assert_eq!(rt; three_on(&rt, with(alloc, others)?)?, (status, true));
+    }
+    Ok(())
+}
+
+const BEHIND_EACH_OTHER: [(&str, &str); 3] = [
+    (THREE, "stored\nvalue abc\nabsent\n"),
+    ("get 5\nput 5 de\n", "value abc\nstored\n"),
+    ("get 5", "value de\n"),
+];
+
+// Replays inputs on a region, one behind the other, and sees that each is done and writes its text.
+pub fn all_done<R: SplitRegion + ReadRegion>(
+    rt: &(impl Threads + AllocGlobal + Abort),
+    region: &mut R,
+    rows: &[(&str, &str)],
+) -> Result<(), Fail> {
+    for (input, text) in rows {
+        let ended = ends(rt, region, input, text)?;
+        assert_eq!(*rt; ended.said(), (Status::Done, true), "{input}");
     }
     Ok(())
 }
 
 #[test]
 fn a_region_with_puts(rt: HostRuntime) -> Result<(), Fail> {
-    let alloc = rt.alloc();
-    let mut region = steady(alloc)?;
-    let (report, _) = replay(&rt, &mut region, THREE)?;
-    assert_eq!(rt; report.status, Status::Done);
-    let (report, written) = replay(&rt, &mut region, "get 5\nput 5 de\n")?;
-    assert_eq!(rt; report.status, Status::Done);
-    assert_eq!(rt; written.as_slice(), b"value abc\nstored\n".as_slice());
-    let (_, written) = replay(&rt, &mut region, "get 5")?;
-    assert_eq!(rt; written.as_slice(), b"value de\n".as_slice());
-    Ok(())
+    let mut region = steady(rt.alloc())?;
+    all_done(&rt, &mut region, &BEHIND_EACH_OTHER)
 }
 
 // The only entry is key 9 version 1,048,574 with the value `q`, in log chunk 0.
@@ -368,14 +437,15 @@ pub fn spent(alloc: Global) -> Result<Vec<u8>, AllocError> {
 fn versions_spent(rt: HostRuntime) -> Result<(), Fail> {
     let alloc = rt.alloc();
     let mut region = SteadyRegion::new(alloc, spent(alloc)?, 5000)?;
-    let (report, written) = replay(&rt, &mut region, "put 9 r\nget 9\n")?;
-    assert_eq!(rt; report.status, Status::Done);
-    assert_eq!(rt; written.as_slice(), b"versions spent\nvalue q\n".as_slice());
     let why = Shortage::Versions { last: 1_048_574 };
-    assert_eq!(rt;
-        report.refusals.as_slice(),
-        [Refusal { request: 0, why }].as_slice()
-    );
+    let (ended, refused) = refuses(
+        &rt,
+        &mut region,
+        "put 9 r\nget 9\n",
+        "versions spent\nvalue q\n",
+        &[Refusal { request: 0, why }],
+    )?;
+    assert_eq!(rt; (ended.said(), refused), ((Status::Done, true), true));
     Ok(())
 }
 
@@ -392,14 +462,16 @@ fn many(alloc: Global) -> Result<(String, String), Fail> {
     Ok((input, text))
 }
 
+fn many_on_a_fresh_region(
+    rt: &(impl Threads + AllocGlobal),
+    refusals: &[Refusal],
+) -> Result<(Ended, bool), Fail> {
+    let (input, text) = many(rt.alloc())?;
+    row(rt, input.as_str(), text.as_str(), refusals)
+}
+
 #[test]
 fn a_full_log(rt: HostRuntime) -> Result<(), Fail> {
-    let alloc = rt.alloc();
-    let (input, text) = many(alloc)?;
-    let (report, written) = row(&rt, input.as_str())?;
-    assert_eq!(rt; report.status, Status::Done);
-    assert_eq!(rt; written.as_slice(), text.as_bytes());
-    assert_eq!(rt; report.finishes.len(), 36);
     let why = Shortage::Room(Counts {
         free_chunks: 1,
         open_lines: 0,
@@ -408,10 +480,9 @@ fn a_full_log(rt: HostRuntime) -> Result<(), Fail> {
         class: 0,
         free_blocks: 0,
     });
-    assert_eq!(rt;
-        report.refusals.as_slice(),
-        [Refusal { request: 36, why }].as_slice()
-    );
+    let (ended, refused) = many_on_a_fresh_region(&rt, &[Refusal { request: 36, why }])?;
+    assert_eq!(rt; (ended.said(), refused), ((Status::Done, true), true));
+    assert_eq!(rt; ended.finishes, 36);
     Ok(())
 }
 
@@ -436,31 +507,38 @@ fn has_none_or(alloc: Global, region: &MemRegion, bytes: &[u8]) -> Result<bool, 
     Ok(true)
 }
 
+// How a replay ends whose fence with this number fails, where this text is wanted, and whether each image of the last
+// stamp has no value for key 1, or this one.
+fn fails_at(
+    rt: &(impl Threads + AllocGlobal),
+    number: u64,
+    input: &str,
+    text: &str,
+    bytes: &[u8],
+) -> Result<((Status, bool), bool), Fail> {
+    let mut region = failing(rt.alloc(), number)?;
+    let ended = ends(rt, &mut region, input, text)?;
+    Ok((ended.said(), has_none_or(rt.alloc(), &region, bytes)?))
+}
+
+const STOPPED: ((Status, bool), bool) = ((Status::RegionFault, true), true);
+
 #[test]
 fn failing_fences(rt: HostRuntime) -> Result<(), Fail> {
-    let alloc = rt.alloc();
     for number in 1..5 {
-        let mut region = failing(alloc, number)?;
-        let (report, written) = replay(&rt, &mut region, "put 1 a\nget 1\n")?;
-        assert_eq!(rt; report.status, Status::RegionFault);
-        assert_eq!(rt; written.as_slice(), b"stopped\nstopped\n".as_slice());
-        assert!(rt; has_none_or(alloc, &region, b"a")?);
+        let found = fails_at(&rt, number, "put 1 a\nget 1\n", "stopped\nstopped\n", b"a")?;
+        assert_eq!(rt; found, STOPPED, "at {number}");
     }
     Ok(())
 }
 
 #[test]
 fn failing_fences_of_a_block(rt: HostRuntime) -> Result<(), Fail> {
-    let alloc = rt.alloc();
-    let value = vec![in alloc; b'b'; 256]?;
-    let input = put(alloc, 1, b'b', 256)?;
+    let input = put(rt.alloc(), 1, b'b', 256)?;
     // the head of the block's chunk and the value, the head of the log's chunk, and the batch
     for number in 1..7 {
-        let mut region = failing(alloc, number)?;
-        let (report, written) = replay(&rt, &mut region, input.as_str())?;
-        assert_eq!(rt; report.status, Status::RegionFault);
-        assert_eq!(rt; written.as_slice(), b"stopped\n".as_slice());
-        assert!(rt; has_none_or(alloc, &region, value.as_slice())?);
+        let found = fails_at(&rt, number, input.as_str(), "stopped\n", &[b'b'; 256])?;
+        assert_eq!(rt; found, STOPPED, "at {number}");
     }
     Ok(())
 }
@@ -480,61 +558,97 @@ fn has_abc(alloc: Global, region: &SteadyRegion, stamp: u64, finished: bool) -> 
     Ok(true)
 }
 
-#[test]
-fn images_at_each_stamp(rt: HostRuntime) -> Result<(), Fail> {
-    let alloc = rt.alloc();
-    let mut region = steady(alloc)?;
-    let (report, _) = replay(&rt, &mut region, THREE)?;
-    let finish = match report.finishes.first() {
+// Whether they have it at each stamp, where the change is finished at this one.
+fn have_abc(alloc: Global, region: &SteadyRegion, finish: u64) -> Result<bool, Fail> {
+    for stamp in 0..region.stamp() {
+        if !has_abc(alloc, region, stamp, finish <= stamp)? {
+            return Ok(false);
+        }
+    }
+    has_abc(alloc, region, region.stamp(), true)
+}
+
+// The stamp by which the first change of the three lines is finished.
+fn finish_of_three(
+    rt: &(impl Threads + AllocGlobal),
+    region: &mut SteadyRegion,
+) -> Result<u64, Fail> {
+    let (report, _) = replay(rt, region, THREE)?;
+    Ok(match report.finishes.first() {
         Some(finish) => finish.stamp,
         None => u64::MAX,
-    };
-    assert!(rt; finish <= region.stamp());
-    for stamp in 0..region.stamp() {
-        assert!(rt; has_abc(alloc, &region, stamp, finish <= stamp)?);
-    }
-    assert!(rt; has_abc(alloc, &region, region.stamp(), true)?);
-    Ok(())
+    })
 }
 
 #[test]
-fn a_failing_source(rt: HostRuntime) -> Result<(), Fail> {
+fn images_at_each_stamp(rt: HostRuntime) -> Result<(), Fail> {
+    let mut region = steady(rt.alloc())?;
+    let finish = finish_of_three(&rt, &mut region)?;
+    assert!(rt; finish <= region.stamp());
+    assert!(rt; have_abc(rt.alloc(), &region, finish)?);
+    Ok(())
+}
+
+// What a call says whose source fails, whether it wrote nothing, and the region's stamp then.
+fn with_a_failing_source(rt: &(impl Threads + AllocGlobal)) -> Result<(Status, bool, u64), Fail> {
     let alloc = rt.alloc();
     // the second read would begin inside line 3
     let input = Vec::from_slice(alloc, THREE.as_bytes())?;
     let mut source = MemSource::new(input, 18, vec![in alloc; 2]?);
     let mut sink = SteadySink::new(alloc, 100, 10)?;
     let mut region = steady(alloc)?;
-    let report = call(&rt, &REPLAY, &mut source, &mut sink, &mut region)?;
-    assert_eq!(rt; report.status, Status::SourceFault);
-    assert_eq!(rt; sink.text(), Some(b"".as_slice()));
-    assert_eq!(rt; region.stamp(), 0);
-    Ok(())
+    let report = call(rt, &REPLAY, &mut source, &mut sink, &mut region)?;
+    let nothing = sink.text() == Some(b"".as_slice());
+    Ok((report.status, nothing, region.stamp()))
 }
 
 #[test]
-fn a_failing_sink(rt: HostRuntime) -> Result<(), Fail> {
+fn a_failing_source(rt: HostRuntime) -> Result<(), Fail> {
+    assert_eq!(rt; with_a_failing_source(&rt)?, (Status::SourceFault, true, 0));
+    Ok(())
+}
+
+// What a call says whose sink fails at its second call, and whether it wrote what the first one took.
+fn with_a_failing_sink(rt: &(impl Threads + AllocGlobal)) -> Result<(Status, bool), Fail> {
     let alloc = rt.alloc();
     let input = Vec::from_slice(alloc, b"put 5 abc\nget 5\n")?;
     let mut source = SteadySource::new(input, 100);
     let mut sink = MemSink::new(alloc, 100, 10, vec![in alloc; 2]?)?;
     let mut region = steady(alloc)?;
-    let report = call(&rt, &REPLAY, &mut source, &mut sink, &mut region)?;
-    assert_eq!(rt; report.status, Status::SinkFault);
-    assert_eq!(rt; sink.text(), Some(b"stored\nval".as_slice()));
+    let report = call(rt, &REPLAY, &mut source, &mut sink, &mut region)?;
+    Ok((
+        report.status,
+        sink.text() == Some(b"stored\nval".as_slice()),
+    ))
+}
+
+#[test]
+fn a_failing_sink(rt: HostRuntime) -> Result<(), Fail> {
+    assert_eq!(rt; with_a_failing_sink(&rt)?, (Status::SinkFault, true));
     Ok(())
 }
 
-// Replays an input on the region in a file.
-fn replay_file(
+// How a replay on the region in a file ends, where this text is wanted.
+fn file_ends(
     rt: &HostRuntime,
     threads: &(impl Threads + AllocGlobal),
     name: &str,
-    input: &str,
-) -> Result<(Report, Vec<u8>), Fail> {
+    text: &str,
+) -> Result<(Status, bool), Fail> {
     let alloc = rt.alloc();
     let mut region = FileRegion::at(rt.clone()?, String::from_str(alloc, name)?);
-    replay(threads, &mut region, input)
+    Ok(ends(threads, &mut region, THREE, text)?.said())
+}
+
+// Whether the region in a file has these words.
+fn file_has(rt: &HostRuntime, name: &str, words: &[(usize, u64)]) -> Result<bool, Fail> {
+    let found = words_of_file(rt, name)?;
+    for (place, word) in words {
+        if found.get(*place) != Some(word) {
+            return Ok(false);
+        }
+    }
+    Ok(true)
 }
 
 fn words_of_file(rt: &HostRuntime, name: &str) -> Result<Vec<u64>, Fail> {
@@ -544,29 +658,22 @@ fn words_of_file(rt: &HostRuntime, name: &str) -> Result<Vec<u64>, Fail> {
     Ok(words_of(alloc, &region)?)
 }
 
+const WORDS_OF_THREE: [(usize, u64); 5] = [
+    (512, 1),
+    (513, 8),
+    (544, 0x0300_0015),
+    (545, 5),
+    (546, 0x0063_6261),
+];
+
 #[test]
 fn a_region_in_a_file(rt: HostRuntime) -> Result<(), Fail> {
     let name = "flatstore_a_region_in_a_file";
     fs::write(&rt, name, fresh(rt.alloc())?.as_slice())?;
-    let (report, written) = replay_file(&rt, &rt, name, THREE)?;
-    assert_eq!(rt; report.status, Status::Done);
-    assert_eq!(rt;
-        written.as_slice(),
-        b"stored\nvalue abc\nabsent\n".as_slice()
-    );
-    let words = words_of_file(&rt, name)?;
-    for (place, word) in [
-        (512, 1),
-        (513, 8),
-        (544, 0x0300_0015),
-        (545, 5),
-        (546, 0x0063_6261),
-    ] {
-        assert_eq!(rt; words.get(place), Some(&word));
-    }
+    let said = file_ends(&rt, &rt, name, "stored\nvalue abc\nabsent\n")?;
+    assert_eq!(rt; said, (Status::Done, true));
+    assert!(rt; file_has(&rt, name, &WORDS_OF_THREE)?);
     fs::remove_file(&rt, name)?;
-    let (report, written) = replay_file(&rt, &rt, name, THREE)?;
-    assert_eq!(rt; report.status, Status::RegionFault);
-    assert!(rt; written.is_empty());
+    assert_eq!(rt; file_ends(&rt, &rt, name, "")?, (Status::RegionFault, true));
     Ok(())
 }

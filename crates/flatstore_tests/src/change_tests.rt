@@ -1,6 +1,7 @@
 // The worked rows of deletes and of values in blocks, on the top call.
-use crate::call_tests::{replay, row, spent, with};
+use crate::call_tests::{all_done, refuses, row, spent, with};
 use core_room::{Counts, Shortage};
+use flatstore_commands::Status;
 use group_engine::run_report::Refusal;
 use pm_region::SteadyRegion;
 use std::alloc::Global;
@@ -10,19 +11,18 @@ use std::test::Fail;
 fn a_delete_of_the_last_version(rt: HostRuntime) -> Result<(), Fail> {
     let alloc = rt.alloc();
     let mut region = SteadyRegion::new(alloc, spent(alloc)?, 5000)?;
-    let (report, written) = replay(&rt, &mut region, "put 9 r\ndelete 9\nget 9\nput 9 z\n")?;
-    assert_eq!(rt;
-        written.as_slice(),
-        b"versions spent\ndeleted\nabsent\nversions spent\n".as_slice()
-    );
     let refusal = |request, last| Refusal {
         request,
         why: Shortage::Versions { last },
     };
-    assert_eq!(rt;
-        report.refusals.as_slice(),
-        [refusal(0, 1_048_574), refusal(3, 1_048_575)].as_slice()
-    );
+    let (ended, refused) = refuses(
+        &rt,
+        &mut region,
+        "put 9 r\ndelete 9\nget 9\nput 9 z\n",
+        "versions spent\ndeleted\nabsent\nversions spent\n",
+        &[refusal(0, 1_048_574), refusal(3, 1_048_575)],
+    )?;
+    assert_eq!(rt; (ended.said(), refused), ((Status::Done, true), true));
     Ok(())
 }
 
@@ -48,10 +48,6 @@ fn seven(alloc: Global) -> Result<String, Fail> {
 
 #[test]
 fn no_free_block(rt: HostRuntime) -> Result<(), Fail> {
-    let alloc = rt.alloc();
-    let (report, written) = row(&rt, seven(alloc)?.as_str())?;
-    let text = b"stored\nstored\nstored\nstored\nstored\nstored\nfull\nfull\nstored\nstored\n";
-    assert_eq!(rt; written.as_slice(), text.as_slice());
     let refusal = |request| Refusal {
         request,
         why: Shortage::Block(Counts {
@@ -63,42 +59,51 @@ fn no_free_block(rt: HostRuntime) -> Result<(), Fail> {
             free_blocks: 0,
         }),
     };
-    assert_eq!(rt;
-        report.refusals.as_slice(),
-        [refusal(6), refusal(7)].as_slice()
-    );
+    let (ended, refused) = row(
+        &rt,
+        seven(rt.alloc())?.as_str(),
+        "stored\nstored\nstored\nstored\nstored\nstored\nfull\nfull\nstored\nstored\n",
+        &[refusal(6), refusal(7)],
+    )?;
+    assert_eq!(rt; (ended.said(), refused), ((Status::Done, true), true));
     Ok(())
 }
 
 #[test]
 fn the_longest_value(rt: HostRuntime) -> Result<(), Fail> {
     let alloc = rt.alloc();
-    let (_, written) = row(&rt, put(alloc, 1, b'v', 1016)?.as_str())?;
-    assert_eq!(rt; written.as_slice(), b"stored\n".as_slice());
-    let (report, written) = row(&rt, put(alloc, 1, b'v', 1017)?.as_str())?;
-    assert_eq!(rt; written.as_slice(), b"too long\n".as_slice());
+    let (ended, refused) = row(&rt, put(alloc, 1, b'v', 1016)?.as_str(), "stored\n", &[])?;
+    assert_eq!(rt; (ended.said(), refused), ((Status::Done, true), true));
     let why = Shortage::Length { length: 1017 };
-    assert_eq!(rt;
-        report.refusals.as_slice(),
-        [Refusal { request: 0, why }].as_slice()
-    );
+    let (ended, refused) = row(
+        &rt,
+        put(alloc, 1, b'v', 1017)?.as_str(),
+        "too long\n",
+        &[Refusal { request: 0, why }],
+    )?;
+    assert_eq!(rt; (ended.said(), refused), ((Status::Done, true), true));
     Ok(())
+}
+
+// Two values of 256 bytes for key 1, and the reply to a get of the second one.
+fn two_blocks(alloc: Global) -> Result<(String, String), Fail> {
+    let mut input = put(alloc, 1, b'b', 256)?;
+    input.push_str(put(alloc, 1, b'c', 256)?.as_str())?;
+    let value = String::from_utf8(vec![in alloc; b'c'; 256]?)?;
+    let text = format!(in alloc; "value {value}\n")?;
+    Ok((input, text))
 }
 
 #[test]
 fn a_block_of_an_earlier_run(rt: HostRuntime) -> Result<(), Fail> {
     let alloc = rt.alloc();
+    let (input, text) = two_blocks(alloc)?;
     let mut region = SteadyRegion::new(alloc, with(alloc, &[])?, 5000)?;
-    let mut input = put(alloc, 1, b'b', 256)?;
-    input.push_str(put(alloc, 1, b'c', 256)?.as_str())?;
-    let (_, written) = replay(&rt, &mut region, input.as_str())?;
-    assert_eq!(rt; written.as_slice(), b"stored\nstored\n".as_slice());
-    let (_, written) = replay(&rt, &mut region, "get 1\n")?;
-    let mut text = Vec::from_slice(alloc, b"value ")?;
-    text.resize(262, b'c')?;
-    text.push(b'\n')?;
-    assert_eq!(rt; written.as_slice(), text.as_slice());
-    Ok(())
+    let rows = [
+        (input.as_str(), "stored\nstored\n"),
+        ("get 1\n", text.as_str()),
+    ];
+    all_done(&rt, &mut region, &rows)
 }
 
 // Puts of 1,000 bytes to keys 1 to 7, turns, a delete of key 1, turns, and a put of 1,000 bytes to key 8.
@@ -114,10 +119,6 @@ fn given_back(alloc: Global) -> Result<String, Fail> {
 
 #[test]
 fn a_block_that_is_given_back(rt: HostRuntime) -> Result<(), Fail> {
-    let alloc = rt.alloc();
-    let (report, written) = row(&rt, given_back(alloc)?.as_str())?;
-    let text = b"stored\nstored\nstored\nstored\nstored\nstored\nfull\ndeleted\nstored\n";
-    assert_eq!(rt; written.as_slice(), text.as_slice());
     let why = Shortage::Block(Counts {
         free_chunks: 2,
         open_lines: 0,
@@ -126,9 +127,12 @@ fn a_block_that_is_given_back(rt: HostRuntime) -> Result<(), Fail> {
         class: 2,
         free_blocks: 0,
     });
-    assert_eq!(rt;
-        report.refusals.as_slice(),
-        [Refusal { request: 6, why }].as_slice()
-    );
+    let (ended, refused) = row(
+        &rt,
+        given_back(rt.alloc())?.as_str(),
+        "stored\nstored\nstored\nstored\nstored\nstored\nfull\ndeleted\nstored\n",
+        &[Refusal { request: 6, why }],
+    )?;
+    assert_eq!(rt; (ended.said(), refused), ((Status::Done, true), true));
     Ok(())
 }

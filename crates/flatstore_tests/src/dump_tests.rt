@@ -1,5 +1,5 @@
 // The worked rows of a dump, on the top call.
-use crate::call_tests::{call, replay, with};
+use crate::call_tests::{Ended, call, ends, with};
 use flatstore_commands::{Report, Status};
 use fs_text::{MemSink, Sink, SteadySink, SteadySource};
 use pm_region::{ReadRegion, Region, SplitRegion, SteadyRegion};
@@ -23,17 +23,31 @@ fn dump<O: Sink, R: SplitRegion + ReadRegion>(
     Ok(call(rt, &DUMP, &mut source, sink, region)?)
 }
 
+// How a dump ends into a sink that takes seven bytes a call, where this text is wanted.
+fn dump_ends<R: SplitRegion + ReadRegion>(
+    rt: &(impl Threads + AllocGlobal),
+    region: &mut R,
+    text: &str,
+) -> Result<Ended, Fail> {
+    let mut sink = SteadySink::new(rt.alloc(), 1000, 7)?;
+    let report = dump(rt, &mut sink, region)?;
+    Ok(Ended::of(&report, sink.text().unwrap_or(b"not kept"), text.as_bytes()))
+}
+
 #[test]
 fn live_pairs(rt: HostRuntime) -> Result<(), Fail> {
-    let alloc = rt.alloc();
-    let mut region = region(alloc, &[])?;
+    let mut region = region(rt.alloc(), &[])?;
     let input = "put 50 abc\nput 5 a\nput 5 de\nput 9 \nput 7 x\ndelete 7\n";
-    let (report, _) = replay(&rt, &mut region, input)?;
-    assert_eq!(rt; report.status, Status::Done);
-    let mut sink = SteadySink::new(alloc, 1000, 7)?;
-    let report = dump(&rt, &mut sink, &mut region)?;
-    assert_eq!(rt; (report.status, report.attached), (Status::Done, true));
-    assert_eq!(rt; sink.text(), Some(b"5 de\n9 \n50 abc\n".as_slice()));
+    let text = "stored\nstored\nstored\nstored\nstored\ndeleted\n";
+    assert_eq!(rt;
+        ends(&rt, &mut region, input, text)?.said(),
+        (Status::Done, true)
+    );
+    let ended = dump_ends(&rt, &mut region, "5 de\n9 \n50 abc\n")?;
+    assert_eq!(rt;
+        (ended.said(), ended.attached),
+        ((Status::Done, true), true)
+    );
     assert_eq!(rt; region.stamp(), 0);
     Ok(())
 }
@@ -61,27 +75,41 @@ const REGIONS: [(&[(usize, u8)], Status); 5] = [
     ),
 ];
 
+// How a dump of a region with these bytes ends that is to write nothing.
+fn region_ends(rt: &(impl Threads + AllocGlobal), others: &[(usize, u8)]) -> Result<Ended, Fail> {
+    let mut region = region(rt.alloc(), others)?;
+    dump_ends(rt, &mut region, "")
+}
+
 #[test]
 fn regions(rt: HostRuntime) -> Result<(), Fail> {
-    let alloc = rt.alloc();
     for (others, status) in REGIONS {
-        let mut region = region(alloc, others)?;
-        let mut sink = SteadySink::new(alloc, 1000, 100)?;
-        assert_eq!(rt; dump(&rt, &mut sink, &mut region)?.status, status);
-        assert_eq!(rt; sink.text(), Some(b"".as_slice()));
+        assert_eq!(rt; region_ends(&rt, others)?.said(), (status, true));
     }
     Ok(())
 }
 
+// How a dump ends whose sink takes three bytes a call and fails at the second one, where these bytes are wanted.
+fn with_a_failing_sink(
+    rt: &(impl Threads + AllocGlobal),
+    region: &mut SteadyRegion,
+    text: &str,
+) -> Result<Ended, Fail> {
+    let alloc = rt.alloc();
+    let mut sink = MemSink::new(alloc, 100, 3, vec![in alloc; 2]?)?;
+    let report = dump(rt, &mut sink, region)?;
+    Ok(Ended::of(&report, sink.text().unwrap_or(b"not kept"), text.as_bytes()))
+}
+
 #[test]
 fn a_failing_sink(rt: HostRuntime) -> Result<(), Fail> {
-    let alloc = rt.alloc();
-    let mut region = region(alloc, &[])?;
-    let (report, _) = replay(&rt, &mut region, "put 5 abc\n")?;
-    assert_eq!(rt; report.status, Status::Done);
-    let mut sink = MemSink::new(alloc, 100, 3, vec![in alloc; 2]?)?;
-    let report = dump(&rt, &mut sink, &mut region)?;
-    assert_eq!(rt; (report.status, report.complete), (Status::SinkFault, true));
-    assert_eq!(rt; sink.text(), Some(b"5 a".as_slice()));
+    let mut region = region(rt.alloc(), &[])?;
+    let replayed = ends(&rt, &mut region, "put 5 abc\n", "stored\n")?;
+    assert_eq!(rt; replayed.said(), (Status::Done, true));
+    let ended = with_a_failing_sink(&rt, &mut region, "5 a")?;
+    assert_eq!(rt;
+        (ended.said(), ended.complete),
+        ((Status::SinkFault, true), true)
+    );
     Ok(())
 }

@@ -1,6 +1,6 @@
 // The worked rows of making a region, on the top call.
 use crate::call_tests::{PICKS, words_of};
-use flatstore_commands::{Report, Status, flatstore_alone, region_path};
+use flatstore_commands::{Status, flatstore_alone, region_path};
 use fs_text::{SteadySink, SteadySource};
 use image_yardstick::first_fault;
 use pm_region::{Faults, FenceNumber, MemRegion, ReadRegion, Region, SplitRegion, SteadyRegion};
@@ -21,17 +21,18 @@ fn words(alloc: Global, line: &str) -> Result<Vec<String>, AllocError> {
     Ok(words)
 }
 
-// A call of the program, with no input.
+// A call of the program, with no input: what it says, and whether it attached or created the region.
 fn call<R: SplitRegion + ReadRegion>(
     rt: &(impl Threads + AllocGlobal),
     line: &str,
     region: &mut R,
-) -> Result<Report, Fail> {
+) -> Result<(Status, bool), Fail> {
     let alloc = rt.alloc();
     let mut source = SteadySource::new(Vec::new(alloc), 1);
     let mut sink = SteadySink::new(alloc, 10, 10)?;
     let words = words(alloc, line)?;
-    Ok(flatstore_alone(rt, alloc, &words, &mut source, &mut sink, region))
+    let report = flatstore_alone(rt, alloc, &words, &mut source, &mut sink, region);
+    Ok((report.status, report.attached))
 }
 
 const FORMAT: &str = "format r --cores 2 --group 2 --chunks 4 --chunk-bytes 4096";
@@ -46,19 +47,25 @@ fn fault<R: SplitRegion>(alloc: Global, region: &mut R) -> Result<Option<Fault>,
     Ok(first_fault(alloc, &words, BYTES as u64)?)
 }
 
+const SUPER_WORDS: [u64; 6] = [0x3130_5453_5441_4c46, 1, 2, 2, 4, 4096];
+
+// Whether a region has just the words of the superblock.
+fn is_empty<R: Region>(alloc: Global, region: &R) -> Result<bool, Fail> {
+    let words = words_of(alloc, region)?;
+    for (place, word) in words.iter().enumerate() {
+        if Some(word) != SUPER_WORDS.get(place).or(Some(&0)) {
+            return Ok(false);
+        }
+    }
+    Ok(words.len() * 8 == BYTES)
+}
+
 #[test]
 fn a_new_region(rt: HostRuntime) -> Result<(), Fail> {
     let alloc = rt.alloc();
     let mut region = SteadyRegion::new(alloc, vec![in alloc; 7u8; 100]?, 50)?;
-    let report = call(&rt, FORMAT, &mut region)?;
-    assert_eq!(rt; report.status, Status::Done);
-    assert!(rt; report.attached);
-    let words = words_of(alloc, &region)?;
-    let super_words = [0x3130_5453_5441_4c46, 1, 2, 2, 4, 4096];
-    assert_eq!(rt; words.len() * 8, BYTES);
-    for (place, word) in words.iter().enumerate() {
-        assert_eq!(rt; Some(word), super_words.get(place).or(Some(&0)));
-    }
+    assert_eq!(rt; call(&rt, FORMAT, &mut region)?, (Status::Done, true));
+    assert!(rt; is_empty(alloc, &region)?);
     assert_eq!(rt; fault(alloc, &mut region)?, None);
     Ok(())
 }
@@ -68,8 +75,7 @@ fn a_full_size(rt: HostRuntime) -> Result<(), Fail> {
     let alloc = rt.alloc();
     let line = "format r --cores 4 --group 4 --chunks 16 --chunk-bytes 1048576";
     let mut region = SteadyRegion::new(alloc, Vec::new(alloc), 50)?;
-    let report = call(&rt, line, &mut region)?;
-    assert_eq!(rt; report.status, Status::Done);
+    assert_eq!(rt; call(&rt, line, &mut region)?, (Status::Done, true));
     assert_eq!(rt; region.bytes(), 67_112_960);
     Ok(())
 }
@@ -86,22 +92,34 @@ fn is_refused_or_sound(alloc: Global, region: &MemRegion, stamp: u64) -> Result<
     Ok(true)
 }
 
+// Whether it is so at each stamp.
+fn are_refused_or_sound(alloc: Global, region: &MemRegion) -> Result<bool, Fail> {
+    for stamp in 0..region.stamp() {
+        if !is_refused_or_sound(alloc, region, stamp)? {
+            return Ok(false);
+        }
+    }
+    is_refused_or_sound(alloc, region, region.stamp())
+}
+
+// A region whose fence with this number fails.
+fn failing(alloc: Global, number: u64) -> Result<MemRegion, Fail> {
+    let plan = Faults {
+        opens: Vec::new(alloc),
+        fences: vec![in alloc; FenceNumber { piece: 0, number }]?,
+    };
+    Ok(MemRegion::new(alloc, Vec::new(alloc), 50, plan)?)
+}
+
 #[test]
 fn failing_fences(rt: HostRuntime) -> Result<(), Fail> {
-    let alloc = rt.alloc();
     for number in 1..3 {
-        let plan = Faults {
-            opens: Vec::new(alloc),
-            fences: vec![in alloc; FenceNumber { piece: 0, number }]?,
-        };
-        let mut region = MemRegion::new(alloc, Vec::new(alloc), 50, plan)?;
-        let report = call(&rt, FORMAT, &mut region)?;
-        assert_eq!(rt; report.status, Status::RegionFault);
-        assert!(rt; report.attached);
-        for stamp in 0..region.stamp() {
-            assert!(rt; is_refused_or_sound(alloc, &region, stamp)?);
-        }
-        assert!(rt; is_refused_or_sound(alloc, &region, region.stamp())?);
+        let mut region = failing(rt.alloc(), number)?;
+        assert_eq!(rt;
+            call(&rt, FORMAT, &mut region)?,
+            (Status::RegionFault, true)
+        );
+        assert!(rt; are_refused_or_sound(rt.alloc(), &region)?);
     }
     Ok(())
 }
@@ -114,9 +132,10 @@ fn a_failing_create(rt: HostRuntime) -> Result<(), Fail> {
         fences: Vec::new(alloc),
     };
     let mut region = MemRegion::new(alloc, Vec::new(alloc), 50, plan)?;
-    let report = call(&rt, FORMAT, &mut region)?;
-    assert_eq!(rt; report.status, Status::RegionFault);
-    assert!(rt; !report.attached);
+    assert_eq!(rt;
+        call(&rt, FORMAT, &mut region)?,
+        (Status::RegionFault, false)
+    );
     Ok(())
 }
 
@@ -161,17 +180,26 @@ const FORMS: [(&str, Option<&str>); 17] = [
     ),
 ];
 
+// Whether the region's name is found in these words, or none.
+fn has_path(alloc: Global, line: &str, path: Option<&str>) -> Result<bool, Fail> {
+    let found = region_path(alloc, &words(alloc, line)?)?;
+    Ok(found.as_ref().map(|found| found.as_str()) == path)
+}
+
+// What a call with these words says, and the size of the region that it was given, and the words that this has then.
+fn said(rt: &(impl Threads + AllocGlobal), line: &str) -> Result<(Status, u64, u64), Fail> {
+    let alloc = rt.alloc();
+    let mut region = SteadyRegion::new(alloc, vec![in alloc; 7u8; 80]?, 50)?;
+    let (status, _) = call(rt, line, &mut region)?;
+    Ok((status, region.bytes(), region.words()))
+}
+
 #[test]
 fn forms(rt: HostRuntime) -> Result<(), Fail> {
-    let alloc = rt.alloc();
     for (line, path) in FORMS {
-        let found = region_path(alloc, &words(alloc, line)?)?;
-        assert_eq!(rt; found.as_ref().map(|found| found.as_str()), path);
+        assert!(rt; has_path(rt.alloc(), line, path)?, "{line}");
         if path.is_none() {
-            let mut region = SteadyRegion::new(alloc, vec![in alloc; 7u8; 80]?, 50)?;
-            let report = call(&rt, line, &mut region)?;
-            assert_eq!(rt; report.status, Status::Usage);
-            assert_eq!(rt; (region.bytes(), region.words()), (80, 0));
+            assert_eq!(rt; said(&rt, line)?, (Status::Usage, 80, 0), "{line}");
         }
     }
     Ok(())

@@ -68,18 +68,22 @@ fn region(alloc: Global, at: u64, word: u64) -> Result<SteadyRegion, Fail> {
     Ok(region)
 }
 
+// Whether recovery finds the fault that the yardstick finds.
+fn agrees(alloc: Global, at: u64, word: u64) -> Result<bool, Fail> {
+    let region = region(alloc, at, word)?;
+    let words = words_of(alloc, &region)?;
+    if region.first() != 0 || region.words() != 2560 || words.len() != 2560 {
+        return Ok(false);
+    }
+    let found = recover::first_fault(alloc, &region, 20480)?;
+    Ok(found == first_fault(alloc, &words, 20480)?)
+}
+
 #[test]
 fn one_other_word(rt: HostRuntime) -> Result<(), Fail> {
-    let alloc = rt.alloc();
     for at in PLACES {
         for word in WORDS {
-            let region = region(alloc, at, word)?;
-            let words = words_of(alloc, &region)?;
-            assert_eq!(rt; words.len(), 2560);
-            if region.first() == 0 && region.words() == 2560 && words.len() == 2560 {
-                let found = recover::first_fault(alloc, &region, 20480)?;
-                assert!(rt; found == first_fault(alloc, &words, 20480)?);
-            }
+            assert!(rt; agrees(rt.alloc(), at, word)?, "{word} at {at}");
         }
     }
     Ok(())

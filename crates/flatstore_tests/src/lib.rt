@@ -15,6 +15,8 @@ mod format_tests;
 #[cfg(test)]
 mod judging_tests;
 #[cfg(test)]
+mod load_tests;
+#[cfg(test)]
 mod log_tests;
 #[cfg(test)]
 mod meeting_tests;

@@ -1,5 +1,5 @@
 // The worked rows of a log, on the top call.
-use crate::call_tests::{call, with};
+use crate::call_tests::{Ended, call, with};
 use flatstore_commands::{Report, Status};
 use fs_text::{MemSink, Sink, SteadySink, SteadySource};
 use pm_region::{Region, SteadyRegion};
@@ -106,17 +106,40 @@ const ENTRIES: [(&[(usize, u8)], usize, usize, &str); 4] = [
     ),
 ];
 
+// How a log ends into a sink that takes seven bytes a call, where this text is wanted, and the region's stamp then.
+fn log_ends(
+    rt: &(impl Threads + AllocGlobal),
+    bytes: Vec<u8>,
+    text: &str,
+) -> Result<(Ended, u64), Fail> {
+    let mut region = SteadyRegion::new(rt.alloc(), bytes, 10)?;
+    let mut sink = SteadySink::new(rt.alloc(), 1000, 7)?;
+    let report = log(rt, &mut sink, &mut region)?;
+    let ended = Ended::of(&report, sink.text().unwrap_or(b"not kept"), text.as_bytes());
+    Ok((ended, region.stamp()))
+}
+
+// The bytes of a region with these, and a value of so many bytes `a` from a place on.
+fn region_with(
+    alloc: Global,
+    others: &[(usize, u8)],
+    value: usize,
+    length: usize,
+) -> Result<Vec<u8>, AllocError> {
+    let bytes = bytes_with(alloc, others, value, length)?;
+    with(alloc, &bytes)
+}
+
 #[test]
 fn entries(rt: HostRuntime) -> Result<(), Fail> {
-    let alloc = rt.alloc();
     for (others, value, length, text) in ENTRIES {
-        let bytes = bytes_with(alloc, others, value, length)?;
-        let mut region = SteadyRegion::new(alloc, with(alloc, &bytes)?, 10)?;
-        let mut sink = SteadySink::new(alloc, 1000, 7)?;
-        let report = log(&rt, &mut sink, &mut region)?;
-        assert_eq!(rt; (report.status, report.attached), (Status::Done, true));
-        assert_eq!(rt; sink.text(), Some(text.as_bytes()));
-        assert_eq!(rt; region.stamp(), 0);
+        let bytes = region_with(rt.alloc(), others, value, length)?;
+        let (ended, stamp) = log_ends(&rt, bytes, text)?;
+        assert_eq!(rt;
+            (ended.said(), ended.attached),
+            ((Status::Done, true), true)
+        );
+        assert_eq!(rt; stamp, 0);
     }
     Ok(())
 }
@@ -133,19 +156,25 @@ const REFUSED: [(&[(usize, u8)], Status); 2] = [
     ),
 ];
 
-#[test]
-fn regions_and_sinks(rt: HostRuntime) -> Result<(), Fail> {
+// How the log with the greatest version ends, where the sink takes six bytes a call and fails at the second one.
+fn with_a_failing_sink(rt: &(impl Threads + AllocGlobal), text: &str) -> Result<Ended, Fail> {
     let alloc = rt.alloc();
-    for (others, status) in REFUSED {
-        let mut region = SteadyRegion::new(alloc, with(alloc, others)?, 10)?;
-        let mut sink = SteadySink::new(alloc, 1000, 100)?;
-        assert_eq!(rt; log(&rt, &mut sink, &mut region)?.status, status);
-        assert_eq!(rt; sink.text(), Some(b"".as_slice()));
-    }
     let mut region = SteadyRegion::new(alloc, with(alloc, &GREATEST)?, 10)?;
     let mut sink = MemSink::new(alloc, 100, 6, vec![in alloc; 2]?)?;
-    let report = log(&rt, &mut sink, &mut region)?;
-    assert_eq!(rt; (report.status, report.complete), (Status::SinkFault, true));
-    assert_eq!(rt; sink.text(), Some(b"core 0".as_slice()));
+    let report = log(rt, &mut sink, &mut region)?;
+    Ok(Ended::of(&report, sink.text().unwrap_or(b"not kept"), text.as_bytes()))
+}
+
+#[test]
+fn regions_and_sinks(rt: HostRuntime) -> Result<(), Fail> {
+    for (others, status) in REFUSED {
+        let (ended, _) = log_ends(&rt, with(rt.alloc(), others)?, "")?;
+        assert_eq!(rt; ended.said(), (status, true));
+    }
+    let ended = with_a_failing_sink(&rt, "core 0")?;
+    assert_eq!(rt;
+        (ended.said(), ended.complete),
+        ((Status::SinkFault, true), true)
+    );
     Ok(())
 }

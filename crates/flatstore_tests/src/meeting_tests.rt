@@ -1,17 +1,17 @@
 // Runs on threads whose gate lets the cores meet, and what a crash leaves of a run at its end.
 ghost use Rattle.std.specs.Prelude.{false, true};
 
-use crate::call_tests::{PICKS, cell, words_of};
+use crate::call_tests::{Ended, PICKS, cell, words_of};
 use crate::row_tests::fresh_of;
-use crate::thread_tests::threads;
+use crate::thread_tests::{RUN, threads_end};
 use core_worker::{Gate, OpenGate, Point};
 use flatstore_commands::Status;
-use pm_region::{Faults, FenceNumber, MemRegion, Region, SplitRegion, SteadyRegion};
-use std::alloc::Global;
+use pm_region::{Faults, FenceNumber, MemRegion, ReadRegion, Region, SplitRegion, SteadyRegion};
+use std::alloc::{AllocGlobal, Global};
+use std::sync::Wait;
 use std::sync::atomic::{AtomicBool, AtomicU64, Ordering};
 use std::test::Fail;
-
-const RUN: [&str; 3] = ["flatstore", "run", "region"];
+use std::thread::Threads;
 
 const LOADS: u64 = 200_000_000;
 
@@ -74,53 +74,77 @@ impl Gate for Gathering {
     }
 }
 
+// How a run of these puts on so many cores ends whose gate makes them meet.
+fn met(
+    rt: &(impl Threads + Wait + Sync + AllocGlobal),
+    region: &mut (impl SplitRegion + ReadRegion),
+    text: &str,
+    gate: &Gathering,
+) -> Result<Ended, Fail> {
+    let input = "put 0 a\nput 1 b\nput 2 c\nput 3 d\n";
+    threads_end(rt, &RUN, region, input, text, gate)
+}
+
 // Each core waits with its first post for the other three.
 #[test]
 fn four_cores_meet(rt: HostRuntime) -> Result<(), Fail> {
-    let alloc = rt.alloc();
-    let mut region = SteadyRegion::new(alloc, fresh_of(alloc, 4, 4)?, 5000)?;
     let gate = Gathering::new(4, 1);
-    let input = "put 0 a\nput 1 b\nput 2 c\nput 3 d\n";
-    let (report, written) = threads(&rt, &RUN, &mut region, input, &gate)?;
-    assert_eq!(rt; report.status, Status::Done);
-    assert_eq!(rt;
-        written.as_slice(),
-        b"stored\nstored\nstored\nstored\n".as_slice()
-    );
+    let mut region = SteadyRegion::new(rt.alloc(), fresh_of(rt.alloc(), 4, 4)?, 5000)?;
+    let ended = met(&rt, &mut region, "stored\nstored\nstored\nstored\n", &gate)?;
+    assert_eq!(rt; ended.said(), (Status::Done, true));
     assert!(rt; !gate.missed.load(Ordering::SeqCst));
     Ok(())
 }
 
-// Whether the words have this value of the key.
-fn has(alloc: Global, words: &[u64], key: u64, text: &[u8]) -> Result<bool, Fail> {
-    Ok(match cell(alloc, words, key)? {
-        Some(value) => value.bytes() == text,
-        None => false,
+// Whether the words have this value of the key, or none where it is none.
+fn has(alloc: Global, words: &[u64], key: u64, text: Option<&[u8]>) -> Result<bool, Fail> {
+    Ok(match (cell(alloc, words, key)?, text) {
+        (Some(value), Some(text)) => value.bytes() == text,
+        (None, None) => true,
+        _ => false,
     })
 }
+
+// Whether the words have all of these.
+fn has_all(alloc: Global, words: &[u64], cells: &[(u64, Option<&[u8]>)]) -> Result<bool, Fail> {
+    for (key, text) in cells {
+        if !has(alloc, words, *key, *text)? {
+            return Ok(false);
+        }
+    }
+    Ok(true)
+}
+
+// Whether each image that a crash leaves of a region that is yet to be attached has them.
+fn image_has_all<R: SplitRegion>(
+    alloc: Global,
+    image: &mut R,
+    cells: &[(u64, Option<&[u8]>)],
+) -> Result<bool, Fail> {
+    image.attach(alloc)?;
+    let words = words_of(alloc, image)?;
+    has_all(alloc, &words, cells)
+}
+
+const AT_EXIT: [(u64, Option<&[u8]>); 3] = [(0, Some(b"c")), (1, None), (3, Some(b"d"))];
 
 #[test]
 fn images_at_exit(rt: HostRuntime) -> Result<(), Fail> {
     let alloc = rt.alloc();
     let mut region = SteadyRegion::new(alloc, fresh_of(alloc, 2, 2)?, 5000)?;
     let input = "put 0 a\nput 1 b\nput 0 c\ndelete 1\nput 3 d\n";
-    let (report, _) = threads(&rt, &RUN, &mut region, input, &OpenGate)?;
-    assert_eq!(rt; report.status, Status::Done);
+    let text = "stored\nstored\nstored\ndeleted\nstored\n";
+    let ended = threads_end(&rt, &RUN, &mut region, input, text, &OpenGate)?;
+    assert_eq!(rt; ended.said(), (Status::Done, true));
     for pick in PICKS {
         let mut image = region.image_at(alloc, region.stamp(), pick)?;
-        image.attach(alloc)?;
-        let words = words_of(alloc, &image)?;
-        assert!(rt; has(alloc, &words, 0, b"c")?);
-        assert!(rt; cell(alloc, &words, 1)?.is_none());
-        assert!(rt; has(alloc, &words, 3, b"d")?);
+        assert!(rt; image_has_all(alloc, &mut image, &AT_EXIT)?);
     }
     Ok(())
 }
 
-// Both cores have posted when they meet, so the first batch is of both; it fails, whoever makes it.
-#[test]
-fn batch_of_two_cores_fails(rt: HostRuntime) -> Result<(), Fail> {
-    let alloc = rt.alloc();
+// A region of two cores, of whose pieces each first fence fails.
+fn failing_batch(alloc: Global) -> Result<MemRegion, Fail> {
     let plan = Faults {
         opens: Vec::new(alloc),
         fences: vec![in alloc;
@@ -134,24 +158,36 @@ fn batch_of_two_cores_fails(rt: HostRuntime) -> Result<(), Fail> {
             },
         ]?,
     };
-    let mut region = MemRegion::new(alloc, fresh_of(alloc, 2, 2)?, 5000, plan)?;
-    let gate = Gathering::new(2, 2);
-    let input = "put 0 a\nput 1 b\nput 2 c\nput 3 d\n";
-    let (report, written) = threads(&rt, &RUN, &mut region, input, &gate)?;
-    assert_eq!(rt; report.status, Status::RegionFault);
-    assert_eq!(rt; (report.complete, report.finishes.len()), (true, 0));
-    assert_eq!(rt;
-        written.as_slice(),
-        b"stopped\nstopped\nstopped\nstopped\n".as_slice()
-    );
-    assert!(rt; !gate.missed.load(Ordering::SeqCst));
+    Ok(MemRegion::new(alloc, fresh_of(alloc, 2, 2)?, 5000, plan)?)
+}
+
+const NONE: [(u64, Option<&[u8]>); 4] = [(0, None), (1, None), (2, None), (3, None)];
+
+// Whether no image of the last stamp has a value.
+fn has_none(alloc: Global, region: &MemRegion) -> Result<bool, Fail> {
     for pick in PICKS {
         let mut image = region.image_at(alloc, region.stamp(), pick)?;
-        image.attach(alloc)?;
-        let words = words_of(alloc, &image)?;
-        for key in 0..4 {
-            assert!(rt; cell(alloc, &words, key)?.is_none());
+        if !image_has_all(alloc, &mut image, &NONE)? {
+            return Ok(false);
         }
     }
+    Ok(true)
+}
+
+// Both cores have posted when they meet, so the first batch is of both; it fails, whoever makes it.
+#[test]
+fn batch_of_two_cores_fails(rt: HostRuntime) -> Result<(), Fail> {
+    let gate = Gathering::new(2, 2);
+    let mut region = failing_batch(rt.alloc())?;
+    let ended = met(
+        &rt,
+        &mut region,
+        "stopped\nstopped\nstopped\nstopped\n",
+        &gate,
+    )?;
+    assert_eq!(rt; ended.said(), (Status::RegionFault, true));
+    assert_eq!(rt; (ended.complete, ended.finishes), (true, 0));
+    assert!(rt; !gate.missed.load(Ordering::SeqCst));
+    assert!(rt; has_none(rt.alloc(), &region)?);
     Ok(())
 }

@@ -1,5 +1,5 @@
 // The worked rows of several cores and groups, on the top call.
-use crate::call_tests::{PICKS, call, cell, replay, with, words_of};
+use crate::call_tests::{Ended, PICKS, call, cell, ends, replay, with, words_of};
 use flatstore_commands::{Report, Status};
 use fs_text::{Sink, SteadySink, SteadySource};
 use pm_region::{Faults, FenceNumber, MemRegion, ReadRegion, Region, SplitRegion, SteadyRegion};
@@ -126,128 +126,140 @@ fn has_all(
     has_prefixes(alloc, region, report, changes, region.stamp())
 }
 
+// How a replay on so many cores of one group ends whose fences with these numbers fail, where this text is wanted, and
+// whether each image of each stamp has a prefix of these changes.
+fn ends_with_images(
+    rt: &(impl Threads + AllocGlobal),
+    cores: u8,
+    fails: &[u64],
+    input: &str,
+    text: &str,
+    changes: &[Changed],
+) -> Result<((Status, bool), bool), Fail> {
+    let mut region = region_of(rt.alloc(), cores, fails)?;
+    let (report, written) = replay(rt, &mut region, input)?;
+    let ended = Ended::of(&report, written.as_slice(), text.as_bytes());
+    let all = has_all(rt.alloc(), &region, &report, changes)?;
+    Ok((ended.said(), all))
+}
+
+const OF_A_BATCH: [Changed; 3] = [
+    Changed {
+        key: 0,
+        requests: &[0],
+        cells: &["", "a"],
+    },
+    Changed {
+        key: 1,
+        requests: &[1],
+        cells: &["", "b"],
+    },
+    Changed {
+        key: 2,
+        requests: &[2],
+        cells: &["", "c"],
+    },
+];
+
 #[test]
 fn images_of_a_batch(rt: HostRuntime) -> Result<(), Fail> {
-    let alloc = rt.alloc();
-    let changes = [
-        Changed {
-            key: 0,
-            requests: &[0],
-            cells: &["", "a"],
-        },
-        Changed {
-            key: 1,
-            requests: &[1],
-            cells: &["", "b"],
-        },
-        Changed {
-            key: 2,
-            requests: &[2],
-            cells: &["", "c"],
-        },
-    ];
-    let mut region = region_of(alloc, 4, &[])?;
-    let (report, _) = replay(&rt, &mut region, ONE_BATCH)?;
-    assert_eq!(rt; report.status, Status::Done);
-    assert!(rt; has_all(alloc, &region, &report, &changes)?);
+    let text = "stored\nstored\nstored\n";
+    let found = ends_with_images(&rt, 4, &[], ONE_BATCH, text, &OF_A_BATCH)?;
+    assert_eq!(rt; found, ((Status::Done, true), true));
     Ok(())
 }
 
+const STOLEN_AND_OTHER: [Changed; 2] = [
+    Changed {
+        key: 4,
+        requests: &[0, 3],
+        cells: &["", "a", "b"],
+    },
+    Changed {
+        key: 1,
+        requests: &[1],
+        cells: &["", "x"],
+    },
+];
+
 #[test]
 fn images_of_a_stolen_change(rt: HostRuntime) -> Result<(), Fail> {
-    let alloc = rt.alloc();
-    let changes = [
-        Changed {
-            key: 4,
-            requests: &[0, 3],
-            cells: &["", "a", "b"],
-        },
-        Changed {
-            key: 1,
-            requests: &[1],
-            cells: &["", "x"],
-        },
-    ];
-    let mut region = region_of(alloc, 4, &[])?;
-    let (report, _) = replay(&rt, &mut region, STOLEN)?;
-    assert_eq!(rt; report.status, Status::Done);
-    assert!(rt; has_all(alloc, &region, &report, &changes)?);
+    let text = "stored\nstored\nvalue a\nstored\nvalue b\n";
+    let found = ends_with_images(&rt, 4, &[], STOLEN, text, &STOLEN_AND_OTHER)?;
+    assert_eq!(rt; found, ((Status::Done, true), true));
     Ok(())
 }
+
+const OF_TWO_CORES: [Changed; 2] = [
+    Changed {
+        key: 0,
+        requests: &[0],
+        cells: &["", "a"],
+    },
+    Changed {
+        key: 1,
+        requests: &[1],
+        cells: &["", "b"],
+    },
+];
+
+const BY_TURNS: [(&str, &str); 2] = [
+    ("", "stopped\nstored\nstopped\nvalue b\n"),
+    ("go 1 3\n", "stopped\nstopped\nstopped\nstopped\n"),
+];
 
 #[test]
 fn a_core_that_stops(rt: HostRuntime) -> Result<(), Fail> {
     let alloc = rt.alloc();
-    let changes = [
-        Changed {
-            key: 0,
-            requests: &[0],
-            cells: &["", "a"],
-        },
-        Changed {
-            key: 1,
-            requests: &[1],
-            cells: &["", "b"],
-        },
-    ];
-    let table = [
-        ("", "stopped\nstored\nstopped\nvalue b\n"),
-        ("go 1 3\n", "stopped\nstopped\nstopped\nstopped\n"),
-    ];
-    for (turns, text) in table {
+    for (turns, text) in BY_TURNS {
         let input = format!(in alloc; "{FAILS_THIRD}{turns}")?;
-        let mut region = region_of(alloc, 2, &[3])?;
-        let (report, written) = replay(&rt, &mut region, input.as_str())?;
-        assert_eq!(rt; report.status, Status::RegionFault);
-        assert_eq!(rt; written.as_slice(), text.as_bytes());
-        assert!(rt; has_all(alloc, &region, &report, &changes)?);
+        let found = ends_with_images(&rt, 2, &[3], input.as_str(), text, &OF_TWO_CORES)?;
+        assert_eq!(rt; found, ((Status::RegionFault, true), true), "{turns}");
     }
     Ok(())
 }
 
+// How the replay ends, and how many bytes its log has.
+fn withdrawn(rt: &(impl Threads + AllocGlobal)) -> Result<(Ended, usize), Fail> {
+    let mut region = region_of(rt.alloc(), 2, &[1])?;
+    let ended = ends(rt, &mut region, WITHDRAWN, "stopped\nstopped\nstopped\n")?;
+    let log = text_of(rt, "log", &mut region)?;
+    Ok((ended, log.len()))
+}
+
 #[test]
 fn a_change_that_is_taken_back(rt: HostRuntime) -> Result<(), Fail> {
-    let alloc = rt.alloc();
-    let mut region = region_of(alloc, 2, &[1])?;
-    let (report, written) = replay(&rt, &mut region, WITHDRAWN)?;
-    assert_eq!(rt; report.status, Status::RegionFault);
-    assert_eq!(rt;
-        written.as_slice(),
-        b"stopped\nstopped\nstopped\n".as_slice()
-    );
-    assert!(rt; report.finishes.is_empty());
-    assert!(rt; text_of(&rt, "log", &mut region)?.is_empty());
+    let (ended, log) = withdrawn(&rt)?;
+    assert_eq!(rt; ended.said(), (Status::RegionFault, true));
+    assert_eq!(rt; (ended.finishes, log), (0, 0));
     Ok(())
+}
+
+// How a replay ends that is to write nothing, on a region of one core of which the look with this number fails.
+fn lost_at(rt: &(impl Threads + AllocGlobal), look: u64, input: &str) -> Result<Ended, Fail> {
+    let alloc = rt.alloc();
+    let plan = Faults {
+        opens: vec![in alloc; look]?,
+        fences: Vec::new(alloc),
+    };
+    let mut region = MemRegion::new(alloc, fresh_of(alloc, 1, 1)?, 5000, plan)?;
+    ends(rt, &mut region, input, "")
 }
 
 #[test]
 fn an_attach_that_fails(rt: HostRuntime) -> Result<(), Fail> {
-    let alloc = rt.alloc();
-    let plan = Faults {
-        opens: vec![in alloc; 1]?,
-        fences: Vec::new(alloc),
-    };
-    let mut region = MemRegion::new(alloc, fresh_of(alloc, 1, 1)?, 5000, plan)?;
-    let (report, written) = replay(&rt, &mut region, "put 5 abc\nget 5\ndelete 5\nget 5\n")?;
-    assert_eq!(rt; report.status, Status::RegionFault);
-    assert_eq!(rt; report.attached, false);
-    assert!(rt; written.is_empty());
+    let ended = lost_at(&rt, 1, "put 5 abc\nget 5\ndelete 5\nget 5\n")?;
+    assert_eq!(rt; ended.said(), (Status::RegionFault, true));
+    assert_eq!(rt; ended.attached, false);
     Ok(())
 }
 
 // Attached, and out of its place when all is answered: no reply tells of the put, which is done.
 #[test]
 fn a_place_that_is_lost(rt: HostRuntime) -> Result<(), Fail> {
-    let alloc = rt.alloc();
-    let plan = Faults {
-        opens: vec![in alloc; 2]?,
-        fences: Vec::new(alloc),
-    };
-    let mut region = MemRegion::new(alloc, fresh_of(alloc, 1, 1)?, 5000, plan)?;
-    let (report, written) = replay(&rt, &mut region, "put 5 abc\nget 5\n")?;
-    assert_eq!(rt; report.status, Status::RegionFault);
-    assert_eq!(rt; (report.complete, report.in_place), (true, false));
-    assert_eq!(rt; report.finishes.len(), 1);
-    assert!(rt; written.is_empty());
+    let ended = lost_at(&rt, 2, "put 5 abc\nget 5\n")?;
+    assert_eq!(rt; ended.said(), (Status::RegionFault, true));
+    assert_eq!(rt; (ended.complete, ended.in_place), (true, false));
+    assert_eq!(rt; ended.finishes, 1);
     Ok(())
 }

@@ -1,9 +1,10 @@
 // The worked rows of a scan, on the top call.
-use crate::call_tests::{call, replay, with};
+use crate::call_tests::{Ended, all_done, call, with};
 use flatstore_commands::{Report, Status};
 use fs_text::{MemSink, MemSource, Sink, SteadySink, SteadySource};
 use pm_region::{ReadRegion, Region, SplitRegion, SteadyRegion};
 use std::alloc::{AllocGlobal, Global};
+use std::process::Abort;
 use std::test::Fail;
 use std::thread::Threads;
 
@@ -27,16 +28,16 @@ fn scan_into<O: Sink, R: SplitRegion + ReadRegion>(
     Ok(call(rt, &SCAN, &mut source, sink, region)?)
 }
 
-// The status of a scan, and what it writes into a sink that takes everything.
+// How a scan ends into a sink that takes everything, where these answers are wanted.
 fn scan<R: SplitRegion + ReadRegion>(
     rt: &(impl Threads + AllocGlobal),
     region: &mut R,
     queries: &str,
-) -> Result<(Status, Vec<u8>), Fail> {
+    answers: &str,
+) -> Result<(Status, bool), Fail> {
     let mut sink = SteadySink::new(rt.alloc(), 100_000, 1000)?;
     let report = scan_into(rt, &mut sink, region, queries)?;
-    let text = Vec::from_slice(rt.alloc(), sink.text().unwrap_or(b"not kept"))?;
-    Ok((report.status, text))
+    Ok((report.status, sink.text() == Some(answers.as_bytes())))
 }
 
 const ROWS: [(&str, Status, &str); 9] = [
@@ -63,67 +64,97 @@ const ROWS: [(&str, Status, &str); 9] = [
     ),
 ];
 
+// A region with the three pairs.
+fn with_three(rt: &(impl Threads + AllocGlobal + Abort)) -> Result<SteadyRegion, Fail> {
+    let mut region = region(rt.alloc(), &[])?;
+    all_done(rt, &mut region, &[(THREE, "stored\nstored\nstored\n")])?;
+    Ok(region)
+}
+
 #[test]
 fn rows(rt: HostRuntime) -> Result<(), Fail> {
-    let mut region = region(rt.alloc(), &[])?;
-    assert_eq!(rt; replay(&rt, &mut region, THREE)?.0.status, Status::Done);
+    let mut region = with_three(&rt)?;
     for (queries, status, answers) in ROWS {
-        let (found, text) = scan(&rt, &mut region, queries)?;
-        assert_eq!(rt; found, status);
-        assert_eq!(rt; text.as_slice(), answers.as_bytes());
+        assert_eq!(rt;
+            scan(&rt, &mut region, queries, answers)?,
+            (status, true),
+            "{queries}"
+        );
     }
     assert_eq!(rt; region.stamp(), 0);
     Ok(())
 }
 
-// A value in a block, one that was overwritten, and a key that was deleted.
-#[test]
-fn blocks_and_deletes(rt: HostRuntime) -> Result<(), Fail> {
-    let alloc = rt.alloc();
-    let mut region = region(alloc, &[])?;
+// Puts with a value in a block, one that is overwritten, and a key that is deleted; and what is then answered.
+fn long_value(alloc: Global) -> Result<(String, String), Fail> {
     let long = String::from_utf8(vec![in alloc; b'x'; 300]?).unwrap_or(String::new(alloc));
     let input = format!(in alloc; "put 3 {long}\nput 4 a\nput 4 b\nput 5 c\ndelete 5\n")?;
-    assert_eq!(rt;
-        replay(&rt, &mut region, input.as_str())?.0.status,
-        Status::Done
-    );
-    let (status, text) = scan(&rt, &mut region, "count 0 9\nrange 0 9 9\n")?;
-    assert_eq!(rt; status, Status::Done);
-    let wanted = format!(in alloc; "2\n3 {long}\n4 b\nend\n")?;
-    assert_eq!(rt; text.as_slice(), wanted.as_bytes());
+    let answers = format!(in alloc; "2\n3 {long}\n4 b\nend\n")?;
+    Ok((input, answers))
+}
+
+#[test]
+fn blocks_and_deletes(rt: HostRuntime) -> Result<(), Fail> {
+    let (input, answers) = long_value(rt.alloc())?;
+    let mut region = region(rt.alloc(), &[])?;
+    let rows = [(input.as_str(), "stored\nstored\nstored\nstored\ndeleted\n")];
+    all_done(&rt, &mut region, &rows)?;
+    let said = scan(
+        &rt,
+        &mut region,
+        "count 0 9\nrange 0 9 9\n",
+        answers.as_str(),
+    )?;
+    assert_eq!(rt; said, (Status::Done, true));
     Ok(())
 }
 
 #[test]
 fn a_broken_region(rt: HostRuntime) -> Result<(), Fail> {
-    let alloc = rt.alloc();
-    let mut region = region(alloc, &[(0, b'G')])?;
-    let (status, text) = scan(&rt, &mut region, "get 1\n")?;
-    assert_eq!(rt; status, Status::NotARegion { rule: 2 });
-    assert_eq!(rt; text.len(), 0);
+    let mut region = region(rt.alloc(), &[(0, b'G')])?;
+    let said = scan(&rt, &mut region, "get 1\n", "")?;
+    assert_eq!(rt; said, (Status::NotARegion { rule: 2 }, true));
     Ok(())
+}
+
+// How a scan ends whose sink takes three bytes a call and fails at the second one, where these bytes are wanted.
+fn with_a_failing_sink(
+    rt: &(impl Threads + AllocGlobal),
+    region: &mut SteadyRegion,
+    text: &str,
+) -> Result<Ended, Fail> {
+    let alloc = rt.alloc();
+    let mut sink = MemSink::new(alloc, 100, 3, vec![in alloc; 2]?)?;
+    let report = scan_into(rt, &mut sink, region, "range 1 9 9\n")?;
+    Ok(Ended::of(&report, sink.text().unwrap_or(b"not kept"), text.as_bytes()))
+}
+
+// How one ends whose source gives four bytes a call and fails at the second one, where these bytes are wanted.
+fn with_a_failing_source(
+    rt: &(impl Threads + AllocGlobal),
+    region: &mut SteadyRegion,
+    text: &str,
+) -> Result<Ended, Fail> {
+    let alloc = rt.alloc();
+    let queries = Vec::from_slice(alloc, b"count 1 2\n")?;
+    let mut source = MemSource::new(queries, 4, vec![in alloc; 2]?);
+    let mut sink = SteadySink::new(alloc, 100, 100)?;
+    let report = call(rt, &SCAN, &mut source, &mut sink, region)?;
+    Ok(Ended::of(&report, sink.text().unwrap_or(b"not kept"), text.as_bytes()))
 }
 
 #[test]
 fn failing_ends(rt: HostRuntime) -> Result<(), Fail> {
-    let alloc = rt.alloc();
-    let mut region = region(alloc, &[])?;
-    assert_eq!(rt; replay(&rt, &mut region, THREE)?.0.status, Status::Done);
-    let mut sink = MemSink::new(alloc, 100, 3, vec![in alloc; 2]?)?;
-    let report = scan_into(&rt, &mut sink, &mut region, "range 1 9 9\n")?;
-    assert_eq!(rt; (report.status, report.complete), (Status::SinkFault, true));
-    assert_eq!(rt; sink.text(), Some(b"1 a".as_slice()));
-    let mut source = MemSource::new(
-        Vec::from_slice(alloc, b"count 1 2\n")?,
-        4,
-        vec![in alloc; 2]?,
-    );
-    let mut sink = SteadySink::new(alloc, 100, 100)?;
-    let report = call(&rt, &SCAN, &mut source, &mut sink, &mut region)?;
+    let mut region = with_three(&rt)?;
+    let ended = with_a_failing_sink(&rt, &mut region, "1 a")?;
     assert_eq!(rt;
-        (report.status, report.complete),
-        (Status::SourceFault, false)
+        (ended.said(), ended.complete),
+        ((Status::SinkFault, true), true)
     );
-    assert_eq!(rt; sink.text(), Some(b"".as_slice()));
+    let ended = with_a_failing_source(&rt, &mut region, "")?;
+    assert_eq!(rt;
+        (ended.said(), ended.complete),
+        ((Status::SourceFault, true), false)
+    );
     Ok(())
 }

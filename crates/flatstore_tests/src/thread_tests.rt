@@ -1,7 +1,7 @@
 // The worked rows of a run on threads, on the top call.
 ghost use Rattle.std.specs.Prelude.{false, true};
 
-use crate::call_tests::{call, command, replay, with, words_of};
+use crate::call_tests::{Ended, command, ends, with, words_of};
 use crate::row_tests::{fresh_of, text_of};
 use core_worker::{Gate, OpenGate, Point};
 use flatstore_commands::{Report, Status, flatstore};
@@ -12,6 +12,7 @@ use std::sync::Wait;
 use std::sync::atomic::{AtomicBool, AtomicU64, Ordering};
 use std::test::Fail;
 use std::thread::Threads;
+use thread_engine::watch::Unwatched;
 
 pub const RUN: [&str; 3] = ["flatstore", "run", "region"];
 
@@ -27,18 +28,54 @@ pub fn threads<R: SplitRegion + ReadRegion, G: Gate + Sync>(
     let line = command(alloc, words)?;
     let mut source = SteadySource::new(Vec::from_slice(alloc, input.as_bytes())?, 1000);
     let mut sink = SteadySink::new(alloc, 100_000, 1000)?;
-    let report = flatstore(rt, alloc, &line, &mut source, &mut sink, region, gate);
+    let report = flatstore(
+        rt,
+        alloc,
+        &line,
+        &mut source,
+        &mut sink,
+        region,
+        gate,
+        &mut Unwatched,
+    );
     let text = Vec::from_slice(alloc, sink.text().unwrap_or(b"not kept"))?;
     Ok((report, text))
 }
 
-// Runs an input on a region.
+// How such a call ends, where this text is wanted.
+pub fn threads_end<R: SplitRegion + ReadRegion, G: Gate + Sync>(
+    rt: &(impl Threads + Wait + Sync + AllocGlobal),
+    words: &[&str],
+    region: &mut R,
+    input: &str,
+    text: &str,
+    gate: &G,
+) -> Result<Ended, Fail> {
+    let (report, written) = threads(rt, words, region, input, gate)?;
+    Ok(Ended::of(&report, written.as_slice(), text.as_bytes()))
+}
+
+// How a run of an input on a region ends, where this text is wanted.
 fn run<R: SplitRegion + ReadRegion>(
     rt: &(impl Threads + Wait + Sync + AllocGlobal),
     region: &mut R,
     input: &str,
-) -> Result<(Report, Vec<u8>), Fail> {
-    threads(rt, &RUN, region, input, &OpenGate)
+    text: &str,
+) -> Result<Ended, Fail> {
+    threads_end(rt, &RUN, region, input, text, &OpenGate)
+}
+
+// The same on a fresh region of so many cores, in groups.
+fn fresh_run(
+    rt: &(impl Threads + Wait + Sync + AllocGlobal),
+    cores: u8,
+    group: u8,
+    input: &str,
+    text: &str,
+) -> Result<Ended, Fail> {
+    let alloc = rt.alloc();
+    let mut region = SteadyRegion::new(alloc, fresh_of(alloc, cores, group)?, 5000)?;
+    run(rt, &mut region, input, text)
 }
 
 const ONE_CORE: [(&str, Status, &str); 4] = [
@@ -62,12 +99,9 @@ const ONE_CORE: [(&str, Status, &str); 4] = [
 
 #[test]
 fn one_core(rt: HostRuntime) -> Result<(), Fail> {
-    let alloc = rt.alloc();
     for (input, status, text) in ONE_CORE {
-        let mut region = SteadyRegion::new(alloc, fresh_of(alloc, 1, 1)?, 5000)?;
-        let (report, written) = run(&rt, &mut region, input)?;
-        assert_eq!(rt; report.status, status);
-        assert_eq!(rt; written.as_slice(), text.as_bytes());
+        let ended = fresh_run(&rt, 1, 1, input, text)?;
+        assert_eq!(rt; ended.said(), (status, true), "{input}");
     }
     Ok(())
 }
@@ -76,17 +110,11 @@ fn one_core(rt: HostRuntime) -> Result<(), Fail> {
 fn what_is_left(rt: HostRuntime) -> Result<(), Fail> {
     let mut region = SteadyRegion::new(rt.alloc(), fresh_of(rt.alloc(), 2, 2)?, 5000)?;
     let input = "delete 3\nput 3 a\nput 4 q\nput 3 b\ndelete 3\ndelete 3\nget 3\n";
-    let (report, written) = run(&rt, &mut region, input)?;
-    assert_eq!(rt; report.status, Status::Done);
-    assert_eq!(rt; report.finishes.len(), 4);
-    assert_eq!(rt;
-        written.as_slice(),
-        b"absent\nstored\nstored\nstored\ndeleted\nabsent\nabsent\n".as_slice()
-    );
-    assert_eq!(rt;
-        text_of(&rt, "dump", &mut region)?.as_slice(),
-        b"4 q\n".as_slice()
-    );
+    let text = "absent\nstored\nstored\nstored\ndeleted\nabsent\nabsent\n";
+    let ended = run(&rt, &mut region, input, text)?;
+    assert_eq!(rt; (ended.said(), ended.finishes), ((Status::Done, true), 4));
+    let pairs = text_of(&rt, "dump", &mut region)?;
+    assert_eq!(rt; pairs.as_slice(), b"4 q\n".as_slice());
     Ok(())
 }
 
@@ -120,19 +148,21 @@ fn four_cores(alloc: Global) -> Result<SteadyRegion, Fail> {
     Ok(SteadyRegion::new(alloc, bytes, 0)?)
 }
 
+// How a replay of the two thousand requests ends, and a run of them, each on a region of its own.
+fn both_ends(rt: &(impl Threads + Wait + Sync + AllocGlobal)) -> Result<(Ended, Ended), Fail> {
+    let (input, replies) = two_thousand(rt.alloc())?;
+    let mut region = four_cores(rt.alloc())?;
+    let replayed = ends(rt, &mut region, input.as_str(), replies.as_str())?;
+    let mut region = four_cores(rt.alloc())?;
+    let ran = run(rt, &mut region, input.as_str(), replies.as_str())?;
+    Ok((replayed, ran))
+}
+
 #[test]
 fn as_a_replay(rt: HostRuntime) -> Result<(), Fail> {
-    let alloc = rt.alloc();
-    let (input, replies) = two_thousand(alloc)?;
-    let mut region = four_cores(alloc)?;
-    let (report, written) = replay(&rt, &mut region, input.as_str())?;
-    assert_eq!(rt; report.status, Status::Done);
-    assert_eq!(rt; written.as_slice(), replies.as_bytes());
-    let mut region = four_cores(alloc)?;
-    let (report, written) = run(&rt, &mut region, input.as_str())?;
-    assert_eq!(rt; report.status, Status::Done);
-    assert_eq!(rt; report.finishes.len(), 1000);
-    assert_eq!(rt; written.as_slice(), replies.as_bytes());
+    let (replayed, ran) = both_ends(&rt)?;
+    assert_eq!(rt; replayed.said(), (Status::Done, true));
+    assert_eq!(rt; (ran.said(), ran.finishes), ((Status::Done, true), 1000));
     Ok(())
 }
 
@@ -152,12 +182,9 @@ pub fn gets_and_a_put(alloc: Global, gets: u64) -> Result<(String, String), Allo
 // The put is the last request of the first window, and the get behind it the first of the second.
 #[test]
 fn two_windows(rt: HostRuntime) -> Result<(), Fail> {
-    let alloc = rt.alloc();
-    let (input, replies) = gets_and_a_put(alloc, 4095)?;
-    let mut region = SteadyRegion::new(alloc, fresh_of(alloc, 1, 1)?, 5000)?;
-    let (report, written) = run(&rt, &mut region, input.as_str())?;
-    assert_eq!(rt; report.status, Status::Done);
-    assert_eq!(rt; written.as_slice(), replies.as_bytes());
+    let (input, replies) = gets_and_a_put(rt.alloc(), 4095)?;
+    let ended = fresh_run(&rt, 1, 1, input.as_str(), replies.as_str())?;
+    assert_eq!(rt; ended.said(), (Status::Done, true));
     Ok(())
 }
 
@@ -217,75 +244,89 @@ impl Gate for Meeting {
     }
 }
 
+const FIRST_OF_THE_LOG: &str = "core 0 chunk 0 place 0 key 0 version 1 embedded 1\n\
+        core 0 chunk 0 place 3 key 1 version 1 embedded 1\n";
+
+// How the run ends, and whether its log begins so.
+fn met(
+    rt: &(impl Threads + Wait + Sync + AllocGlobal),
+    gate: &Meeting,
+) -> Result<((Status, bool), bool), Fail> {
+    let mut region = SteadyRegion::new(rt.alloc(), fresh_of(rt.alloc(), 2, 2)?, 5000)?;
+    let input = "put 0 a\nput 0 b\nput 1 c\nput 3 d\n";
+    let text = "stored\nstored\nstored\nstored\n";
+    let ended = threads_end(rt, &RUN, &mut region, input, text, gate)?;
+    let log = text_of(rt, "log", &mut region)?;
+    let begins = log.as_slice().starts_with(FIRST_OF_THE_LOG.as_bytes());
+    Ok((ended.said(), begins))
+}
+
 #[test]
 fn two_cores_meet(rt: HostRuntime) -> Result<(), Fail> {
-    let alloc = rt.alloc();
-    let mut region = SteadyRegion::new(alloc, fresh_of(alloc, 2, 2)?, 5000)?;
     let gate = Meeting::new();
-    let input = "put 0 a\nput 0 b\nput 1 c\nput 3 d\n";
-    let (report, written) = threads(&rt, &RUN, &mut region, input, &gate)?;
-    assert_eq!(rt; report.status, Status::Done);
-    assert_eq!(rt;
-        written.as_slice(),
-        b"stored\nstored\nstored\nstored\n".as_slice()
-    );
+    assert_eq!(rt; met(&rt, &gate)?, ((Status::Done, true), true));
     assert!(rt; !gate.missed.load(Ordering::SeqCst));
     assert_eq!(rt; (gate.asks_of(0), gate.asks_of(1)), (2, 2));
-    let log = text_of(&rt, "log", &mut region)?;
-    let first = "core 0 chunk 0 place 0 key 0 version 1 embedded 1\n\
-            core 0 chunk 0 place 3 key 1 version 1 embedded 1\n";
-    assert!(rt; log.as_slice().starts_with(first.as_bytes()));
     Ok(())
+}
+
+// A fresh region of two cores that keeps this plan.
+fn planned(alloc: Global, group: u8, plan: Faults) -> Result<MemRegion, Fail> {
+    Ok(MemRegion::new(alloc, fresh_of(alloc, 2, group)?, 5000, plan)?)
+}
+
+// One of which the look with this number fails.
+fn lost_at(alloc: Global, look: u64) -> Result<MemRegion, Fail> {
+    let plan = Faults {
+        opens: vec![in alloc; look]?,
+        fences: Vec::new(alloc),
+    };
+    planned(alloc, 2, plan)
+}
+
+// One of two groups, in which this fence of core 1's piece fails.
+fn failing_piece(alloc: Global, number: u64) -> Result<MemRegion, Fail> {
+    let plan = Faults {
+        opens: Vec::new(alloc),
+        fences: vec![in alloc; FenceNumber { piece: 2, number }]?,
+    };
+    planned(alloc, 1, plan)
+}
+
+// The words of a fresh region of two cores.
+fn fresh_words(alloc: Global) -> Result<Vec<u64>, Fail> {
+    let plan = Faults {
+        opens: Vec::new(alloc),
+        fences: Vec::new(alloc),
+    };
+    let mut region = planned(alloc, 2, plan)?;
+    region.attach(alloc)?;
+    Ok(words_of(alloc, &region)?)
+}
+
+fn is_fresh(alloc: Global, region: &MemRegion) -> Result<bool, Fail> {
+    let words = words_of(alloc, region)?;
+    let fresh = fresh_words(alloc)?;
+    Ok(words.as_slice() == fresh.as_slice())
 }
 
 #[test]
 fn a_split_that_fails(rt: HostRuntime) -> Result<(), Fail> {
-    let alloc = rt.alloc();
-    let plan = Faults {
-        opens: vec![in alloc; 2]?,
-        fences: Vec::new(alloc),
-    };
-    let mut region = MemRegion::new(alloc, fresh_of(alloc, 2, 2)?, 5000, plan)?;
-    let (report, written) = run(&rt, &mut region, "put 5 abc\nget 5\n")?;
-    assert_eq!(rt; report.status, Status::RegionFault);
-    assert_eq!(rt; (report.attached, report.complete), (true, false));
-    assert!(rt; written.is_empty());
-    let mut fresh = MemRegion::new(
-        alloc,
-        fresh_of(alloc, 2, 2)?,
-        5000,
-        Faults {
-            opens: Vec::new(alloc),
-            fences: Vec::new(alloc),
-        },
-    )?;
-    fresh.attach(alloc)?;
-    assert_eq!(rt;
-        words_of(alloc, &region)?.as_slice(),
-        words_of(alloc, &fresh)?.as_slice()
-    );
+    let mut region = lost_at(rt.alloc(), 2)?;
+    let ended = run(&rt, &mut region, "put 5 abc\nget 5\n", "")?;
+    assert_eq!(rt; ended.said(), (Status::RegionFault, true));
+    assert_eq!(rt; (ended.attached, ended.complete), (true, false));
+    assert!(rt; is_fresh(rt.alloc(), &region)?);
     Ok(())
 }
 
 #[test]
 fn a_piece_that_fails(rt: HostRuntime) -> Result<(), Fail> {
-    let alloc = rt.alloc();
-    let plan = Faults {
-        opens: Vec::new(alloc),
-        fences: vec![in alloc;
-            FenceNumber {
-                piece: 2,
-                number: 1
-            },
-        ]?,
-    };
-    let mut region = MemRegion::new(alloc, fresh_of(alloc, 2, 1)?, 5000, plan)?;
-    let (report, written) = run(&rt, &mut region, "put 0 a\nput 1 b\nget 0\nget 1\n")?;
-    assert_eq!(rt; report.status, Status::RegionFault);
-    assert_eq!(rt; (report.complete, report.finishes.len()), (true, 1));
-    assert_eq!(rt;
-        written.as_slice(),
-        b"stored\nstopped\nvalue a\nstopped\n".as_slice()
-    );
+    let mut region = failing_piece(rt.alloc(), 1)?;
+    let input = "put 0 a\nput 1 b\nget 0\nget 1\n";
+    let text = "stored\nstopped\nvalue a\nstopped\n";
+    let ended = run(&rt, &mut region, input, text)?;
+    assert_eq!(rt; ended.said(), (Status::RegionFault, true));
+    assert_eq!(rt; (ended.complete, ended.finishes), (true, 1));
     Ok(())
 }
