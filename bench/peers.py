@@ -109,10 +109,10 @@ int main(int, char **words) {
 SOURCES = {"LevelDB": (LEVELDB, "-lleveldb"), "LMDB": (LMDB, "-llmdb"), "SQLite": (SQLITE, "-lsqlite3")}
 
 
-def built(folder):
+def built(folder, sources=None):
     """The stores that can be built here, each with its program, which is made in the folder."""
     programs = {}
-    for name, (text, library) in SOURCES.items():
+    for name, (text, library) in (sources or SOURCES).items():
         source, program = folder / f"{name}.cc", folder / name
         source.write_text(text)
         command = ["g++", "-O2", source, "-o", program, library]
