@@ -162,7 +162,8 @@ pub fn flatstore<
     ensures quiet_unbegun { is_load (form_of (words_of words.now.items)) ≡ false
         → is_quiet result.status ≡ true → result.began ≡ false }
     ensures region_untouched { is_quiet result.status ≡ true → result.began ≡ false
-        → result.attached ≡ true → Attached (R.state region.old) (R.state region.new) (R.state region.new).frame.bytes
+        → result.attached ≡ true
+        → Attached (R.state region.old) (R.state region.new) (R.state region.new).frame.bytes
         (R.found region.old) }
 {
     match asked_of_threads(alloc, words) {
