@@ -1,7 +1,7 @@
 //! A run on threads whose requests are those of a load: they are made window by window, and their replies are counted.
 #![tactic(auto)]
 
-mod counting;
+mod answer_counts;
 mod load;
 mod made_requests;
 mod tally_outlet;

@@ -3,7 +3,7 @@ ghost use Rattle.std.specs.Prelude.{◌≡◌, []};
 ghost use Rattle.load_tally.specs.Tallied.{IsWithin, tally_of};
 ghost use Rattle.load_run.specs.Counted.{CountsMore};
 
-use crate::counting::add_answers;
+use crate::answer_counts::add_answers;
 use fs_text::Tally;
 use group_engine::types::Stamped;
 use load_tally::nothing;

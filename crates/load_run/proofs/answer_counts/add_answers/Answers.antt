@@ -3,7 +3,7 @@ use Rattle.std.proofs.lemmas.List.{take_more, take_all}
 use Rattle.group_engine.specs.Reports.{reply_in}
 use Rattle.load_tally.specs.Tallied.{tally_of}
 use Rattle.load_run.proofs.Loaded.{map_both}
-use Rattle.load_run.proofs.counting.add_answers.Goals as goal
+use Rattle.load_run.proofs.answer_counts.add_answers.Goals as goal
 
 pub loop-answer-preserved : goal.loop-answer-preserved
 loop-answer-preserved c =
