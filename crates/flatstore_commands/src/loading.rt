@@ -58,7 +58,8 @@ fn load_cores<T: Threads + Wait + Sync, R: SplitRegion + ReadRegion, G: Gate + S
 // Writes a tally behind a run that came to its end.
 fn write_counts<O: Sink>(alloc: Global, sink: &mut O, end: End, tally: &Tally) -> Status
     requires { is_ended end ≡ true }
-    ensures written { HasWritten (Takes (O.taken sink.old) (O.taken sink.new) (tally_text tally.now))
+    ensures written { HasWritten
+        (Takes (O.taken sink.old) (O.taken sink.new) (tally_text tally.now))
         (TakesPrefix (O.taken sink.old) (O.taken sink.new) (tally_text tally.now)) end
         (sink_use O.taken O.flushed O.fault_count sink.old sink.new) result }
     ensures loud { is_quiet result ≡ false }

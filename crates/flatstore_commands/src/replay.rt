@@ -140,8 +140,8 @@ pub fn status_of(end: End, sunk: bool) -> Status
 // Writes the replies of a run that came to its end.
 fn write_text<O: Sink>(alloc: Global, sink: &mut O, outcome: &Outcome) -> Status
     requires { is_ended outcome.now.end ≡ true }
-    ensures { HasWrittenReplies outcome.now (sink_use O.taken O.flushed O.fault_count sink.old sink.new)
-        result }
+    ensures { HasWrittenReplies outcome.now
+        (sink_use O.taken O.flushed O.fault_count sink.old sink.new) result }
 {
     match write_replies(alloc, sink, outcome.replies.as_slice()) {
         Err(OutError::Memory) => Status::Memory,
