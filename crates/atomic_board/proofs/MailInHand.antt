@@ -5,7 +5,7 @@ use Rattle.store_image.specs.Facts.{In}
 use Rattle.group_laws.specs.declared.types.Seen.TheVariants as loads
 use Rattle.group_laws.specs.State.{Notices}
 use Rattle.group_laws.proofs.Clients.{In-append_right}
-use Rattle.crash_core.specs.declared.names.Notices.{Notices as Parceled}
+use Rattle.group_board.specs.declared.names.Notices.{Notices as Parceled}
 use Rattle.group_board.specs.Views.{after_find}
 use Rattle.group_board.specs.Conditions.{MaySend}
 use Rattle.atomic_board.specs.declared.parcel.Parcel.TheVariants as parcels

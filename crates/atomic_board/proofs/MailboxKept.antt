@@ -1,11 +1,10 @@
 -- The steps at mailboxes keep the rule: a load that takes the slot in hand or finds it is not the member's turn, and the store that gives it back.
 use Rattle.atomic_board.proofs.Reaches.{more, reached_by}
-use Rattle.std.proofs.Common.{◌≡◌, ◌≢◌, ℕ, suc, ◌+◌, ◌*◌, ◌<◌, ◌≤◌, Bool, true, false, List, [], ◌∷◌, length, get_or, set, sym, refl, ap, ◌∙◌, subst, inl, inr, ◌⊎◌, ⊎_elim, eq-eqb, ne_eqb, arith, length-set, get_or-set_other, get_or-set_same, mul-le-mul_right, suc-mul, mul_comm, Option, Some, None}
+use Rattle.std.proofs.Common.{◌≡◌, ◌≢◌, ℕ, suc, ◌+◌, ◌*◌, ◌<◌, ◌≤◌, Bool, true, false, List, [], ◌∷◌, length, get_or, set, sym, refl, ap, ◌∙◌, subst, inl, inr, ◌⊎◌, ⊎_elim, eq-eqb, ne_eqb, arith, length-set, get_or-set_other, get_or-set_same, mul-le-mul_right, suc-mul, mul_comm, Option, Some, None, lt_of_not-le}
 use mathlib.Core.Option.{some, none}
 use mathlib.Core.Option as maybe
 use mathlib.Core.Logic.{dite}
 use native.Mathlib.Decide.{ℕ_discrete, dec_le}
-use Rattle.std.proofs.Common.{lt_of_not-le}
 use lib.ListN.{get_elem?}
 use lib.Seq.{set-get_or}
 use Rattle.atomic_table.proofs.Lists.{set_here, set_else}
@@ -14,8 +13,8 @@ use Rattle.store_image.specs.Facts.{In}
 use Rattle.group_laws.specs.declared.types.Seen.TheVariants as loads
 use Rattle.group_laws.specs.Updates.{put, put2}
 use Rattle.group_laws.specs.State.{Notices, is_full}
-use Rattle.crash_core.specs.declared.names.Notices.{Notices as Parceled}
-use Rattle.crash_core.specs.Shows.{notices_of}
+use Rattle.group_board.specs.declared.names.Notices.{Notices as Parceled}
+use Rattle.group_board.specs.Mailing.{notices_of}
 use Rattle.group_laws.specs.MemberViews.{View}
 use Rattle.group_board.specs.Conditions.{MaySend}
 use Rattle.atomic_board.specs.declared.parcel.Parcel.{Parcel}

@@ -1,10 +1,9 @@
 -- A table shows one state: what it shows is a function of its words, of what lies at home and of the views.
-use Rattle.std.proofs.Common.{◌≡◌, ℕ, suc, ◌<◌, ◌≤◌, Bool, true, false, sym, refl, ap, ◌∙◌, inl, inr, arith, Option, Some, None, get_or}
+use Rattle.std.proofs.Common.{◌≡◌, ℕ, suc, ◌<◌, ◌≤◌, Bool, true, false, sym, refl, ap, ◌∙◌, inl, inr, arith, Option, Some, None, get_or, lt_of_not-le}
 use lib.ListN.{get_elem?}
 use mathlib.Core.Option.{some, none}
 use mathlib.Core.Logic.{dite}
 use native.Mathlib.Decide.{dec_le}
-use Rattle.std.proofs.Common.{lt_of_not-le}
 use Rattle.log_entry.specs.declared.entry.Entry.{Entry}
 use Rattle.group_laws.specs.declared.types.Slot.{Slot}
 use Rattle.group_laws.specs.declared.types.Slot.TheVariants.{Empty, Posted, Taken, Done, Failed}
@@ -14,7 +13,7 @@ use Rattle.atomic_board.specs.TableWords.{lock_word, pool_word, pool_place, mail
 use Rattle.atomic_board.specs.Deeds.{group_of, place_of, size}
 use Rattle.atomic_board.specs.ShownState.{TableState, Home, views_of, pose_at, IsSlot, IsBox, grips, ShowsLawful}
 use Rattle.atomic_board.specs.declared.seat_data.MailHold.{MailHold}
-use Rattle.crash_core.specs.Shows.{notices_of}
+use Rattle.group_board.specs.Mailing.{notices_of}
 
 abbrev entry_in : Entry → Home → Entry
 entry_in d (some (some (Some (Rattle.atomic_board.specs.declared.parcel.Parcel.TheVariants.Change c)))) = c.entry

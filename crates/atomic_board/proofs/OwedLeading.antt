@@ -14,7 +14,7 @@ use Rattle.group_laws.specs.declared.types.Slot.TheVariants.{Empty, Posted, Take
 use Rattle.group_laws.specs.declared.types.SlotWord.TheVariants as words
 use Rattle.group_laws.specs.declared.types.Seen.TheVariants as loads
 use Rattle.group_laws.specs.State.{word_shown}
-use Rattle.crash_core.specs.declared.kinds.Change.{Change}
+use Rattle.group_board.specs.declared.change.Change.{Change}
 use Rattle.group_laws.specs.MemberViews.{View}
 use Rattle.group_board.specs.Conditions.{IsFree, MayPost, MayLock, MayLook, MayTake, MayUnlock, MayCommit}
 use Rattle.atomic_board.specs.declared.parcel.Parcel.{Parcel}

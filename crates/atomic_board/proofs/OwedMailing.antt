@@ -10,8 +10,8 @@ use Rattle.group_laws.specs.declared.types.Seen.TheVariants as loads
 use Rattle.group_laws.specs.Places.{owner}
 use Rattle.group_laws.specs.Updates.{has}
 use Rattle.group_laws.specs.State.{is_full}
-use Rattle.crash_core.specs.declared.names.Notices.{Notices}
-use Rattle.crash_core.specs.Shows.{notices_of}
+use Rattle.group_board.specs.declared.names.Notices.{Notices}
+use Rattle.group_board.specs.Mailing.{notices_of}
 use Rattle.group_board.specs.Views.{after_receive}
 use Rattle.group_board.specs.Conditions.{MaySend}
 use Rattle.group_board.proofs.Clients.{covers_less}

@@ -22,7 +22,7 @@ use Rattle.group_laws.specs.Steps.{posts, locks, finds, takes, unlocks, commits,
 use Rattle.group_laws.specs.Runs as runs
 use Rattle.group_laws.specs.Invariant.{Lawful, PendsAt}
 use Rattle.atomic_board.proofs.Reaches.{more, step_reaches, reached_by}
-use Rattle.crash_core.specs.declared.kinds.Change.{Change}
+use Rattle.group_board.specs.declared.change.Change.{Change}
 use Rattle.group_laws.specs.MemberViews.{View}
 use Rattle.group_board.specs.Conditions.{IsFree, MayPost, MayLock, MayTake, MayUnlock, MayCommit, MayDoom}
 use Rattle.group_board.proofs.Clients.{posted_by}

@@ -18,7 +18,7 @@ pub use Rattle.group_laws.specs.OpeningImages
 pub use Rattle.group_laws.specs.Places
 pub use Rattle.group_laws.specs.Runs
 pub use Rattle.group_board.specs.Seats
-pub use Rattle.crash_core.specs.Shows
+pub use Rattle.group_board.specs.Mailing
 pub use Rattle.store_image.specs.Soundness
 pub use Rattle.log_entry.specs.Spelling
 pub use Rattle.group_laws.specs.State

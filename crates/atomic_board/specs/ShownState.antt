@@ -11,16 +11,15 @@ use Rattle.chunk_map.specs.declared.layout_sizes.TheConstants.{MOST_GROUP}
 use Rattle.group_laws.specs.declared.group_sizes.TheConstants.{SLOTS}
 use Rattle.group_laws.specs.declared.types.Slot.{Slot}
 use Rattle.group_laws.specs.declared.types.Slot.TheVariants.{Empty, Posted, Taken, Done, Failed}
-use Rattle.group_laws.specs.State.{Notices, word_shown}
-use Rattle.group_laws.specs.State.{Group}
+use Rattle.group_laws.specs.State.{Notices, word_shown, Group}
 use Rattle.group_laws.specs.Invariant.{Lawful}
 use Rattle.group_laws.specs.Runs.{Runs}
 use Rattle.group_laws.specs.MemberViews.{View}
 use Rattle.atomic_board.specs.declared.parcel.Parcel.{Parcel}
 use Rattle.atomic_board.specs.declared.parcel.Parcel.TheVariants as parcels
 use Rattle.atomic_board.specs.declared.seat_data.Origin.{Origin}
-use Rattle.crash_core.specs.declared.names.Notices.{Notices as Parceled}
-use Rattle.crash_core.specs.Shows.{notices_of}
+use Rattle.group_board.specs.declared.names.Notices.{Notices as Parceled}
+use Rattle.group_board.specs.Mailing.{notices_of}
 use Rattle.atomic_board.specs.declared.seat_data.MailHold.{MailHold}
 use Rattle.atomic_board.specs.declared.seat_data.Holding.{Holding}
 use Rattle.atomic_board.specs.declared.seat_data.Deed.{Deed}

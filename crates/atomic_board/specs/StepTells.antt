@@ -13,7 +13,7 @@ use Rattle.group_laws.specs.MemberViews.{View, view_of}
 use Rattle.group_board.specs.Trails.{TrailStep}
 use Rattle.group_board.specs.Views.{after_finish, after_give_up, after_retire, after_receive, TidiedIn}
 use Rattle.group_laws.specs.Places.{Place, owner}
-use Rattle.crash_core.specs.declared.kinds.Change.{Change}
+use Rattle.group_board.specs.declared.change.Change.{Change}
 use Rattle.atomic_board.specs.declared.parcel.Parcel.{Parcel}
 use Rattle.atomic_board.specs.declared.parcel.Parcel.TheVariants as parcels
 use Rattle.atomic_board.specs.declared.seat_data.Origin.{Origin}
@@ -26,8 +26,8 @@ use Rattle.atomic_board.specs.TableWords.{pool_word, pool_place, mail_word, mail
 use Rattle.atomic_board.specs.Deeds.{began, place_of, size, view_by, trail_by}
 use Rattle.atomic_board.specs.ShownState.{lies, deeds_in, gripped, grip_at}
 use Rattle.atomic_board.specs.declared.seat_data.MailHold.{MailHold}
-use Rattle.crash_core.specs.declared.names.Notices.{Notices}
-use Rattle.crash_core.specs.Shows.{notices_of}
+use Rattle.group_board.specs.declared.names.Notices.{Notices}
+use Rattle.group_board.specs.Mailing.{notices_of}
 use Rattle.group_board.specs.Assurances.{IsHome, IsHeard, IsUnlogged}
 use Rattle.atomic_board.specs.SlotsOut.{IsNamedBy}
 

@@ -1,8 +1,8 @@
 // The calls at mailboxes.
 ghost use Rattle.std.specs.Prelude.{◌≡◌, ◌∷◌, ℕ, ◌+◌, ◌*◌, ◌<◌, ◌≤◌, true, false, None, Some, Option, MatchOption, MatchResult, IfErr, IfSome};
 ghost use Rattle.group_laws.specs.declared.types.Seen.TheVariants as loads;
-ghost use Rattle.crash_core.specs.declared.names.Notices.{Notices as NoticesData};
-ghost use Rattle.crash_core.specs.Shows.{notices_of};
+ghost use Rattle.group_board.specs.declared.names.Notices.{Notices as NoticesData};
+ghost use Rattle.group_board.specs.Mailing.{notices_of};
 ghost use Rattle.group_laws.specs.Runs as runs;
 ghost use Rattle.group_board.specs.Trails.{step_with};
 ghost use Rattle.group_board.specs.Views.{after_find, after_send, after_receive, TidiedIn};
@@ -17,8 +17,7 @@ use crate::parcel::Parcel;
 use crate::rule::{Receives, Sends, TryReceives, TrySends};
 use crate::table_words::{EMPTY_MAILBOX, FULL_MAILBOX};
 use chunk_map::layout_sizes::MOST_GROUP;
-use crash_core::Notices;
-use group_board::MailFull;
+use group_board::{MailFull, Notices};
 use group_laws::group_sizes::{LOCK_WORDS, SLOTS};
 
 /// The number of the word of the mailbox from one member to another, counted from the table's first.

@@ -4,7 +4,7 @@ ghost use Rattle.std.specs.Prelude.{◌≡◌, IfOk, []};
 use crate::rule::OriginSeat;
 use crate::seat_data::Origin;
 use atomic_table::{Play, Table, TableRule};
-use fs_errors::Memory;
+use fs_model::Memory;
 use group_board::Opening;
 use std::alloc::Global;
 use std::marker::PhantomData;

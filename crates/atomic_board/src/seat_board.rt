@@ -5,8 +5,7 @@ ghost use Rattle.atomic_board.specs.Deeds.{committed_at};
 ghost use Rattle.atomic_board.specs.MemberSeats.{seat_of, view_at, done_at, trail_at};
 
 use crate::token::CoreSeat;
-use crash_core::{Change, Notices};
-use group_board::{Board, Busy, MailFull, SlotState};
+use group_board::{Board, Busy, Change, MailFull, Notices, SlotState};
 use log_entry::entry::EntryName;
 use pm_region::Region;
 

@@ -15,7 +15,7 @@ ghost use Rattle.group_board.specs.Conditions.{MayPost, MayLock, MayLook, MayTak
 ghost use Rattle.group_board.specs.Told.{state_of};
 ghost use mathlib.Core.Option.{none};
 ghost use Rattle.atomic_table.specs.Table.{Allows, step};
-ghost use Rattle.crash_core.specs.declared.kinds.Change.{Change as ChangeData};
+ghost use Rattle.group_board.specs.declared.change.Change.{Change as ChangeData};
 ghost use Rattle.atomic_board.specs.declared.parcel.Parcel.TheVariants as parcels;
 ghost use Rattle.atomic_board.specs.TableWords.{pool_word, pool_place, word_number, IsClearWord};
 ghost use Rattle.atomic_board.specs.Deeds.{committed_at, size};
@@ -31,8 +31,7 @@ use crate::table_words::{
     DONE_WORD, EMPTY_WORD, FAILED_WORD, FREE_LOCK, LOCK, POSTED_WORD, TAKEN_WORD,
 };
 use chunk_map::layout_sizes::MOST_GROUP;
-use crash_core::Change;
-use group_board::{Busy, SlotState};
+use group_board::{Busy, Change, SlotState};
 use group_laws::group_sizes::{LOCK_WORDS, SLOTS};
 use log_entry::entry_words;
 use pm_region::Region;

@@ -23,7 +23,7 @@ use crate::rule::{CoreView, Dooms, Fails, Finishes, Marks, Named, Retires, Withd
 use crate::seat_leading::{pool_place_of, pool_word_of, unpacked};
 use crate::slot_order::bring;
 use crate::table_words::{DONE_WORD, EMPTY_WORD, FAILED_WORD};
-use crash_core::Change;
+use group_board::Change;
 use group_laws::group_sizes::LOCK_WORDS;
 use log_entry::entry::EntryName;
 use pm_region::Region;

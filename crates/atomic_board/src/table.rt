@@ -29,7 +29,7 @@ use crate::table_words::MOST_SLOTS;
 use crate::token::{CoreSeat, SeatToken};
 use atomic_table::{Closed, Join, Perch, Split, Table};
 use chunk_map::layout_sizes::MOST_GROUP;
-use fs_errors::Memory;
+use fs_model::Memory;
 use group_board::Opening;
 use group_laws::group_sizes::{LOCK_WORDS, SLOTS};
 use std::alloc::Global;

@@ -22,7 +22,7 @@ use Rattle.group_board.specs.Views.{after_take, after_withdraw}
 use Rattle.group_board.specs.Told.{state_of}
 use Rattle.group_board.specs.declared.board.SlotState.{SlotState}
 use Rattle.group_board.specs.declared.board.SlotState.TheVariants as slots
-use Rattle.crash_core.specs.declared.kinds.Change.{Change}
+use Rattle.group_board.specs.declared.change.Change.{Change}
 use Rattle.batch_leader.specs.declared.taken.Taken.{Taken}
 use Rattle.batch_leader.specs.declared.states.Collecting.{Collecting}
 use Rattle.batch_leader.specs.declared.states.Batch.{Batch}

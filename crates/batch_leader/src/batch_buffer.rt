@@ -3,7 +3,7 @@ ghost use Rattle.std.specs.Prelude.{◌≡◌, ◌≤◌, [], vec_capacity};
 ghost use Rattle.log_entry.specs.declared.entry_limits.TheConstants.{MOST_ENTRIES, MOST_BATCH_WORDS};
 
 use crate::taken::Taken;
-use fs_errors::Memory;
+use fs_model::Memory;
 use log_entry::{MOST_BATCH_WORDS, MOST_ENTRIES, WordBuffer};
 use std::alloc::Global;
 

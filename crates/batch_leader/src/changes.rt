@@ -6,7 +6,7 @@ ghost use Rattle.batch_leader.specs.TakenChanges.{name_in, spelled, MatchBool};
 
 use crate::batch_buffer::BatchBuffer;
 use crate::taken::Taken;
-use crash_core::Change;
+use group_board::Change;
 use log_entry::{EntryName, MOST_BATCH_WORDS, MOST_ENTRIES, WordBuffer, entry_words, write_entry};
 
 /// The changes that a leader took, in order, with the words of their entries.

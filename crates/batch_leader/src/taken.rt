@@ -1,5 +1,5 @@
 // A change on its way through a leader's hands.
-use crash_core::Change;
+use group_board::Change;
 
 /// A change that a leader took out of a slot of a member.
 #[derive(Drop)]

@@ -4,7 +4,7 @@ ghost use Rattle.pm_region.specs.Cell.{Cell, certain};
 ghost use Rattle.pm_region.specs.State.{State, During, IsTelling, LineInRange, cell_now, Faulted, WordsLie};
 ghost use Rattle.pm_region.specs.Words.{KeepsOutside, Sets, lasts};
 
-use fs_errors::Memory;
+use fs_model::Memory;
 use pm_region::{LINE_WORDS, Region, RegionFault};
 use std::alloc::Global;
 

@@ -3,7 +3,7 @@ ghost use Rattle.std.specs.Prelude.{◌≡◌, ◌-◌, ◌<◌, length, slice_i
 ghost use Rattle.conflict_queue.specs.Chains.{AllFree, bare, node_with};
 
 use crate::types::Held;
-use fs_errors::Memory;
+use fs_model::Memory;
 use std::alloc::Global;
 use std::mem::replace;
 

@@ -5,8 +5,7 @@ ghost use Rattle.conflict_queue.specs.Waiting.{waiting, held_with, AddsLast, Tak
 use crate::key_chains::{Chain, add_last, place_of, take_first};
 use crate::nodes::{NODES, Node, free_nodes};
 use crate::types::{Held, NoNode};
-use fs_errors::Memory;
-use fs_model::{Key, Request};
+use fs_model::{Key, Memory, Request};
 use std::alloc::Global;
 use std::marker::Model;
 

@@ -11,7 +11,8 @@ use crate::plain_allocator::Plain;
 use chunk_map::{Head, Layout};
 use fs_model::Value;
 use lazy_alloc::{Allocator, class_of, value_in};
-use pm_region::{Region, SplitRegion, SteadyRegion};
+use pm_region::{Region, SplitRegion};
+use region_memory::SteadyRegion;
 use std::alloc::Global;
 use std::test::Fail;
 

@@ -9,8 +9,7 @@ ghost use Rattle.core_index.specs.Tombs.{list_of};
 ghost use Rattle.core_index.specs.Marks.{kept, mark_of, Rises, IsPlace, IsAbsent, AreMarks, marked, Keeps};
 
 use crate::types::{Marked, Standee, Standing};
-use fs_errors::Memory;
-use fs_model::Version;
+use fs_model::{Memory, Version};
 use std::alloc::Global;
 use std::collections::BTreeMap;
 use std::marker::Model;

@@ -11,8 +11,7 @@ ghost use Rattle.core_index.specs.Lives.{entry_home, entry_version, live_key, by
 use crate::short_names::{self, short_of};
 use crate::slot::Slot;
 use crate::types::{Holding, LiveFate, LiveKey, Look, Record, SHARE, Standee};
-use fs_errors::Memory;
-use fs_model::{Key, Value, Version};
+use fs_model::{Key, Memory, Value, Version};
 use log_entry::{Body, EntryName};
 use std::alloc::Global;
 use std::marker::Model;

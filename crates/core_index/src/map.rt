@@ -6,8 +6,7 @@ ghost use Rattle.core_index.specs.Index.{Step, ToldAt, known_at, room_at, mortal
 
 use crate::slot::Slot;
 use crate::types::{Settled, Standee};
-use fs_errors::Memory;
-use fs_model::{Key, Version};
+use fs_model::{Key, Memory, Version};
 use log_entry::{Body, EntryName};
 use std::alloc::Global;
 use std::collections::BTreeMap;

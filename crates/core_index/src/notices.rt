@@ -4,7 +4,7 @@ ghost use Rattle.std.specs.List.{AllByRecursion};
 ghost use Rattle.log_entry.specs.declared.entry.EntryName.{EntryName};
 ghost use Rattle.core_index.specs.Noted.{Noted, node_with, bare, chain_of, is_for, IsFor, LacksHome, AreChains, Grows};
 
-use fs_errors::Memory;
+use fs_model::Memory;
 use log_entry::EntryName;
 use std::alloc::Global;
 use std::marker::Model;

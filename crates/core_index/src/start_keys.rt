@@ -12,8 +12,7 @@ use crate::live_list::{LiveList, count_alive, last_of};
 use crate::slot::Slot;
 use crate::tombstones::Tombstones;
 use crate::types::{LiveKey, Look, Tombstone};
-use fs_errors::Memory;
-use fs_model::{Key, Version};
+use fs_model::{Key, Memory, Version};
 use log_entry::{Body, EntryName};
 use std::alloc::Global;
 

@@ -8,8 +8,7 @@ ghost use Rattle.core_index.specs.Tombs.{tomb_home, tomb_version, key_of, name_o
 
 use crate::short_names::{self, HOMES, short_of};
 use crate::types::{Fate, Look, SHARE, Standee, Tombstone};
-use fs_errors::Memory;
-use fs_model::{Key, Version};
+use fs_model::{Key, Memory, Version};
 use log_entry::{Body, EntryName};
 use std::alloc::Global;
 use std::marker::Model;

@@ -23,7 +23,7 @@ use chunk_map::heads::Head;
 use chunk_map::layout_sizes::HEAD_WORDS;
 use chunk_map::layouts::Layout;
 use chunk_map::setting::set_head;
-use fs_errors::Memory;
+use fs_model::Memory;
 use log_entry::{LONGEST_ENTRY, WordBuffer};
 use pm_region::{LINE_WORDS, Region, RegionFault, WORD_BYTES};
 use std::alloc::Global;

@@ -8,7 +8,7 @@ ghost use Rattle.core_log.specs.Places.{place_of};
 
 use crate::types::LogChunk;
 use chunk_map::layouts::Layout;
-use fs_errors::Memory;
+use fs_model::Memory;
 use std::alloc::Global;
 
 /// The tail of a chunk, where the list has it.

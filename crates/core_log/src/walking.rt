@@ -9,7 +9,7 @@ ghost use Rattle.core_log.specs.Walking.{IsBetween, next_entry, step_at, peek_at
 
 use crate::types::{Peek, WalkStep};
 use chunk_map::words::load_words;
-use fs_errors::Memory;
+use fs_model::Memory;
 use log_entry::{EntryName, LONGEST_ENTRY, Read, read_entry, size_of, version_of};
 use pm_region::Region;
 use std::alloc::Global;

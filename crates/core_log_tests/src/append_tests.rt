@@ -4,9 +4,10 @@ ghost use Rattle.core_log.specs.Log.{HoldsEntries};
 
 use chunk_map::Layout;
 use core_log::{CoreLog, Placed};
-use fs_errors::Memory;
+use fs_model::Memory;
 use log_entry::{Body, Entry, WordBuffer, write_entry};
-use pm_region::{Region, RegionFault, SplitRegion, SteadyRegion};
+use pm_region::{Region, RegionFault, SplitRegion};
+use region_memory::SteadyRegion;
 use std::alloc::Global;
 use std::test::Fail;
 
@@ -19,7 +20,7 @@ struct Counted {
 }
 
 impl Region for Counted {
-    ghost use Rattle.pm_region.specs.Steady.{steady_state};
+    ghost use Rattle.region_memory.specs.Steady.{steady_state};
 
     ghost state = { λ a. steady_state a.region };
 

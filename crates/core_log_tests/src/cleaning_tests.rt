@@ -1,16 +1,16 @@
 // The worked cases of cleaning: log chunk 0 has key 1 in versions 1 to 60, a line each, and log chunk 1 is open and has
 // version 61. Expected values are those of the rules of cleaning.
 ghost use Rattle.std.specs.Prelude.{◌≡◌, ◌≤◌, ◌<◌, true, false, is_some, OnOk, IfOk};
-ghost use Rattle.pm_region.specs.Steady.{steady_state};
+ghost use Rattle.region_memory.specs.Steady.{steady_state};
 ghost use Rattle.core_log.specs.Log.{StandsIn, tail_of};
 
 use chunk_map::Layout;
 use core_log::{CoreLog, Room};
-use fs_errors::Memory;
-use fs_model::Value;
+use fs_model::{Memory, Value};
 use log_cleaner::{Clearing, Standing, Victim, copy_live, to_copy, victim};
 use log_entry::{Body, Entry, EntryName, WordBuffer, entry_words, write_entry};
-use pm_region::{Pick, Region, RegionFault, SplitRegion, SteadyRegion};
+use pm_region::{Region, RegionFault, SplitRegion};
+use region_memory::{Pick, SteadyRegion};
 use std::alloc::Global;
 use std::process::Abort;
 use std::test::Fail;
@@ -23,7 +23,7 @@ struct Silent {
 
 impl Region for Silent {
     ghost use Rattle.std.specs.Prelude.{false};
-    ghost use Rattle.pm_region.specs.Steady.{steady_state};
+    ghost use Rattle.region_memory.specs.Steady.{steady_state};
 
     ghost state = { λ a. record (steady_state a.region) { told = λ t. false } };
 

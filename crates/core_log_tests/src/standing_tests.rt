@@ -1,5 +1,5 @@
 // Names that stand in a log, and what becomes of them.
-use fs_errors::Memory;
+use fs_model::Memory;
 use log_entry::EntryName;
 use log_standing::Standing;
 use std::process::Abort;

@@ -11,7 +11,7 @@ use Rattle.log_entry.specs.declared.entry.EntryName.{EntryName}
 use Rattle.core_log.specs.Log.{tail_of}
 use Rattle.core_log.specs.Walking.{entries_in}
 use Rattle.core_room.specs.RoomRule.{KeepsRoom, KeepsRoomAtCleaning}
-use Rattle.crash_core.specs.declared.names.Notices.{Notices}
+use Rattle.group_board.specs.declared.names.Notices.{Notices}
 use Rattle.log_standing.specs.NameCounts.{StandingState, count_of, is_told}
 use Rattle.log_standing.specs.Tallies.{TallyState}
 use Rattle.log_entry.specs.declared.entry.Entry.{Entry}

@@ -4,7 +4,7 @@ use Rattle.log_standing.specs.NameCounts.{StandingState}
 use Rattle.log_cleaner.specs.declared.types.Victim.{Victim}
 use Rattle.core_index.specs.Index.{all_untold}
 use Rattle.core_index.specs.Slots as slots
-use Rattle.crash_core.specs.declared.names.Notices.{Notices as ToSend}
+use Rattle.group_board.specs.declared.names.Notices.{Notices as ToSend}
 use Rattle.group_laws.specs.State.{Notices}
 use Rattle.core_worker.specs.declared.types.Cleaning.{Cleaning}
 use Rattle.core_worker.specs.declared.types.Cleaning.TheVariants.{Nothing, Copying, Doomed}

@@ -9,7 +9,7 @@ use Rattle.log_standing.specs.NameCounts.{name_eq, times_in}
 use Rattle.log_standing.proofs.Clients.{same_name}
 use Rattle.chunk_map.specs.declared.layouts.Geometry.{Geometry}
 use Rattle.chunk_map.specs.Layouts.{owner}
-use Rattle.crash_core.specs.declared.names.Notices.{Notices}
+use Rattle.group_board.specs.declared.names.Notices.{Notices}
 use Rattle.group_laws.specs.Updates.{has}
 use Rattle.core_worker.specs.CleaningLeft.{box_left}
 use Rattle.core_worker.specs.GoneMail.{names_of, with_gone}

@@ -6,7 +6,7 @@ use Rattle.std.proofs.lemmas.Bool.{cases_eq, cases_lt}
 use Rattle.std.proofs.lemmas.Nat.{mod-mul-add}
 use Rattle.log_entry.specs.declared.entry.EntryName.{EntryName}
 use Rattle.chunk_map.specs.declared.layouts.Geometry.{Geometry}
-use Rattle.crash_core.specs.declared.names.Notices.{Notices}
+use Rattle.group_board.specs.declared.names.Notices.{Notices}
 use Rattle.group_laws.specs.Places.{Place, members, core_of}
 use Rattle.core_worker.specs.GoneMail.{with_gone, FilesGone}
 

@@ -4,7 +4,7 @@ use Rattle.std.specs.Prelude.{MatchOption, is_some}
 use Rattle.std.proofs.lemmas.Bool.{cases_eq}
 use Rattle.chunk_map.specs.declared.layouts.Geometry.{Geometry}
 use Rattle.recover.specs.declared.types.CoreStart.{CoreStart}
-use Rattle.fs_errors.specs.declared.Memory.{Memory}
+use Rattle.fs_model.specs.declared.memory.Memory.{Memory}
 use Rattle.fs_model.specs.declared.model.Request.{Request}
 use Rattle.fs_model.specs.declared.model.Request.TheVariants as requests
 use Rattle.fs_model.specs.declared.model.Reply.{Reply}

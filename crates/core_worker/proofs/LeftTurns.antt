@@ -2,7 +2,7 @@
 use Rattle.std.proofs.Common.{◌≡◌, ⊎_elim, ℕ, Bool, true, false, List, Option, Some, None, Result, Ok, Err, sym, ◌∙◌, ap, subst}
 use Rattle.std.specs.Prelude.{IfSome}
 use Rattle.pm_region.specs.State.{State}
-use Rattle.fs_errors.specs.declared.Memory.{Memory}
+use Rattle.fs_model.specs.declared.memory.Memory.{Memory}
 use Rattle.group_laws.specs.State.{Group}
 use Rattle.group_laws.specs.MemberViews.{View, view_of}
 use Rattle.group_laws.specs.Runs.{Kind}

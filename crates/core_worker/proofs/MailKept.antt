@@ -6,7 +6,7 @@ use Rattle.std.proofs.lemmas.Bool.{cases_eq, ne_eqb, eq-eqb, or_cases}
 use Rattle.log_entry.specs.declared.entry.Entry.{Entry}
 use Rattle.log_entry.specs.declared.entry.EntryName.{EntryName}
 use Rattle.core_index.specs.Records.{KeyRecord}
-use Rattle.crash_core.specs.declared.names.Notices.{Notices}
+use Rattle.group_board.specs.declared.names.Notices.{Notices}
 use Rattle.core_worker.proofs.ListedNames.{has_append}
 use Rattle.group_laws.specs.Places.{Place, members, owner}
 use Rattle.group_laws.specs.Updates.{has}

@@ -10,8 +10,8 @@ use Rattle.core_index.specs.Index.{known_at}
 use Rattle.core_index.specs.Records.{Awaits, is_forgettable, standing_at, standing_of, standing_with}
 use Rattle.core_index.specs.Slots as slots
 use Rattle.core_index.specs.declared.types.Standing.{Standing}
-use Rattle.crash_core.specs.declared.names.Notices.{Notices}
-use Rattle.crash_core.specs.declared.names.Names.{Names}
+use Rattle.group_board.specs.declared.names.Notices.{Notices}
+use Rattle.group_board.specs.declared.names.Names.{Names}
 use Rattle.core_worker.proofs.ListedNames.{has_append}
 use Rattle.group_laws.specs.Places.{Place, core_of, owner}
 use Rattle.group_laws.specs.State.{Group}

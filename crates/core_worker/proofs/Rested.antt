@@ -11,7 +11,7 @@ use Rattle.group_laws.specs.MemberViews.{View, view_of}
 use Rattle.group_laws.specs.Runs.{Kind}
 use Rattle.group_board.specs.Told.{Makes}
 use Rattle.pm_region.specs.State.{State}
-use Rattle.fs_errors.specs.declared.Memory.{Memory}
+use Rattle.fs_model.specs.declared.memory.Memory.{Memory}
 use Rattle.group_board.specs.Seats.{SeatAt}
 use Rattle.batch_leader.specs.TakenChanges.{MatchBool}
 use Rattle.core_worker.specs.declared.types.Turn.{Turn}

@@ -2,7 +2,7 @@
 use Rattle.std.proofs.Common.{◌≡◌, inl, ◌+◌, true, [], ◌∷◌, ◌++◌, Result, Ok, Err, OnOk, OnErr, Option, Some, refl, sym, ◌∙◌, ap, subst}
 use Rattle.std.specs.Prelude.{is_ok, IfSome}
 use Rattle.pm_region.specs.State.{State}
-use Rattle.crash_core.specs.declared.kinds.Change.{Change}
+use Rattle.group_board.specs.declared.change.Change.{Change}
 use Rattle.core_index.specs.Records.{pointer_of}
 use Rattle.lazy_alloc.specs.Sets.{block_is_used}
 use Rattle.group_laws.specs.State.{Group}

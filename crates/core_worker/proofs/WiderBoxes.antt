@@ -4,7 +4,7 @@ use Rattle.std.specs.List.{AllByRecursion}
 use Rattle.std.proofs.Math.Seq.{take-suc}
 use Rattle.std.proofs.lemmas.List.{map-append}
 use Rattle.log_entry.specs.declared.entry.EntryName.{EntryName}
-use Rattle.crash_core.specs.declared.names.Notices.{Notices}
+use Rattle.group_board.specs.declared.names.Notices.{Notices}
 use Rattle.core_worker.specs.BeginsCleaning.{waiting_of, MakesPlaces}
 use Rattle.core_worker.specs.GoneMail.{HasPlacesFor}
 use Rattle.core_worker.specs.Outbox.{HasSpare}

@@ -5,8 +5,8 @@ use Rattle.pm_region.specs.State.{State, IsTelling}
 use Rattle.log_entry.specs.declared.entry.EntryName.{EntryName}
 use Rattle.core_log.specs.Walking.{entries_in}
 use Rattle.lazy_alloc.specs.Sets.{free_chunk_count}
-use Rattle.crash_core.specs.declared.names.Notices.{Notices}
-use Rattle.fs_errors.specs.declared.Memory.{Memory}
+use Rattle.group_board.specs.declared.names.Notices.{Notices}
+use Rattle.fs_model.specs.declared.memory.Memory.{Memory}
 use Rattle.log_cleaner.specs.Choosing.{IsChosen, IsVictim}
 use Rattle.log_cleaner.specs.Clearing.{ClearingState, IsFresh}
 use Rattle.log_cleaner.specs.Floors.{HasFloors, Searches}

@@ -6,8 +6,8 @@ use Rattle.log_standing.specs.NameCounts.{StandingState}
 use Rattle.core_index.specs.Index.{all_untold}
 use Rattle.core_index.specs.Slots as slots
 use Rattle.group_laws.specs.State.{Notices}
-use Rattle.crash_core.specs.declared.names.Notices.{Notices as ToSend}
-use Rattle.crash_core.specs.Shows.{notices_of}
+use Rattle.group_board.specs.declared.names.Notices.{Notices as ToSend}
+use Rattle.group_board.specs.Mailing.{notices_of}
 use Rattle.group_laws.specs.Updates.{sum_below}
 use Rattle.core_worker.specs.declared.types.Cleaning.{Cleaning}
 use Rattle.core_worker.specs.declared.types.Cleaning.TheVariants as cleanings

@@ -4,8 +4,8 @@ use Rattle.std.specs.List.{filter}
 use Rattle.log_entry.specs.declared.entry.EntryName.{EntryName}
 use Rattle.chunk_map.specs.declared.layouts.Geometry.{Geometry}
 use Rattle.chunk_map.specs.Layouts.{owner}
-use Rattle.crash_core.specs.Names.{NameList}
-use Rattle.crash_core.specs.declared.names.Notices.{Notices}
+use Rattle.group_board.specs.Names.{NameList}
+use Rattle.group_board.specs.declared.names.Notices.{Notices}
 use Rattle.group_laws.specs.Places.{Place, core_of}
 
 -- those of the names that are of a core's keys

@@ -1,7 +1,7 @@
 -- Dead names that were taken from the index and are told another member next, in the words of the member's own view.
 use Rattle.std.specs.Prelude.{◌≡◌, ◌||◌, ℕ, ◌<◌, Bool, true, false, cond, List, [], ◌∷◌, ◌++◌, length, Some, slice_get}
 use Rattle.log_entry.specs.declared.entry.EntryName.{EntryName}
-use Rattle.crash_core.specs.declared.names.Notices.{Notices}
+use Rattle.group_board.specs.declared.names.Notices.{Notices}
 use Rattle.group_laws.specs.Updates.{has}
 use Rattle.group_laws.specs.Places.{Place, members, owner}
 use Rattle.group_laws.specs.MemberViews.{View}

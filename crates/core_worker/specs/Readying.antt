@@ -1,13 +1,13 @@
 -- How a core makes ready what it has to tell, sends what waits for the lowest member whose mailbox is empty, and finds that it can send nothing.
 use Rattle.std.specs.Prelude.{◌≡◌, ◌≢◌, ◌⊎◌, ℕ, ◌+◌, ◌<◌, ◌≤◌, Bool, true, false, List, ◌++◌, length, Option, Some, slice_get, option_map, Result, Ok, Err}
-use Rattle.fs_errors.specs.declared.Memory.{Memory}
+use Rattle.fs_model.specs.declared.memory.Memory.{Memory}
 use Rattle.log_entry.specs.declared.entry.EntryName.{EntryName}
 use Rattle.store_image.specs.Facts.{In}
 use Rattle.core_index.specs.Index.{known_at, all_untold, SameRoom}
 use Rattle.core_index.specs.Records.{Awaits, standing_at, standing_of, standing_with}
 use Rattle.core_index.specs.Slots as slots
-use Rattle.crash_core.specs.declared.names.Notices.{Notices}
-use Rattle.crash_core.specs.Shows.{notices_of}
+use Rattle.group_board.specs.declared.names.Notices.{Notices}
+use Rattle.group_board.specs.Mailing.{notices_of}
 use Rattle.group_laws.specs.declared.types.Seen.{Seen}
 use Rattle.group_laws.specs.declared.types.Seen.TheVariants.{Mail}
 use Rattle.group_laws.specs.Places.{Place, members, core_of}

@@ -10,7 +10,7 @@ use Rattle.group_laws.specs.State.{Group}
 use Rattle.group_laws.specs.MemberViews.{View}
 use Rattle.group_laws.specs.Runs.{Kind, Runs}
 use Rattle.group_laws.specs.Runs.Kind.{Lock}
-use Rattle.fs_errors.specs.declared.Memory.{Memory}
+use Rattle.fs_model.specs.declared.memory.Memory.{Memory}
 use Rattle.group_board.specs.Seats.{SeatAt}
 use Rattle.group_board.specs.Told.{Makes}
 use Rattle.core_worker.specs.declared.types.Turn.{Turn}

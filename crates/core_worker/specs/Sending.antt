@@ -4,8 +4,8 @@ use Rattle.log_entry.specs.declared.entry.EntryName.{EntryName}
 use Rattle.core_index.specs.Index.{known_at, all_untold, Tells}
 use Rattle.core_index.specs.Records.{Awaits}
 use Rattle.core_index.specs.Slots as slots
-use Rattle.crash_core.specs.declared.names.Notices.{Notices}
-use Rattle.crash_core.specs.Shows.{notices_of}
+use Rattle.group_board.specs.declared.names.Notices.{Notices}
+use Rattle.group_board.specs.Mailing.{notices_of}
 use Rattle.group_laws.specs.declared.types.Seen.TheVariants.{Mail}
 use Rattle.group_laws.specs.Runs.{Kind}
 use Rattle.group_laws.specs.Places.{Place}

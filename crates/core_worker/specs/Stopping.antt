@@ -5,7 +5,7 @@ use Rattle.pm_region.specs.State.{State, IsTelling}
 use Rattle.fs_model.specs.declared.model.Reply.TheVariants.{Stopped}
 use Rattle.log_entry.specs.declared.entry.Entry.{Entry}
 use Rattle.core_index.specs.Records.{pointer_of}
-use Rattle.crash_core.specs.declared.kinds.Change.{Change}
+use Rattle.group_board.specs.declared.change.Change.{Change}
 use Rattle.group_laws.specs.State.{Group}
 use Rattle.group_laws.specs.MemberViews.{View}
 use Rattle.group_board.specs.Seats.{SeatAt}

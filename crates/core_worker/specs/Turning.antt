@@ -1,5 +1,5 @@
 -- What every part of a turn keeps, and what a whole turn did.
-use Rattle.fs_errors.specs.declared.Memory.{Memory}
+use Rattle.fs_model.specs.declared.memory.Memory.{Memory}
 use Rattle.std.specs.Prelude.{Result, Ok, Err, ◌≡◌, ℕ, ◌<◌, Bool, true, false, List, [], Option}
 use Rattle.group_laws.specs.declared.group_sizes.TheConstants.{SLOTS}
 use Rattle.pm_region.specs.State.{State, IsTelling}

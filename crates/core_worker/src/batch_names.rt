@@ -5,7 +5,7 @@ ghost use Rattle.core_worker.specs.StandingTies.{AddsNames, SameNames, most_name
 
 use crate::worker::Worker;
 use batch_leader::Batch;
-use fs_errors::Memory;
+use fs_model::Memory;
 use log_standing::Standing;
 
 /// As many names as a batch may have.

@@ -17,7 +17,7 @@ ghost use Rattle.core_worker.specs.declared.worker.Worker.{Worker};
 ghost use Rattle.core_worker.specs.Supplies.{rest, room_for, supply_of, under_way};
 
 use core_log::{CoreLog, Room};
-use fs_errors::Memory;
+use fs_model::Memory;
 use log_cleaner::{Clearing, Victim, tally_of, victim};
 use log_standing::{Standing, Tally};
 use pm_region::Region;

@@ -12,7 +12,7 @@ use crate::begin_cleaning::{Begun, begin_cleaning};
 use crate::sending::roomier;
 use crate::types::Cleaning;
 use crate::worker::Worker;
-use fs_errors::Memory;
+use fs_model::Memory;
 use group_board::Notices;
 use pm_region::Region;
 use std::alloc::Global;

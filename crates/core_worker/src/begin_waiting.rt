@@ -17,8 +17,7 @@ ghost use Rattle.core_worker.specs.Left.{left};
 use crate::accepting::is_busy;
 use crate::worker::Worker;
 use conflict_queue::Held;
-use fs_errors::Memory;
-use fs_model::Key;
+use fs_model::{Key, Memory};
 use pm_region::Region;
 use std::alloc::Global;
 

@@ -20,7 +20,7 @@ use crate::doom_turn::doom_chunk;
 use crate::gone_mail::file_gone;
 use crate::types::{Cleaning, Turn, Victim};
 use crate::worker::Worker;
-use fs_errors::Memory;
+use fs_model::Memory;
 use group_board::Board;
 use pm_region::Region;
 use std::alloc::Global;

@@ -4,7 +4,7 @@ ghost use Rattle.log_standing.specs.NameCounts.{StandingState};
 ghost use Rattle.log_cleaner.specs.declared.types.Victim.{Victim};
 ghost use Rattle.core_index.specs.Index.{all_untold};
 ghost use Rattle.core_index.specs.Slots as slots;
-ghost use Rattle.crash_core.specs.declared.names.Notices.{Notices as ToSend};
+ghost use Rattle.group_board.specs.declared.names.Notices.{Notices as ToSend};
 ghost use Rattle.group_laws.specs.State.{Notices};
 ghost use Rattle.core_worker.specs.declared.types.Cleaning.{Cleaning};
 ghost use Rattle.core_worker.specs.declared.types.Cleaning.TheVariants.{Nothing, Copying, Doomed};

@@ -2,7 +2,7 @@
 ghost use Rattle.std.specs.Prelude.{◌≤◌};
 ghost use Rattle.log_entry.specs.declared.entry_limits.TheConstants.{MOST_BATCH_WORDS};
 
-use fs_errors::Memory;
+use fs_model::Memory;
 use log_entry::{MOST_BATCH_WORDS, WordBuffer};
 use std::alloc::Global;
 

@@ -1,6 +1,6 @@
 // Names that are gone from the own log, in the outbox for the owners of their keys.
 ghost use Rattle.std.specs.Prelude.{◌≡◌, ◌≢◌, ℕ, ◌+◌, ◌≤◌, ◌<◌, length, Some, option_map, slice_get};
-ghost use Rattle.crash_core.specs.declared.names.Notices.{Notices as ToSend};
+ghost use Rattle.group_board.specs.declared.names.Notices.{Notices as ToSend};
 ghost use Rattle.group_laws.specs.Places.{Place as PlaceOf, members, core_of};
 ghost use Rattle.core_worker.specs.GoneMail.{names_of, with_names, with_gone, HasPlacesFor, FilesGone};
 

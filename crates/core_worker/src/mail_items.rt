@@ -16,7 +16,7 @@ ghost use Rattle.core_worker.specs.Turns.{InOrderAt, PassesPost};
 use crate::log_names::hear_notices;
 use crate::types::Turn;
 use crate::worker::Worker;
-use fs_errors::Memory;
+use fs_model::Memory;
 use group_board::Board;
 use pm_region::Region;
 use std::alloc::Global;

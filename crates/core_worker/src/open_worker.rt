@@ -20,7 +20,7 @@ use crate::worker::Worker;
 use batch_leader::BatchBuffer;
 use chunk_map::Layout;
 use conflict_queue::ConflictQueue;
-use fs_errors::Memory;
+use fs_model::Memory;
 use group_board::{Names, Notices};
 use group_laws::group_sizes::SLOTS;
 use recover::CoreStart;

@@ -26,8 +26,7 @@ ghost use Rattle.core_worker.specs.Posting.{HasNoBlock, PostsPlain, IsStagedWith
 
 use crate::types::Place;
 use crate::worker::Worker;
-use crash_core::Change;
-use group_board::Board;
+use group_board::{Board, Change};
 use group_laws::group_sizes::SLOTS;
 use lazy_alloc::Allocator;
 use log_entry::entry_lines;

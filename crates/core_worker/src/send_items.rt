@@ -1,8 +1,8 @@
 // What a turn sends to other members.
 ghost use Rattle.std.specs.Prelude.{◌≡◌, ◌≢◌, ◌⊎◌, ℕ, ◌<◌, true, false, length, Some, slice_get, vec_capacity, IfOk, OnOk, OnErr};
 ghost use Rattle.pm_region.specs.State.{State};
-ghost use Rattle.crash_core.specs.declared.names.Notices.{Notices as ToSend};
-ghost use Rattle.crash_core.specs.Shows.{notices_of};
+ghost use Rattle.group_board.specs.declared.names.Notices.{Notices as ToSend};
+ghost use Rattle.group_board.specs.Mailing.{notices_of};
 ghost use Rattle.group_laws.specs.Places as groups;
 ghost use Rattle.group_laws.specs.MemberViews.{View};
 ghost use Rattle.group_board.specs.Conditions.{MaySend};
@@ -20,7 +20,7 @@ ghost use Rattle.core_worker.specs.Turns.{InOrderAt};
 use crate::sending::{send_waiting, take_notices};
 use crate::types::Cleaning;
 use crate::worker::Worker;
-use fs_errors::Memory;
+use fs_model::Memory;
 use group_board::Board;
 use std::alloc::Global;
 

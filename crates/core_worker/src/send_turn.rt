@@ -1,7 +1,7 @@
 // What a turn sends: all that waits for the lowest other member whose mailbox is empty.
 ghost use Rattle.std.specs.Prelude.{◌≡◌, ◌≢◌, ◌<◌, true, false, [], length, Some, slice_get};
 ghost use Rattle.pm_region.specs.State.{State};
-ghost use Rattle.crash_core.specs.declared.names.Notices.{Notices as ToSend};
+ghost use Rattle.group_board.specs.declared.names.Notices.{Notices as ToSend};
 ghost use Rattle.group_laws.specs.Places.{members};
 ghost use Rattle.core_worker.specs.Outbox.{TellsNothing};
 ghost use Rattle.core_worker.specs.Readying.{IfNoneSent, IfOver, SendSteps, SendsBeside, SendsFirst, SendsTo, StaysTied};
@@ -11,7 +11,7 @@ ghost use Rattle.core_worker.specs.Turning.{KeepsTurn};
 ghost use Rattle.core_worker.specs.Turns.{InOrderAt};
 
 use crate::worker::Worker;
-use fs_errors::Memory;
+use fs_model::Memory;
 use group_board::{Board, Names};
 use std::alloc::Global;
 

@@ -3,7 +3,7 @@ ghost use Rattle.std.specs.Prelude.{◌≡◌, ℕ, ◌+◌, ◌<◌, ◌≤◌,
 ghost use Rattle.log_entry.specs.declared.entry.EntryName.{EntryName};
 ghost use Rattle.core_index.specs.Index.{known_at};
 ghost use Rattle.core_index.specs.Slots as slots;
-ghost use Rattle.crash_core.specs.Shows.{notices_of};
+ghost use Rattle.group_board.specs.Mailing.{notices_of};
 ghost use Rattle.group_laws.specs.Places as groups;
 ghost use Rattle.group_laws.specs.MemberViews.{View};
 ghost use Rattle.group_board.specs.Conditions.{MaySend};
@@ -13,7 +13,7 @@ ghost use Rattle.core_worker.specs.Mails.{MailSteps};
 ghost use Rattle.core_worker.specs.Sending.{NoneAwaits, SendsNotices, TakesNames};
 
 use core_index::CoreIndex;
-use fs_errors::Memory;
+use fs_model::Memory;
 use group_board::{Board, MailFull, Names, Notices};
 use std::alloc::Global;
 use std::mem;

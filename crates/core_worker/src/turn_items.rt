@@ -31,7 +31,7 @@ use crate::search_places::Search;
 use crate::types::{Leading, Turn};
 use crate::worker::Worker;
 use core_log::Room;
-use fs_errors::Memory;
+use fs_model::Memory;
 use group_board::Board;
 use group_laws::group_sizes::SLOTS;
 use pm_region::Region;

@@ -5,13 +5,13 @@ use Rattle.std.proofs.lemmas.Bool.{cases_lt, cond_both}
 use Rattle.std.proofs.lemmas.Bool.Decides.{nat_tests}
 use Rattle.std.proofs.Math.ListN.{get_or-eq_default}
 use Rattle.pm_region.specs.Cell.{Cell, certain, stored, flushed, fenced}
-use Rattle.pm_region.specs.Journals.{act, cell_after, steps_to}
-use Rattle.pm_region.specs.Steady.{steady_state}
+use Rattle.region_memory.specs.Journals.{act, cell_after, steps_to}
+use Rattle.region_memory.specs.Steady.{steady_state}
 use Rattle.pm_region.specs.Words.{lasts}
-use Rattle.pm_region.specs.declared.history.History.{History}
-use Rattle.pm_region.specs.declared.steady.SteadyRegion.{SteadyRegion}
-use Rattle.pm_region.specs.declared.step.Step.{Step}
-use Rattle.pm_region.specs.declared.step.Step.TheVariants.{Store, Flush, Fence, Nothing}
+use Rattle.region_memory.specs.declared.history.History.{History}
+use Rattle.region_memory.specs.declared.steady.SteadyRegion.{SteadyRegion}
+use Rattle.region_memory.specs.declared.step.Step.{Step}
+use Rattle.region_memory.specs.declared.step.Step.TheVariants.{Store, Flush, Fence, Nothing}
 use Rattle.chunk_map.specs.Layouts.{numbers}
 use Rattle.group_board.specs.Journals.{image_of}
 

@@ -1,7 +1,7 @@
 // Where no core has work, all have ended, and no answer is taken.
 use atomic_board::CoreSeat;
 use core_worker::OpenGate;
-use pm_region::SteadyPiece;
+use region_memory::SteadyPiece;
 use std::test::Fail;
 use thread_engine::core_job::CoreJob;
 use thread_engine::desk::{Desk, work_at_desk};

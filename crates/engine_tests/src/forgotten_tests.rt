@@ -1,18 +1,18 @@
 // A put that a gate holds back while its key is forgotten has the first version from then on.
 ghost use Rattle.std.specs.Prelude.{◌≡◌, ◌%◌, OnOk};
-ghost use Rattle.pm_region.specs.Steady.{steady_state};
+ghost use Rattle.region_memory.specs.Steady.{steady_state};
 ghost use Rattle.fs_model.specs.Cells.{key_of};
 ghost use Rattle.engine_tests.specs.WorkerTrials.{IsSeated};
 
 use crate::gate_tests::{ShutGate, accept, put, seated, turns};
 use crate::worker_tests::attached;
 use core_worker::{Gate, OpenGate, Worker};
-use fs_errors::Memory;
-use fs_model::{Key, Request, Version};
+use fs_model::{Key, Memory, Request, Version};
 use group_board::{Board, LocalSeat};
 use log_entry::EntryName;
-use pm_region::{Region, SteadyRegion};
+use pm_region::Region;
 use recover::recover;
+use region_memory::SteadyRegion;
 use std::alloc::Global;
 use std::test::Fail;
 

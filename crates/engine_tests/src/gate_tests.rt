@@ -1,7 +1,7 @@
 // A put that a gate holds back, and the turns that then write it. The board is opened on what recovery found.
 ghost use Rattle.std.specs.Prelude.{◌≡◌, ℕ, List, [], ◌/◌, ◌<◌, ◌%◌, true, false, IfOk, IfSome, OnOk};
 ghost use Rattle.pm_region.specs.State.{IsTelling};
-ghost use Rattle.pm_region.specs.Steady.{steady_state};
+ghost use Rattle.region_memory.specs.Steady.{steady_state};
 ghost use Rattle.fs_model.specs.Cells.{key_of};
 ghost use Rattle.chunk_map.specs.Layouts.{layout_of};
 ghost use Rattle.store_image.specs.Soundness as images;
@@ -13,11 +13,11 @@ ghost use Rattle.engine_tests.specs.WorkerTrials.{IsSeated, IsAtBoard};
 
 use crate::worker_tests::attached;
 use core_worker::{Answer, Gate, OpenGate, Point, Turn, Worker};
-use fs_errors::Memory;
-use fs_model::{Key, Reply, Request, Value};
+use fs_model::{Key, Memory, Reply, Request, Value};
 use group_board::{Board, LocalBoard, LocalSeat, Opening};
-use pm_region::{Region, SteadyRegion};
+use pm_region::Region;
 use recover::recover;
+use region_memory::SteadyRegion;
 use std::alloc::Global;
 use std::marker::{Brand, PhantomData};
 use std::process::Abort;

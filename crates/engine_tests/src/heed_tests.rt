@@ -1,6 +1,6 @@
 // One core's job with a put in its queue: it is answered, or left where another core has found no memory.
 ghost use Rattle.std.specs.Prelude.{◌≡◌, ℕ, [], ◌∷◌, ◌%◌, IfOk};
-ghost use Rattle.pm_region.specs.Steady.{steady_state};
+ghost use Rattle.region_memory.specs.Steady.{steady_state};
 ghost use Rattle.fs_model.specs.declared.model.Request.{Request};
 ghost use Rattle.fs_model.specs.Cells.{key_of};
 ghost use Rattle.core_worker.specs.Supplies.{HasKeptRoom};
@@ -13,7 +13,8 @@ use crate::worker_tests::attached;
 use core_worker::{OpenGate, Worker};
 use fs_model::{Key, Request, Value};
 use group_board::{Board, LocalSeat};
-use pm_region::{Region, SteadyRegion};
+use pm_region::Region;
+use region_memory::SteadyRegion;
 use std::alloc::Global;
 use std::collections::VecDeque;
 use std::sync::Wait;

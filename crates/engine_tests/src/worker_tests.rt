@@ -1,18 +1,18 @@
 // A worker over what recovery finds, in the second of two groups. Expected values are those of the format's rules.
 ghost use Rattle.std.specs.Prelude.{◌≡◌, ℕ, ◌%◌, length, IfOk, IfSome};
 ghost use Rattle.pm_region.specs.State.{IsTelling};
-ghost use Rattle.pm_region.specs.Steady.{steady_state};
+ghost use Rattle.region_memory.specs.Steady.{steady_state};
 ghost use Rattle.recover.specs.Regions.{IsCertain};
 ghost use Rattle.engine_tests.specs.WorkerTrials.{MayAccept};
 
 use core_index::CoreIndex;
 use core_worker::{Answer, Worker};
-use fs_errors::Memory;
-use fs_model::{Key, Reply, Request};
+use fs_model::{Key, Memory, Reply, Request};
 use log_entry::EntryName;
 use log_standing::Standing;
-use pm_region::{Pick, Region, SplitRegion, SteadyRegion};
+use pm_region::{Region, SplitRegion};
 use recover::{CoreStart, recover};
+use region_memory::{Pick, SteadyRegion};
 use std::alloc::Global;
 use std::test::Fail;
 

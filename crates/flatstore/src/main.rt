@@ -5,9 +5,9 @@ mod terminal_watch;
 
 use core_worker::OpenGate;
 use flatstore_commands::{Status, command_line, flatstore, region_path};
-use fs_errors::Memory;
+use fs_model::Memory;
 use fs_text::{StdSink, StdSource};
-use pm_region::FileRegion;
+use region_file::FileRegion;
 use std::alloc::Global;
 use std::io;
 use std::process::ExitCode;

@@ -1,5 +1,5 @@
 // The words of the command line.
-use fs_errors::Memory;
+use fs_model::Memory;
 use std::alloc::{AllocGlobal, Global};
 use std::env;
 use std::env::Env;

@@ -16,7 +16,7 @@ ghost use Rattle.flatstore_commands.specs.declared.report.Status.TheVariants as 
 use crate::replay::{recovered, unread};
 use crate::report::{Report, Status};
 use crate::workers::Workers;
-use fs_errors::Memory;
+use fs_model::Memory;
 use fs_text::{OutError, Sink, Source};
 use pm_region::{AttachError, ReadRegion, Snapshot, SplitRegion};
 use recover::{Recovered, pairs};

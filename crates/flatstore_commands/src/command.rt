@@ -10,7 +10,7 @@ use crate::workers::Workers;
 use chunk_map::Layout;
 use clap::ArgMatches;
 use clap::error::ErrorKind;
-use fs_errors::Memory;
+use fs_model::Memory;
 use std::alloc::Global;
 
 /// What the words ask for. The path is that of the region, and may be empty.

@@ -24,7 +24,7 @@ use crate::loading::load_region;
 use crate::report::{Report, Status};
 use crate::run_threads::run_region;
 use core_worker::Gate;
-use fs_errors::Memory;
+use fs_model::Memory;
 use fs_text::{Sink, Source};
 use pm_region::{ReadRegion, SplitRegion};
 use std::alloc::Global;

@@ -4,15 +4,14 @@ ghost use Rattle.std.specs.Prelude.{◌≡◌, false};
 use crate::change_tests::put;
 use core_room::{Counts, Shortage};
 use flatstore_commands::{Report, Status, command_line, flatstore_alone};
-use fs_errors::Memory;
-use fs_model::Value;
+use fs_model::{Memory, Value};
 use fs_text::{MemSink, MemSource, Sink, Source, SteadySink, SteadySource};
 use group_engine::run_report::Refusal;
 use image_yardstick::image_superblock::read_layout;
 use image_yardstick::{first_fault, recovered_cells};
-use pm_region::{
-    Faults, FenceNumber, FileRegion, MemRegion, Pick, ReadRegion, Region, SplitRegion, SteadyRegion,
-};
+use pm_region::{ReadRegion, Region, SplitRegion};
+use region_file::FileRegion;
+use region_memory::{Faults, FenceNumber, MemRegion, Pick, SteadyRegion};
 use std::alloc::{Alloc, AllocError, AllocGlobal, Global};
 use std::env::{Env, FillError};
 use std::fs;

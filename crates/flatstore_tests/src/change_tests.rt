@@ -3,7 +3,7 @@ use crate::call_tests::{all_done, refuses, row, spent, with};
 use core_room::{Counts, Shortage};
 use flatstore_commands::Status;
 use group_engine::run_report::Refusal;
-use pm_region::SteadyRegion;
+use region_memory::SteadyRegion;
 use std::alloc::Global;
 use std::test::Fail;
 

@@ -2,7 +2,8 @@
 use crate::call_tests::{Ended, call, ends, with};
 use flatstore_commands::{Report, Status};
 use fs_text::{MemSink, Sink, SteadySink, SteadySource};
-use pm_region::{ReadRegion, Region, SplitRegion, SteadyRegion};
+use pm_region::{ReadRegion, Region, SplitRegion};
+use region_memory::SteadyRegion;
 use std::alloc::{AllocGlobal, Global};
 use std::test::Fail;
 use std::thread::Threads;

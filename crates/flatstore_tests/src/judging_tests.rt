@@ -1,7 +1,8 @@
 // What recovery finds of a region is what the yardstick finds of its words.
 use crate::call_tests::words_of;
 use image_yardstick::first_fault;
-use pm_region::{Region, SplitRegion, SteadyRegion};
+use pm_region::{Region, SplitRegion};
+use region_memory::SteadyRegion;
 use std::alloc::Global;
 use std::test::Fail;
 

@@ -2,7 +2,8 @@
 use crate::call_tests::{Ended, call, with};
 use flatstore_commands::{Report, Status};
 use fs_text::{MemSink, Sink, SteadySink, SteadySource};
-use pm_region::{Region, SteadyRegion};
+use pm_region::Region;
+use region_memory::SteadyRegion;
 use std::alloc::{AllocError, AllocGlobal, Global};
 use std::test::Fail;
 use std::thread::Threads;

@@ -2,7 +2,8 @@
 use crate::call_tests::{Ended, PICKS, call, cell, ends, replay, with, words_of};
 use flatstore_commands::{Report, Status};
 use fs_text::{Sink, SteadySink, SteadySource};
-use pm_region::{Faults, FenceNumber, MemRegion, ReadRegion, Region, SplitRegion, SteadyRegion};
+use pm_region::{ReadRegion, Region, SplitRegion};
+use region_memory::{Faults, FenceNumber, MemRegion, SteadyRegion};
 use std::alloc::{AllocError, AllocGlobal, Global};
 use std::test::Fail;
 use std::thread::Threads;

@@ -2,7 +2,8 @@
 use crate::call_tests::{Ended, all_done, call, with};
 use flatstore_commands::{Report, Status};
 use fs_text::{MemSink, MemSource, Sink, SteadySink, SteadySource};
-use pm_region::{ReadRegion, Region, SplitRegion, SteadyRegion};
+use pm_region::{ReadRegion, Region, SplitRegion};
+use region_memory::SteadyRegion;
 use std::alloc::{AllocGlobal, Global};
 use std::process::Abort;
 use std::test::Fail;

@@ -3,7 +3,8 @@
 use crate::call_tests::{PICKS, replay, spent, with};
 use crate::row_tests::text_of;
 use flatstore_commands::{Report, Status};
-use pm_region::{Pick, Region, SteadyRegion};
+use pm_region::Region;
+use region_memory::{Pick, SteadyRegion};
 use std::alloc::{AllocError, AllocGlobal, Global};
 use std::test::Fail;
 use std::thread::Threads;

@@ -2,8 +2,8 @@
 ghost use Rattle.std.specs.Prelude.{◌≡◌, IfOk};
 ghost use Rattle.fs_model.specs.Cells.{answer_to, cell_after};
 
+use crate::memory::Memory;
 use crate::model::{Reply, Request, Value};
-use fs_errors::Memory;
 use std::alloc::Global;
 
 /// The reply to a request whose key has this cell, where nothing is refused. `cell` is the key's value, or none.

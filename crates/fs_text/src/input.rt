@@ -1,6 +1,6 @@
 // A whole input.
 ghost use Rattle.std.specs.Prelude.{◌≡◌, ℕ, ◌≤◌, List, true, false, OnOk, IfOk, IfSome, IsErrOf, Ok};
-ghost use Rattle.fs_errors.specs.Counts.{Rose};
+ghost use Rattle.fs_model.specs.Counts.{Rose};
 ghost use Rattle.fs_text.specs.Bounds.{IsWithin};
 ghost use Rattle.fs_text.specs.Input.{line_at, input_of};
 ghost use Rattle.fs_text.specs.Reading.{Answers, is_said, numbered};

@@ -1,10 +1,10 @@
 // A sink in memory whose calls fail by a list.
 ghost use Rattle.std.specs.Prelude.{◌≡◌, ◌+◌, ◌^◌, ◌-◌, ◌<◌, ◌≤◌, [], Some, IfOk, OnErr, option_copied};
-ghost use Rattle.fs_errors.specs.Counts.{Rose};
+ghost use Rattle.fs_model.specs.Counts.{Rose};
 
 use crate::byte_store::Store;
 use crate::sink::{Sink, SinkFault};
-use fs_errors::Memory;
+use fs_model::Memory;
 use std::alloc::Global;
 
 /// A sink in memory. Its writes and flushes are numbered together from 1, and those of the list fail.

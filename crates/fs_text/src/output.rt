@@ -1,6 +1,6 @@
 // The texts of replies, pairs, entries and tallies.
 ghost use Rattle.std.specs.Prelude.{◌≡◌, ℕ, ◌≤◌, List, ◌++◌, true, string_bytes, IfOk, OnOk, OnErr, IsErrOf};
-ghost use Rattle.fs_errors.specs.Counts.{Rose};
+ghost use Rattle.fs_model.specs.Counts.{Rose};
 ghost use Rattle.fs_text.specs.Output.{ended, lines_text, reply_line, replies_text, pair_line, pairs_text, body_text, place_text, entry_line, entries_text, count_line, tally_text};
 ghost use Rattle.fs_text.specs.Streams.{Takes, TakesUpTo, TakesPrefix};
 

@@ -7,8 +7,7 @@ use crate::fields::{core_at, cut, key_at, turns_at};
 use crate::input_limits::{LONGEST_LINE, MOST_LINE_TURNS};
 use crate::line::Line;
 use crate::totals::Totals;
-use fs_errors::Memory;
-use fs_model::{Request, Value};
+use fs_model::{Memory, Request, Value};
 use std::alloc::{AllocError, Global};
 
 /// Why a line gives nothing.

@@ -1,6 +1,6 @@
 // A whole source.
 ghost use Rattle.std.specs.Prelude.{◌≡◌, ◌≢◌, ◌+◌, ◌<◌, ◌≤◌, false, length, take, drop, IfOk, OnOk, OnErr, IsErrOf};
-ghost use Rattle.fs_errors.specs.Counts.{Rose};
+ghost use Rattle.fs_model.specs.Counts.{Rose};
 ghost use Rattle.fs_text.specs.Streams.{Gives, IsAtEnd};
 
 use crate::source::{Source, SourceFault};

@@ -1,6 +1,6 @@
 // Where an output goes.
 ghost use Rattle.std.specs.Prelude.{◌≡◌, ℕ, ◌<◌, ◌≤◌, List, [], Option, Bool, true, false, length, take, IfOk, OnOk, OnErr};
-ghost use Rattle.fs_errors.specs.Counts.{Rose};
+ghost use Rattle.fs_model.specs.Counts.{Rose};
 ghost use Rattle.fs_text.specs.Streams.{Takes};
 
 use thiserror::Error;

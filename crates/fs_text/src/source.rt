@@ -1,6 +1,6 @@
 // Where an input comes from.
 ghost use Rattle.std.specs.Prelude.{◌≡◌, ℕ, ◌<◌, ◌≤◌, List, [], Bool, false, Option, length, take, IfOk, OnErr};
-ghost use Rattle.fs_errors.specs.Counts.{Rose};
+ghost use Rattle.fs_model.specs.Counts.{Rose};
 ghost use Rattle.fs_text.specs.Streams.{Gives, IsAtEnd, is_end};
 
 use thiserror::Error;

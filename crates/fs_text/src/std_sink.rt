@@ -1,7 +1,7 @@
 // A writer of std as a sink.
 ghost use Rattle.std.specs.Prelude.{◌≡◌, ◌<◌, ◌≤◌, [], true, false, length, take, None, IfOk, OnOk, OnErr, IfSome, IfNone};
 ghost use Rattle.std.specs.Io.KnownBytes.{Appends};
-ghost use Rattle.fs_errors.specs.Counts.{Rose};
+ghost use Rattle.fs_model.specs.Counts.{Rose};
 ghost use Rattle.fs_text.specs.Streams.{Takes};
 
 use crate::sink::{Sink, SinkFault};

@@ -3,7 +3,7 @@ ghost use Rattle.std.specs.Prelude.{◌≡◌, ◌<◌, [], Some, IfOk, option_c
 
 use crate::byte_store::Store;
 use crate::sink::{Sink, SinkFault};
-use fs_errors::Memory;
+use fs_model::Memory;
 use std::alloc::Global;
 
 /// A sink in memory that never fails.

@@ -1,6 +1,7 @@
 // Layouts by the numbers, and a superblock and heads in a region of memory.
 use chunk_map::*;
-use pm_region::{Region, RegionFault, SplitRegion, SteadyRegion};
+use pm_region::{Region, RegionFault, SplitRegion};
+use region_memory::SteadyRegion;
 use std::alloc::Global;
 use std::test::Fail;
 

@@ -1,6 +1,6 @@
 ghost use Rattle.std.specs.Prelude.{◌≡◌, ◌/◌, vec_len, IfOk};
 
-use fs_errors::Memory;
+use fs_model::Memory;
 use image_yardstick::image_superblock::read_layout;
 use image_yardstick::{first_fault, recovered_cells};
 use std::alloc::Global;

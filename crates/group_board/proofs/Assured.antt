@@ -16,8 +16,8 @@ use Rattle.group_laws.specs.Places.{members, owner}
 use Rattle.group_laws.specs.Updates.{has}
 use Rattle.group_laws.specs.MemberViews.{view_of}
 use Rattle.group_laws.proofs.Clients.{in_any, any_in, has_In}
-use Rattle.crash_core.specs.declared.names.Notices.{Notices}
-use Rattle.crash_core.specs.Shows.{notices_of}
+use Rattle.group_board.specs.declared.names.Notices.{Notices}
+use Rattle.group_board.specs.Mailing.{notices_of}
 use Rattle.group_board.specs.declared.board_journal.Journal.{Journal}
 use Rattle.group_board.specs.Journals.{state}
 use Rattle.group_board.specs.Kept.{IsKept}

@@ -17,9 +17,9 @@ use Rattle.group_laws.specs.Steps.{posts, locks, finds, takes, unlocks, commits,
 use Rattle.group_laws.specs.Tidying.{Tidied}
 use Rattle.group_laws.specs.Runs.{Kind, IsStep}
 use Rattle.group_laws.specs.Runs as runs
-use Rattle.crash_core.specs.declared.kinds.Change.{Change}
-use Rattle.crash_core.specs.declared.names.Notices.{Notices}
-use Rattle.crash_core.specs.Shows.{notices_of}
+use Rattle.group_board.specs.declared.change.Change.{Change}
+use Rattle.group_board.specs.declared.names.Notices.{Notices}
+use Rattle.group_board.specs.Mailing.{notices_of}
 use Rattle.group_board.specs.declared.board_journal.Act.{Act}
 use Rattle.group_board.specs.declared.board_journal.Act.TheVariants.{Post, Lock, Found, Take, Unlock, Commit, Mark, Fail, Finish, GiveUp, Withdraw, Doom, Retire, Send, Receive}
 use Rattle.group_board.specs.declared.board_journal.Journal.{Journal}

@@ -21,8 +21,8 @@ use Rattle.group_laws.specs.State.{Group, word_shown, is_full}
 use Rattle.group_laws.specs.State as laws
 use Rattle.group_laws.specs.Invariant.{Lawful, PendsAt}
 use Rattle.group_laws.proofs.Clients.{posted_unnamed}
-use Rattle.crash_core.specs.declared.names.Notices.{Notices}
-use Rattle.crash_core.specs.Shows.{notices_of}
+use Rattle.group_board.specs.declared.names.Notices.{Notices}
+use Rattle.group_board.specs.Mailing.{notices_of}
 use Rattle.group_board.specs.declared.board_journal.Journal.{Journal}
 use Rattle.group_board.specs.Tidies.{Covers}
 use Rattle.group_board.specs.Journals.{names, state}

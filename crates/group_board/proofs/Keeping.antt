@@ -10,8 +10,8 @@ use Rattle.group_laws.specs.State.{Group}
 use Rattle.group_laws.specs.State as laws
 use Rattle.group_laws.specs.Runs.{Kind, IsStep}
 use Rattle.group_laws.proofs.Clients.{step_keeps}
-use Rattle.crash_core.specs.declared.names.Notices.{Notices}
-use Rattle.crash_core.specs.Shows.{notices_of}
+use Rattle.group_board.specs.declared.names.Notices.{Notices}
+use Rattle.group_board.specs.Mailing.{notices_of}
 use Rattle.group_board.specs.declared.board_journal.Journal.{Journal}
 use Rattle.group_board.specs.Tidies.{Covers}
 use Rattle.group_board.specs.Journals.{names, state, name_of}

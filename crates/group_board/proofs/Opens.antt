@@ -12,8 +12,8 @@ use Rattle.group_laws.specs.Updates.{has}
 use Rattle.group_laws.specs.Invariant.{Lawful}
 use Rattle.group_laws.specs.OpeningImages.{opened, entries_of, is_own}
 use Rattle.group_laws.proofs.Clients.{lawful as laws_lawful}
-use Rattle.crash_core.specs.declared.names.Notices.{Notices}
-use Rattle.crash_core.specs.Shows.{notices_of}
+use Rattle.group_board.specs.declared.names.Notices.{Notices}
+use Rattle.group_board.specs.Mailing.{notices_of}
 use Rattle.group_board.specs.declared.board_journal.Journal.{Journal}
 use Rattle.group_board.specs.Tidies.{Covers}
 use Rattle.group_board.specs.Journals.{image_of, place_in, begun, name_of, names_in, names, state}

@@ -12,7 +12,7 @@ use Rattle.group_laws.specs.declared.types.SlotWord.TheVariants.{Posted as Shows
 use Rattle.group_laws.specs.Places.{Place, members, owner, units, LiesIn, Apart, GetsBlock}
 use Rattle.group_laws.specs.Updates.{has}
 use Rattle.group_laws.specs.State.{Notices}
-use Rattle.crash_core.specs.declared.kinds.Change.{Change}
+use Rattle.group_board.specs.declared.change.Change.{Change}
 use Rattle.group_laws.specs.MemberViews.{View}
 use Rattle.group_board.specs.Views.{IsDeadIn}
 

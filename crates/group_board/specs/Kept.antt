@@ -9,8 +9,8 @@ use Rattle.group_laws.specs.declared.group_sizes.TheConstants.{SLOTS}
 use Rattle.group_board.specs.declared.slots.TheConstants.{ROW_LENGTH}
 use Rattle.group_laws.specs.Places.{members}
 use Rattle.group_laws.specs.Invariant.{Lawful}
-use Rattle.crash_core.specs.declared.names.Notices.{Notices}
-use Rattle.crash_core.specs.Shows.{notices_of}
+use Rattle.group_board.specs.declared.names.Notices.{Notices}
+use Rattle.group_board.specs.Mailing.{notices_of}
 use Rattle.group_board.specs.declared.board_journal.Journal.{Journal}
 use Rattle.group_board.specs.Journals.{names, state}
 use Rattle.group_board.specs.Tidies.{Covers}

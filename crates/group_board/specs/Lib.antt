@@ -1,3 +1,6 @@
+pub mod Mailing
+pub mod Names
+pub mod WordNumbers
 pub mod Tidies
 pub mod Journals
 pub mod Views
@@ -8,7 +11,6 @@ pub mod Slots
 pub mod Told
 pub mod Kept
 pub use Rattle.chunk_map.specs.Layouts
-pub use Rattle.crash_core.specs.Shows
 pub use Rattle.group_laws.specs.Invariant
 pub use Rattle.group_laws.specs.MemberViews
 pub use Rattle.group_laws.specs.OpeningImages

@@ -8,8 +8,8 @@ use Rattle.group_laws.specs.declared.types.SlotWord.TheVariants as words
 use Rattle.group_laws.specs.State.{Group}
 use Rattle.group_laws.specs.Invariant.{Lawful}
 use Rattle.group_laws.specs.Runs.{Kind, IsStep}
-use Rattle.crash_core.specs.declared.names.Notices.{Notices}
-use Rattle.crash_core.specs.Shows.{notices_of}
+use Rattle.group_board.specs.declared.names.Notices.{Notices}
+use Rattle.group_board.specs.Mailing.{notices_of}
 use Rattle.group_laws.specs.MemberViews.{View, view_of}
 use Rattle.group_board.specs.Journals.{state}
 use Rattle.group_board.specs.declared.board_journal.Journal.{Journal}

@@ -13,7 +13,7 @@ ghost use Rattle.group_laws.specs.declared.types.SlotWord.{SlotWord};
 ghost use Rattle.group_laws.specs.declared.types.SlotWord.TheVariants as words;
 ghost use Rattle.group_laws.specs.declared.types.Seen.TheVariants as loads;
 ghost use Rattle.group_laws.specs.declared.types.Pending.{Pending};
-ghost use Rattle.crash_core.specs.Shows.{notices_of};
+ghost use Rattle.group_board.specs.Mailing.{notices_of};
 ghost use Rattle.group_board.specs.Seats.{SeatAt};
 ghost use Rattle.group_board.specs.Views.{after_post, after_lock, after_find, after_take, after_unlock, after_commit, after_mark, after_fail, after_finish, after_give_up, after_withdraw, after_doom, after_retire, after_send, after_receive, TidiedIn};
 ghost use Rattle.group_board.specs.Conditions.{MayPost, MayLock, MayLook, MayTake, MayUnlock, MayCommit, MayMark, MayFail, MayFinish, MayWithdraw, MayDoom, MayRetire, MaySend, MayReceive};
@@ -21,7 +21,8 @@ ghost use Rattle.group_board.specs.Assurances.{IsHome, IsHeard, IsUnlogged};
 ghost use Rattle.group_board.specs.Trails.{TrailStep, step_with};
 ghost use Rattle.group_board.specs.Told.{Makes, MakesBoth, Stood, Held, state_of, stood_as};
 
-use crash_core::{Change, Notices};
+use crate::change::Change;
+use crate::names::Notices;
 use log_entry::entry::EntryName;
 use pm_region::Region;
 

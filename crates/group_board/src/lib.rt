@@ -4,14 +4,19 @@
 
 mod board;
 mod board_journal;
+mod change;
 mod local_board;
 mod local_seat;
+mod names;
 mod notes;
 mod opening;
+mod slot_words;
 mod slots;
 
 pub use board::{Board, Busy, MailFull, SlotState};
-pub use crash_core::{Change, Names, Notices};
+pub use change::Change;
 pub use local_board::LocalBoard;
 pub use local_seat::LocalSeat;
+pub use names::{Names, Notices};
 pub use opening::Opening;
+pub use slot_words::{word_of, words_in};

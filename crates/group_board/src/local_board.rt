@@ -17,7 +17,7 @@ ghost use Rattle.group_laws.specs.declared.types.Slot.TheVariants as slot_states
 ghost use Rattle.group_laws.specs.declared.types.SlotWord.{SlotWord};
 ghost use Rattle.group_laws.specs.declared.types.SlotWord.TheVariants as words;
 ghost use Rattle.group_laws.specs.declared.types.Seen.TheVariants as loads;
-ghost use Rattle.crash_core.specs.Shows.{notices_of};
+ghost use Rattle.group_board.specs.Mailing.{notices_of};
 ghost use Rattle.group_board.specs.Trails.{step_with};
 ghost use Rattle.group_board.specs.declared.slots.TheConstants.{ROW_LENGTH};
 ghost use Rattle.group_board.specs.Journals.{image_of, place_in, state, trail_in, at_in};
@@ -30,13 +30,15 @@ ghost use Rattle.group_board.specs.Told.{AreSteps, Leads, state_of, stood_as};
 
 use crate::board::{Busy, MailFull, SlotState};
 use crate::board_journal::Journal;
+use crate::change::Change;
+use crate::names::Notices;
 use crate::notes::{Asks, Begins, Keeper, note};
 use crate::opening::Opening;
+use crate::slot_words::word_of;
 use crate::slots::{ROW_LENGTH, answer_at, given_back, offered, place_of};
 use atomic_table::Table;
 use chunk_map::layout_sizes::MOST_GROUP;
-use crash_core::{Change, Notices, word_of};
-use fs_errors::Memory;
+use fs_model::Memory;
 use group_laws::types::Slot;
 use log_entry::entry::EntryName;
 use pm_region::Region;

@@ -5,8 +5,9 @@ ghost use Rattle.group_board.specs.Kept.{kept_lawful};
 ghost use Rattle.group_laws.specs.MemberViews.{view_of};
 
 use crate::board::{Board, Busy, MailFull, SlotState};
+use crate::change::Change;
 use crate::local_board::LocalBoard;
-use crash_core::{Change, Notices};
+use crate::names::Notices;
 use log_entry::entry::EntryName;
 use pm_region::Region;
 

@@ -5,8 +5,8 @@ ghost use Rattle.group_board.specs.Told.{state_of, stood_as};
 ghost use Rattle.group_board.specs.Slots.{IsPosted, IsOver};
 
 use crate::board::SlotState;
+use crate::change::Change;
 use chunk_map::layout_sizes::MOST_GROUP;
-use crash_core::Change;
 use group_laws::group_sizes::SLOTS;
 use group_laws::types::{Slot, SlotWord};
 

@@ -1,7 +1,7 @@
 -- What a run on an engine comes to, by what it answered.
 use Rattle.std.proofs.Common.{◌≡◌, ℕ, ◌<◌, List, [], length, Bool, true, false, Option, Result, Ok, Err, OnOk, OnErr, refl, sym, ◌∙◌, subst, append-nil}
 use Rattle.std.specs.List.{slice_get}
-use Rattle.fs_errors.specs.declared.Memory.{Memory}
+use Rattle.fs_model.specs.declared.memory.Memory.{Memory}
 use Rattle.fs_model.specs.declared.model.Request.{Request}
 use Rattle.fs_text.specs.declared.line.Line.{Line}
 use Rattle.pm_region.specs.State.{State, IsTelling}

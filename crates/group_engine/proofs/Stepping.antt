@@ -1,6 +1,6 @@
 -- A turn, or a request taken in, is a step of the engine.
 use Rattle.std.proofs.Common.{rules, ◌≡◌, ℕ, List, [], ◌∷◌, ◌++◌, take, Bool, true, false, not, Option, Some, refl, sym, ap, subst, ◌∙◌, ◌+◌, ◌*◌, ◌<◌, ◌≤◌, length, IfOk, OnErr, OnOk, Result, Ok, Err, arith}
-use Rattle.fs_errors.specs.declared.Memory.{Memory}
+use Rattle.fs_model.specs.declared.memory.Memory.{Memory}
 use Rattle.fs_model.specs.declared.model.Request.{Request}
 use Rattle.pm_region.specs.State.{State}
 use Rattle.group_laws.specs.Places.{Place}

@@ -3,7 +3,7 @@ use Rattle.std.specs.Prelude.{◌≡◌, ◌⊎◌, ℕ, ◌≤◌, ◌<◌, Lis
 use Rattle.std.specs.List.{AllByRecursion, slice_get}
 use Rattle.fs_model.specs.declared.model.Request.{Request}
 use Rattle.fs_model.specs.Cells.{key_of}
-use Rattle.fs_errors.specs.declared.Memory.{Memory}
+use Rattle.fs_model.specs.declared.memory.Memory.{Memory}
 use Rattle.pm_region.specs.State.{State, IsTelling}
 use Rattle.pm_region.specs.Cell.{Cell}
 use Rattle.pm_region.specs.Words.{Kept}

@@ -1,7 +1,7 @@
 -- What a replay of lines on a region comes to, whatever the region tells.
 use Rattle.std.specs.Prelude.{◌≡◌, ◌≢◌, ℕ, ◌/◌, ◌<◌, List, ◌++◌, length, Bool, false, Result, Ok, Err, if◌then◌else◌}
 use Rattle.std.specs.List.{slice_get}
-use Rattle.fs_errors.specs.declared.Memory.{Memory}
+use Rattle.fs_model.specs.declared.memory.Memory.{Memory}
 use Rattle.fs_model.specs.declared.model.Request.{Request}
 use Rattle.fs_text.specs.declared.line.Line.{Line}
 use Rattle.pm_region.specs.State.{State, IsTelling}

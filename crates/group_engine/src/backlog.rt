@@ -1,8 +1,7 @@
 // The requests that a core's worker has not accepted yet.
 ghost use Rattle.std.specs.Prelude.{◌≡◌, ◌++◌, ◌∷◌, [], OnOk, OnErr};
 
-use fs_errors::Memory;
-use fs_model::Request;
+use fs_model::{Memory, Request};
 use std::collections::VecDeque;
 
 /// Puts a request with its number behind those of a backlog. Where there is no memory for it, they stand as before.

@@ -16,8 +16,7 @@ ghost use Rattle.group_engine.specs.Calls.{AreOwn, Accepts, BeginsByEachView, Tu
 use crate::types::Stamped;
 use crate::worker_calls::CoreWorker;
 use core_worker::Turn;
-use fs_errors::Memory;
-use fs_model::Request;
+use fs_model::{Memory, Request};
 use group_board::{LocalBoard, LocalSeat};
 use pm_region::Region;
 use std::alloc::Global;

@@ -17,7 +17,7 @@ use crate::open_boards::open;
 use crate::real_worker::open_worker;
 use chunk_map::{Geometry, Layout};
 use core_worker::Worker;
-use fs_errors::Memory;
+use fs_model::Memory;
 use group_board::Opening;
 use pm_region::ReadRegion;
 use recover::{CoreStart, Recovered};

@@ -10,8 +10,7 @@ ghost use Rattle.group_engine.specs.Runs.{RunState, with_request};
 ghost use Rattle.group_engine.specs.Passes.{Settles, Passes, NameCores, Ends, EndsIn, DrainsOut, Leads, Ceases, CeasePasses, CeasesOut, CeasesIn};
 
 use core_worker::Turn;
-use fs_errors::Memory;
-use fs_model::Request;
+use fs_model::{Memory, Request};
 use fs_text::Line;
 use pm_region::Region;
 use std::alloc::Global;

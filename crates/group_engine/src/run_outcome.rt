@@ -5,8 +5,7 @@ ghost use Rattle.group_engine.specs.Replayed.{StandsAsFound, Replayed, end_by, o
 
 use crate::engine::Engine;
 use crate::run_report::{Finish, Refusal, Report};
-use fs_errors::Memory;
-use fs_model::Reply;
+use fs_model::{Memory, Reply};
 use fs_text::Input;
 use pm_region::ReadRegion;
 use recover::Recovered;

@@ -6,8 +6,7 @@ ghost use Rattle.group_engine.specs.Reports.{IsReport, Adds, IsBlank, HasRoomFor
 
 use crate::types::Stamped;
 use core_room::Shortage;
-use fs_errors::Memory;
-use fs_model::Reply;
+use fs_model::{Memory, Reply};
 use std::alloc::Global;
 
 /// A change that was answered `Stored` or `Deleted`.

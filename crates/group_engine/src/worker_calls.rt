@@ -15,8 +15,7 @@ ghost use Rattle.core_worker.specs.declared.types.Turn.TheVariants.{Moved, Idle}
 ghost use Rattle.group_engine.specs.Calls.{Accepts, BeginsByEachView, Turns, KeepsPart, WindsDown, has_moved, is_open, is_idle, steps_of};
 
 use core_worker::{Answer, NotAccepted, Turn};
-use fs_errors::Memory;
-use fs_model::Request;
+use fs_model::{Memory, Request};
 use group_board::Board;
 use pm_region::Region;
 use std::alloc::Global;

@@ -25,6 +25,7 @@ pub mod Images
 pub mod Opened
 pub mod PartBlocks
 pub mod GroupEntries
+pub mod BlankRegions
 pub mod OpeningFound
 pub mod OpeningTidied
 pub mod Posted

@@ -1,6 +1,7 @@
 use chunk_map::Layout;
-use crash_core::{Change, GroupState, Kind, Names, Notices, Step, StepsError, all_steps, step};
 use fs_model::Value;
+use group_board::{Change, Names, Notices};
+use group_machine::{GroupState, Kind, Step, StepsError, all_steps, step};
 use log_entry::{Body, Entry, EntryName};
 use std::test::Fail;
 

@@ -15,9 +15,8 @@ use Rattle.group_laws.specs.State.{Group}
 use Rattle.group_laws.specs.Runs.{IsStep}
 use Rattle.group_laws.specs.Runs as runs
 use Rattle.group_laws.specs.OpeningImages.{IsBlank}
-use Rattle.group_laws.proofs.Clients.{In-append_right}
-use Rattle.crash_core.specs.declared.kinds.Change.{Change}
-use Rattle.crash_core.proofs.Clients.{no_block, no_last}
+use Rattle.group_laws.proofs.Clients.{In-append_right, no_block, no_last}
+use Rattle.group_board.specs.declared.change.Change.{Change}
 use Rattle.group_board.specs.Journals.{image_of, place_in}
 use Rattle.group_laws.specs.MemberViews.{View, view_of, of_own}
 use Rattle.group_board.specs.Seats.{SeatAt}

@@ -17,8 +17,8 @@ use Rattle.group_laws.specs.State.{Group}
 use Rattle.group_laws.specs.MemberViews.{View, view_of, of_own}
 use Rattle.group_laws.specs.OpeningImages.{IsBlank}
 use Rattle.group_laws.specs.declared.types.Pending.{Pending}
-use Rattle.crash_core.specs.declared.kinds.Change.{Change}
-use Rattle.crash_core.proofs.Clients.{no_block, no_last, no_log}
+use Rattle.group_board.specs.declared.change.Change.{Change}
+use Rattle.group_laws.proofs.Clients.{no_block, no_last, no_log}
 use Rattle.group_board.specs.Journals.{image_of}
 use Rattle.group_board.specs.Conditions.{IsFree, MayPost, MayLock}
 use Rattle.group_board.specs.Views.{after_post}

@@ -19,8 +19,7 @@ use Rattle.group_laws.specs.State.{Group}
 use Rattle.group_laws.specs.OpeningImages.{IsBlank}
 use Rattle.group_laws.specs.Updates.{put2}
 use Rattle.group_laws.specs.MemberViews.{View, view_of, of_own}
-use Rattle.group_laws.proofs.Clients.{In-append_right}
-use Rattle.crash_core.proofs.Clients.{no_last}
+use Rattle.group_laws.proofs.Clients.{In-append_right, no_last}
 use Rattle.group_board.specs.Journals.{image_of, place_in}
 use Rattle.group_board.specs.Views.{after_post, after_lock, after_find, after_take, after_unlock, after_commit, after_mark, after_finish, after_give_up, TidiedIn}
 use Rattle.group_board.specs.Conditions.{MayPost, MayLock, MayTake, MayMark, MayFinish}

@@ -10,7 +10,7 @@ use Rattle.core_log.specs.Log.{LogState, first_of}
 use Rattle.group_laws.specs.Places.{Place, members, owner, core_of}
 use Rattle.group_laws.specs.State.{Group}
 use Rattle.group_laws.specs.MemberViews.{View, view_of}
-use Rattle.crash_core.specs.declared.kinds.Change.{Change}
+use Rattle.group_board.specs.declared.change.Change.{Change}
 use Rattle.group_tests.specs.BoardTrials.{fresh}
 use Rattle.licence.specs.Licence.{part_at, part_end}
 use Rattle.licence.specs.Writes.{Begins}

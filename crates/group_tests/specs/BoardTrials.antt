@@ -2,7 +2,7 @@
 use Rattle.std.specs.Prelude.{◌≡◌, ℕ, ◌<◌, true, false, List, [], ◌∷◌, Some, None}
 use Rattle.log_entry.specs.declared.entry.Entry.{Entry}
 use Rattle.log_entry.specs.declared.entry.Body.TheVariants.{Pointer, Embedded}
-use Rattle.crash_core.specs.declared.kinds.Change.{Change}
+use Rattle.group_board.specs.declared.change.Change.{Change}
 use Rattle.store_image.specs.Facts.{In}
 use Rattle.chunk_map.specs.Layouts.{magic}
 use Rattle.group_laws.specs.Places.{Place, members}

@@ -5,7 +5,7 @@ use Rattle.pm_region.specs.State.{State, IsTelling, InRange, cell_now, During}
 use Rattle.pm_region.specs.Words.{KeepsOutside, lines_for}
 use Rattle.log_entry.specs.declared.entry.Body.TheVariants.{Embedded}
 use Rattle.core_log.specs.declared.types.Room.{Room}
-use Rattle.crash_core.specs.declared.kinds.Change.{Change}
+use Rattle.group_board.specs.declared.change.Change.{Change}
 use Rattle.core_log.specs.Log.{LogState, IsOwn, tail_of}
 use Rattle.group_laws.specs.Places.{Place, members}
 use Rattle.group_laws.specs.State.{Group}

@@ -17,7 +17,8 @@ use batch_leader::{Batch, BatchBuffer, Collected, Released, lead};
 use chunk_map::Layout;
 use core_log::CoreLog;
 use group_board::{Board, Change, LocalBoard, LocalSeat, Opening, SlotState};
-use pm_region::{Region, SplitRegion, SteadyRegion};
+use pm_region::{Region, SplitRegion};
+use region_memory::SteadyRegion;
 use std::test::Fail;
 
 /// Eight cores of one group on an empty region.

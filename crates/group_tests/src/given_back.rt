@@ -1,7 +1,7 @@
 // A change that its owner takes back before anybody took it, and one that could not be written. What is expected is
 // what the calls say of a slot.
 ghost use Rattle.std.specs.Prelude.{◌≡◌, ◌<◌, ◌≤◌, true, false, [], IfOk, IfSome, Option};
-ghost use Rattle.pm_region.specs.Mem.{mem_state};
+ghost use Rattle.region_memory.specs.Mem.{mem_state};
 ghost use Rattle.group_laws.specs.Places.{members};
 ghost use Rattle.group_board.specs.Conditions.{MayPost, MayLock};
 ghost use Rattle.licence.specs.Writes.{Begins};
@@ -15,7 +15,8 @@ use batch_leader::{Batch, BatchBuffer, Released, lead};
 use chunk_map::Layout;
 use core_log::CoreLog;
 use group_board::{Board, Change, LocalSeat, SlotState};
-use pm_region::{Faults, FenceNumber, MemRegion, SplitRegion};
+use pm_region::SplitRegion;
+use region_memory::{Faults, FenceNumber, MemRegion};
 use std::test::Fail;
 
 /// Posts a change, leads, takes it back, finds no other, and gives the lock back.

@@ -1,7 +1,7 @@
 // One change's way through a leader's hands, at the board of one thread. What is expected is what the format says of a
 // batch.
 ghost use Rattle.std.specs.Prelude.{◌≡◌, ◌≢◌, ◌<◌, ◌≤◌, ℕ, true, false, [], IfOk, IfSome, Option};
-ghost use Rattle.pm_region.specs.Steady.{steady_state};
+ghost use Rattle.region_memory.specs.Steady.{steady_state};
 ghost use Rattle.licence.specs.Writes.{Begins};
 ghost use Rattle.group_laws.specs.Places.{members};
 ghost use Rattle.group_board.specs.Journals.{state};
@@ -19,7 +19,8 @@ use core_log::{CoreLog, Room};
 use fs_model::model::Value;
 use group_board::{Board, Change, LocalBoard, LocalSeat, Opening, SlotState};
 use log_entry::{Body, Entry};
-use pm_region::{Region, SplitRegion, SteadyRegion};
+use pm_region::{Region, SplitRegion};
+use region_memory::SteadyRegion;
 use std::test::Fail;
 
 /// Three cores of one group on an empty region.

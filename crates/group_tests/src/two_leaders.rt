@@ -1,7 +1,7 @@
 // Two leaders of a group at the board of one thread: the second leads and writes before the first wrote. What is
 // expected is what the format says of a batch.
 ghost use Rattle.std.specs.Prelude.{◌≡◌, ◌<◌, ◌≤◌, true, IfOk, IfSome};
-ghost use Rattle.pm_region.specs.Steady.{steady_state};
+ghost use Rattle.region_memory.specs.Steady.{steady_state};
 ghost use Rattle.group_laws.specs.MemberViews.{view_of};
 ghost use Rattle.group_laws.specs.Places.{members};
 ghost use Rattle.group_board.specs.Journals.{state};
@@ -13,7 +13,8 @@ use batch_leader::{Batch, BatchBuffer};
 use chunk_map::Layout;
 use core_log::CoreLog;
 use group_board::{Change, LocalBoard, LocalSeat};
-use pm_region::{Pick, Region, SplitRegion, SteadyRegion};
+use pm_region::{Region, SplitRegion};
+use region_memory::{Pick, SteadyRegion};
 use std::alloc::Global;
 use std::test::Fail;
 

@@ -3,7 +3,7 @@ ghost use Rattle.std.specs.Prelude.{◌≡◌};
 ghost use Rattle.image_reader.specs.Endings.{exit_code};
 
 use crate::rule_texts::rule_text;
-use fs_errors::Memory;
+use fs_model::Memory;
 use std::alloc::Global;
 use store_image::Fault;
 

@@ -4,7 +4,7 @@ ghost use Rattle.pm_region.specs.Bytes.{AreWords};
 ghost use Rattle.pm_region.specs.Split.{words_in};
 
 use byteorder::{ByteOrder, LittleEndian};
-use fs_errors::Memory;
+use fs_model::Memory;
 use pm_region::{MOST_BYTES, WORD_BYTES};
 use std::alloc::Global;
 

@@ -4,8 +4,7 @@ ghost use Rattle.image_reader.specs.Shown.{ShowsBytes, ShowsWords};
 
 use crate::image_bytes::words_of;
 use chunk_map::layout_sizes::SUPERBLOCK_BYTES;
-use fs_errors::Memory;
-use fs_model::Pair;
+use fs_model::{Memory, Pair};
 use image_yardstick::image_superblock::read_layout;
 use image_yardstick::{first_fault, recovered_cells};
 use pm_region::MOST_BYTES;

@@ -11,7 +11,7 @@ use crate::image_places::chunk_first;
 use chunk_map::heads::Head;
 use chunk_map::layout_sizes::{HEAD_WORDS, LEAST_CHUNK};
 use chunk_map::layouts::Geometry;
-use fs_errors::Memory;
+use fs_model::Memory;
 use std::alloc::Global;
 use store_image::log_rules::log_rule;
 use store_image::scanning::{Scanned, scan};

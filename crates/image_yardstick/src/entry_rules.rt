@@ -12,7 +12,7 @@ use crate::image_blocks::block_class;
 use crate::winners::{keys_of, winner_in};
 use chunk_map::layout_sizes::UNIT_WORDS;
 use chunk_map::layouts::Geometry;
-use fs_errors::Memory;
+use fs_model::Memory;
 use log_entry::entry::Body;
 use std::alloc::Global;
 use store_image::contradictions::contradicts;

@@ -10,7 +10,7 @@ use crate::gather_image::gather;
 use crate::image_superblock::read_layout;
 use chunk_map::layout_sizes::SUPERBLOCK_BYTES;
 use chunk_map::layouts::Geometry;
-use fs_errors::Memory;
+use fs_model::Memory;
 use pm_region::{MOST_BYTES, WORD_BYTES};
 use std::alloc::Global;
 use store_image::Fault;

@@ -7,7 +7,7 @@ ghost use Rattle.image_yardstick.specs.Images.{image_of};
 
 use crate::chunks::read_chunk;
 use chunk_map::layouts::Geometry;
-use fs_errors::Memory;
+use fs_model::Memory;
 use std::alloc::Global;
 use store_image::placing::place_entries;
 use store_image::{Fault, PlacedEntry};

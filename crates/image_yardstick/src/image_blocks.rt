@@ -10,8 +10,7 @@ use chunk_map::layout_sizes::{
     FIRST_UNIT, GREATEST_CLASS, SUPERBLOCK_WORDS, UNIT_BYTES, UNIT_WORDS,
 };
 use chunk_map::layouts::Geometry;
-use fs_errors::Memory;
-use fs_model::Value;
+use fs_model::{Memory, Value};
 use log_entry::packing::{unpack, words_for};
 use pm_region::WORD_BYTES;
 use std::alloc::Global;

@@ -3,7 +3,7 @@ ghost use Rattle.std.specs.Prelude.{◌≡◌, ℕ, ◌+◌, ◌<◌, ◌≤◌,
 ghost use Rattle.std.specs.Option.{option_copied};
 ghost use Rattle.store_image.specs.Winners.{better, winner_in, with_key, keys_of};
 
-use fs_errors::Memory;
+use fs_model::Memory;
 use std::alloc::Global;
 use store_image::PlacedEntry;
 

@@ -1,7 +1,6 @@
 // 64 requests of three keys, and a long script against a plain queue.
 use conflict_queue::{ConflictQueue, Held, NoNode};
-use fs_errors::Memory;
-use fs_model::{Key, Request};
+use fs_model::{Key, Memory, Request};
 use std::alloc::Global;
 use std::test::Fail;
 

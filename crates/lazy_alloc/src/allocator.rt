@@ -25,8 +25,7 @@ use chunk_map::layout_sizes::{
     FIRST_UNIT, GREATEST_CLASS, LEAST_CHUNKS, MOST_CHUNKS, UNIT_LINES, UNIT_WORDS,
 };
 use chunk_map::{Head, Layout, set_head};
-use fs_errors::Memory;
-use fs_model::Value;
+use fs_model::{Memory, Value};
 use pm_region::{Region, RegionFault};
 use std::alloc::Global;
 use std::marker::Model;

@@ -2,7 +2,7 @@
 ghost use Rattle.std.specs.Prelude.{◌≡◌, ℕ, ◌<◌, ◌≤◌, Bool, true, false, length, replicate, slice_set, IfOk, MatchOption, Some, None};
 ghost use Rattle.lazy_alloc.specs.Chains.{IsLinked, Lacks, Holds, InSome, Adds, Removes, Same, link_at};
 
-use fs_errors::Memory;
+use fs_model::Memory;
 use std::alloc::Global;
 
 /// The first chunk of each class's chain, and the next one of each chunk.

@@ -6,8 +6,7 @@ ghost use Rattle.store_image.specs.Parts.{value_by_class};
 
 use chunk_map::layout_sizes::{GREATEST_CLASS, UNIT_WORDS};
 use chunk_map::words::load_words;
-use fs_errors::Memory;
-use fs_model::Value;
+use fs_model::{Memory, Value};
 use log_entry::packing::{unpack, words_for};
 use pm_region::Region;
 use std::alloc::Global;

@@ -2,8 +2,7 @@
 ghost use Rattle.std.specs.Prelude.{◌≡◌, ◌+◌, ◌^◌, ◌<◌, ◌≤◌, IfOk};
 ghost use Rattle.load_requests.specs.Generated.{operation_of, value_of, value_length, request_of};
 
-use fs_errors::Memory;
-use fs_model::{Key, Request, Value};
+use fs_model::{Key, Memory, Request, Value};
 use std::alloc::Global;
 
 /// How many first numbers differ: one is taken modulo this.

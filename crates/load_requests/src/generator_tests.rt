@@ -1,8 +1,7 @@
 ghost use Rattle.std.specs.Prelude.{◌^◌, ◌<◌};
 
 use super::*;
-use fs_errors::Memory;
-use fs_model::Request;
+use fs_model::{Memory, Request};
 use std::alloc::Global;
 use std::test::*;
 

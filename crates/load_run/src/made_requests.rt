@@ -2,8 +2,7 @@
 ghost use Rattle.std.specs.Prelude.{◌≡◌, ◌-◌, ◌^◌, ◌<◌, ◌≤◌};
 ghost use Rattle.load_requests.specs.Generated.{requests_from, requests_of_load};
 
-use fs_errors::Memory;
-use fs_model::Request;
+use fs_model::{Memory, Request};
 use load_requests::request_at;
 use std::alloc::Global;
 use thread_engine::requests::Requests;

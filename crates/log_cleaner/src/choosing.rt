@@ -11,7 +11,7 @@ use crate::searching::search_chunk;
 use crate::types::Victim;
 use chunk_map::layout_sizes::MOST_CHUNKS;
 use core_log::{CoreLog, Room};
-use fs_errors::Memory;
+use fs_model::Memory;
 use log_entry::MOST_ENTRIES;
 use log_standing::Standing;
 use pm_region::{LINE_WORDS, Region};

@@ -11,7 +11,7 @@ ghost use Rattle.log_cleaner.specs.Clearing.{ClearingState, IsFresh, is_doomed, 
 
 use crate::types::{Cleared, Victim};
 use core_log::CoreLog;
-use fs_errors::Memory;
+use fs_model::Memory;
 use log_entry::EntryName;
 use log_standing::Standing;
 use pm_region::{Region, RegionFault};

@@ -9,7 +9,7 @@ ghost use Rattle.log_cleaner.specs.Tallied.{HasAmounts, NotesIf};
 use crate::clearing::entry_count;
 use crate::types::Victim;
 use core_log::{CoreLog, Peek};
-use fs_errors::Memory;
+use fs_model::Memory;
 use log_standing::{Amount, Tally};
 use pm_region::Region;
 use std::alloc::Global;

@@ -3,7 +3,7 @@ ghost use Rattle.std.specs.Prelude.{◌≡◌, ◌+◌, ◌-◌, ◌^◌, ◌<�
 ghost use Rattle.std.specs.Int.{w64, from_le_bytes};
 ghost use Rattle.log_entry.specs.Words.{words_for, unpacked};
 
-use fs_errors::Memory;
+use fs_model::Memory;
 use pm_region::WORD_BYTES;
 use std::alloc::Global;
 

@@ -1,7 +1,7 @@
 // A list of words with room that was taken beforehand.
 ghost use Rattle.std.specs.Prelude.{◌≡◌, ◌<◌, ◌≤◌, [], ◌∷◌, ◌++◌, length, IfOk};
 
-use fs_errors::Memory;
+use fs_model::Memory;
 use std::alloc::Global;
 use std::marker::Model;
 

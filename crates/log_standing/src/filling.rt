@@ -14,7 +14,7 @@ use crate::name_item::{CHUNK_NUMBERS, NameItem};
 use crate::name_table::NameTable;
 use crate::standing_names::Standing;
 use core_log::CoreLog;
-use fs_errors::Memory;
+use fs_model::Memory;
 use log_entry::EntryName;
 use pm_region::Region;
 use std::alloc::Global;

@@ -6,8 +6,7 @@ ghost use Rattle.log_standing.specs.NameItems.{copies_among, one_of, Recounts, W
 
 use crate::name_table::NameTable;
 use crate::types::Copies;
-use fs_errors::Memory;
-use fs_model::{Key, Version};
+use fs_model::{Key, Memory, Version};
 use log_entry::EntryName;
 use std::alloc::Global;
 use std::collections::HashMap;

@@ -9,7 +9,7 @@ use crate::name_item::{CHUNK_NUMBERS, MOST_IN_ITEM};
 use crate::name_table::NameTable;
 use crate::tally::Tally;
 use crate::types::{Amount, Copies, NOWHERE, Settled, Spot};
-use fs_errors::Memory;
+use fs_model::Memory;
 use log_entry::EntryName;
 use std::alloc::Global;
 use std::marker::Model;

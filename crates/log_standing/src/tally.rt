@@ -5,8 +5,7 @@ ghost use Rattle.log_standing.specs.Names.{name_eq};
 ghost use Rattle.log_standing.specs.Tallies.{amount_at, entries_in, words_in, less, more, less_by};
 
 use crate::types::Amount;
-use fs_errors::Memory;
-use fs_model::{Key, Version};
+use fs_model::{Key, Memory, Version};
 use log_entry::EntryName;
 use std::alloc::Global;
 use std::collections::HashMap;

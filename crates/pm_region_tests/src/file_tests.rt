@@ -4,7 +4,8 @@ ghost use Rattle.pm_region.specs.State.{During, cell_now};
 ghost use Rattle.pm_region.specs.Words.{KeepsOutside};
 
 use crate::region_tests::{get, put, write_first, write_part};
-use pm_region::{AttachError, FileRegion, ReadRegion, Region, RegionFault, Snapshot, SplitRegion};
+use pm_region::{AttachError, ReadRegion, Region, RegionFault, Snapshot, SplitRegion};
+use region_file::FileRegion;
 use std::alloc::Global;
 use std::fs;
 use std::process::Abort;

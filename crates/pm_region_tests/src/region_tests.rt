@@ -3,10 +3,8 @@ ghost use Rattle.std.specs.Prelude.{◌≡◌, false, ℕ, ◌+◌, ◌-◌, ◌
 ghost use Rattle.pm_region.specs.State.{During, cell_now};
 ghost use Rattle.pm_region.specs.Words.{KeepsOutside};
 
-use pm_region::{
-    AttachError, Faults, FenceNumber, ImageError, MemRegion, Pick, Region, RegionFault, Snapshot,
-    SplitRegion, SteadyRegion,
-};
+use pm_region::{AttachError, Region, RegionFault, Snapshot, SplitRegion};
+use region_memory::{Faults, FenceNumber, ImageError, MemRegion, Pick, SteadyRegion};
 use std::alloc::Global;
 use std::test::Fail;
 

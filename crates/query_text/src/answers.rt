@@ -1,6 +1,6 @@
 // The texts of answers.
 ghost use Rattle.std.specs.Prelude.{◌≡◌, ◌≤◌, true, string_bytes, IfOk, OnOk, OnErr, IsErrOf};
-ghost use Rattle.fs_errors.specs.Counts.{Rose};
+ghost use Rattle.fs_model.specs.Counts.{Rose};
 ghost use Rattle.fs_text.specs.Output.{ended};
 ghost use Rattle.fs_text.specs.Streams.{Takes, TakesPrefix};
 ghost use Rattle.query_text.specs.Answers.{last_line, page_text, count_text};

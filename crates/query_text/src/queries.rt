@@ -1,6 +1,6 @@
 // A whole input of queries.
 ghost use Rattle.std.specs.Prelude.{◌≡◌, ℕ, ◌≤◌, List, true, false, IfOk, IfSome, IsErrOf};
-ghost use Rattle.fs_errors.specs.Counts.{Rose};
+ghost use Rattle.fs_model.specs.Counts.{Rose};
 ghost use Rattle.fs_text.specs.Reading.{Answers, is_said, numbered};
 ghost use Rattle.fs_text.specs.Streams.{IsReadOut};
 ghost use Rattle.query_text.specs.Queries.{query_at, queries_of};

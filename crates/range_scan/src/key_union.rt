@@ -4,8 +4,7 @@ ghost use Rattle.std.specs.List.{AllByRecursion};
 ghost use Rattle.store_image.specs.Listing.{IsRising};
 ghost use Rattle.range_scan.specs.Keys.{IsUnion, IsFirst, IsBehind};
 
-use fs_errors::Memory;
-use fs_model::Key;
+use fs_model::{Key, Memory};
 use std::alloc::Global;
 
 /// The lesser one of the first keys of two lists.

@@ -4,8 +4,7 @@ ghost use Rattle.range_scan.specs.LiveKeys.{AreLiveKeys, AreLiveIn};
 
 use crate::key_union::merged;
 use core_index::CoreIndex;
-use fs_errors::Memory;
-use fs_model::Key;
+use fs_model::{Key, Memory};
 use log_entry::EntryName;
 use recover::CoreStart;
 use std::alloc::Global;

@@ -13,8 +13,7 @@ ghost use Rattle.recover.specs.Recovering.{cells_found};
 ghost use Rattle.range_scan.specs.Starts.{AreStartsIn, HasBlock};
 
 use core_index::Look;
-use fs_errors::Memory;
-use fs_model::{Key, Pair, Value};
+use fs_model::{Key, Memory, Pair, Value};
 use pm_region::Region;
 use recover::CoreStart;
 use std::alloc::Global;

@@ -19,7 +19,7 @@ use crate::types::RecoverError;
 use chunk_map::layout_sizes::HEAD_WORDS;
 use chunk_map::words::load_words;
 use chunk_map::{Head, Layout, read_head};
-use fs_errors::Memory;
+use fs_model::Memory;
 use pm_region::Region;
 use std::alloc::Global;
 use store_image::Fault;

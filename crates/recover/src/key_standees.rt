@@ -6,7 +6,7 @@ ghost use Rattle.recover.specs.Standing.{standee_at};
 use crate::found_entries::{Found, core_of};
 use chunk_map::Layout;
 use core_index::Standee;
-use fs_errors::Memory;
+use fs_model::Memory;
 
 /// Puts the entries of a key into a list, in place of what it has: each version with the core in whose part it stands.
 /// After a crash in the midst of cleaning one may stand twice.

@@ -13,7 +13,7 @@ ghost use Rattle.recover.specs.Heads.{HasHeads, tail_there};
 use crate::types::RecoverError;
 use chunk_map::{Head, Layout, read_head};
 use core_log::LogChunk;
-use fs_errors::Memory;
+use fs_model::Memory;
 use pm_region::Region;
 use std::alloc::Global;
 use store_image::Fault;

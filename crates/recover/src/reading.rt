@@ -15,7 +15,7 @@ use crate::found_entries::{Found, chunk_of, core_of, place_of};
 use crate::types::RecoverError;
 use chunk_map::Layout;
 use chunk_map::words::load_words;
-use fs_errors::Memory;
+use fs_model::Memory;
 use log_entry::entry_limits::SHORTEST_ENTRY;
 use log_entry::{Body, Entry, Read, read_entry, size_of};
 use pm_region::{Region, WORD_BYTES};

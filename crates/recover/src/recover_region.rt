@@ -17,7 +17,7 @@ use crate::shares::{Share, shares};
 use crate::starts::starts;
 use crate::types::{RecoverError, Recovered};
 use chunk_map::{Layout, read_superblock};
-use fs_errors::Memory;
+use fs_model::Memory;
 use pm_region::Region;
 use std::alloc::Global;
 use store_image::Fault;

@@ -10,8 +10,7 @@ use chunk_map::layout_sizes::{
     FIRST_UNIT, GREATEST_CLASS, SUPERBLOCK_WORDS, UNIT_BYTES, UNIT_WORDS,
 };
 use chunk_map::{Head, Layout, read_head};
-use fs_errors::Memory;
-use fs_model::Value;
+use fs_model::{Memory, Value};
 use lazy_alloc::value_in;
 use pm_region::{Region, WORD_BYTES};
 use std::alloc::Global;

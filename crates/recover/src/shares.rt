@@ -22,7 +22,7 @@ use crate::reading::{gone_fault, read_at};
 use crate::types::RecoverError;
 use chunk_map::Layout;
 use core_index::{CoreIndex, Standee};
-use fs_errors::Memory;
+use fs_model::Memory;
 use log_entry::Body;
 use pm_region::Region;
 use std::alloc::Global;

@@ -10,7 +10,7 @@ ghost use Rattle.recover.specs.FirstClash.{lower, IsFirst};
 use crate::found_entries::Found;
 use crate::reading::read_placed;
 use chunk_map::Layout;
-use fs_errors::Memory;
+use fs_model::Memory;
 use pm_region::Region;
 use std::alloc::Global;
 use store_image::contradictions::contradicts;

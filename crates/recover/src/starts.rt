@@ -24,7 +24,7 @@ use crate::types::{CoreStart, RecoverError};
 use chunk_map::Layout;
 use core_index::CoreIndex;
 use core_log::CoreLog;
-use fs_errors::Memory;
+use fs_model::Memory;
 use lazy_alloc::Allocator;
 use log_entry::EntryName;
 use log_standing::{Standing, standing_told};

@@ -6,7 +6,7 @@ ghost use Rattle.recover.specs.declared.types.RecoverError.TheVariants as errors
 use chunk_map::{Layout, NotARegion};
 use core_index::CoreIndex;
 use core_log::CoreLog;
-use fs_errors::Memory;
+use fs_model::Memory;
 use lazy_alloc::Allocator;
 use log_standing::Standing;
 use std::alloc::{AllocError, AllocFailed};

@@ -5,13 +5,13 @@ ghost use Rattle.recover.specs.declared.types.CoreStart.{CoreStart};
 
 use core_index::Look;
 use core_log::LogChunk;
-use fs_errors::Memory;
-use fs_model::Key;
+use fs_model::{Key, Memory};
 use log_entry::EntryName;
-use pm_region::{Region, SplitRegion, SteadyRegion};
+use pm_region::{Region, SplitRegion};
 use recover::{
     Fault, RecoverError, Recovered, first_fault, live_pairs, pairs, recover, recover_read,
 };
+use region_memory::SteadyRegion;
 use std::alloc::Global;
 use std::test::Fail;
 

@@ -1,7 +1,7 @@
 -- The texts of replies are read as they are written.
 use Rattle.std.proofs.Common.{◌≡◌, ℕ, List, ◌++◌, take, drop, refl, sym, ◌∙◌, ap, Bool, true, false, cond, Option, Some, None}
 use Rattle.std.specs.Prelude.{bytes_eq, codes, Result, Ok, Err, IfOk}
-use Rattle.fs_errors.specs.declared.Memory.{Memory}
+use Rattle.fs_model.specs.declared.memory.Memory.{Memory}
 use Rattle.std.specs.Cmp.Lexicographic.{bytes_decides}
 use Rattle.std.proofs.lemmas.List.{take-append-drop}
 use Rattle.fs_model.specs.declared.model.Reply.{Reply}

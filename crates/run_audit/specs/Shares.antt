@@ -2,7 +2,7 @@
 use Rattle.std.specs.Prelude.{◌≡◌, ℕ, ◌+◌, ◌<◌, ◌%◌, ◌==◌, ◌||◌, nat_eq, nat_lt, List, length, take, Bool, true, false, Option, Some, None, if◌then◌else◌, option_copied, option_map, slice_index_or, IfOk, Result, min}
 use Rattle.std.specs.Option.{option_or, unwrap_or}
 use Rattle.std.specs.HashMap.{HashMap, get}
-use Rattle.fs_errors.specs.declared.Memory.{Memory}
+use Rattle.fs_model.specs.declared.memory.Memory.{Memory}
 use Rattle.fs_model.specs.declared.model.Pair.{Pair}
 use Rattle.fs_model.specs.declared.model.Request.{Request}
 use Rattle.fs_model.specs.declared.model.Reply.{Reply}

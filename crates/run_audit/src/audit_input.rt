@@ -1,7 +1,7 @@
 // The input of an audit.
 ghost use Rattle.std.specs.Prelude.{◌≡◌, ℕ, ◌+◌, ◌≤◌, List, Ok, OnOk, IfOk, IfSome, IsErrOf, true, false, length};
 ghost use Rattle.std.specs.List.{filter_map};
-ghost use Rattle.fs_errors.specs.Counts.{Rose};
+ghost use Rattle.fs_model.specs.Counts.{Rose};
 ghost use Rattle.fs_model.specs.declared.model.Reply.{Reply};
 ghost use Rattle.fs_text.specs.declared.line.Line.{Line};
 ghost use Rattle.fs_text.specs.declared.input_limits.TheConstants.{MOST_READ};
@@ -14,8 +14,7 @@ ghost use Rattle.run_audit.specs.Replies.{audit_input_of, from_replies, replies_
 use crate::first_line::first_line;
 use crate::parting::{Parts, part_at_replies};
 use crate::reply_lines::read_replies;
-use fs_errors::Memory;
-use fs_model::{Reply, Request};
+use fs_model::{Memory, Reply, Request};
 use fs_text::input_limits::{MOST_INPUT_BYTES, MOST_READ};
 use fs_text::{Input, InputError, Line, Source, parse_input, read_all};
 use std::alloc::Global;

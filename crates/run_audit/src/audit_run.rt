@@ -8,8 +8,7 @@ ghost use Rattle.run_audit.specs.Shares.{is_of, is_before, earlier, AreOfShares,
 
 use crate::share::{Share, first_fault};
 use crate::verdict::{StartCell, Verdict};
-use fs_errors::Memory;
-use fs_model::{Reply, Request};
+use fs_model::{Memory, Reply, Request};
 use std::alloc::Global;
 use std::thread;
 use std::thread::Threads;

@@ -8,8 +8,7 @@ ghost use Rattle.run_audit.specs.Parting.{AreWritable, items_of};
 ghost use Rattle.run_audit.specs.Replies.{reply_of, value_of, reply_at, replies_from, IsTextOf};
 
 use crate::first_line::first_line;
-use fs_errors::Memory;
-use fs_model::{Reply, Value};
+use fs_model::{Memory, Reply, Value};
 use fs_text::InputError;
 use fs_text::input_limits::{LONGEST_LINE, MOST_INPUT_BYTES};
 use std::alloc::Global;

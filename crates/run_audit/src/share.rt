@@ -8,8 +8,7 @@ ghost use Rattle.run_audit.specs.Shares.{shown, started, state_at, entry_at, sta
 
 use crate::standing::Standing;
 use crate::verdict::StartCell;
-use fs_errors::Memory;
-use fs_model::{Key, Reply, Request};
+use fs_model::{Key, Memory, Reply, Request};
 use std::alloc::Global;
 use std::collections::HashMap;
 

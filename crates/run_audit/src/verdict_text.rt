@@ -1,6 +1,6 @@
 // The text of a verdict.
 ghost use Rattle.std.specs.Prelude.{◌≡◌, ◌≤◌, true, string_bytes, IfOk, OnOk, OnErr, IsErrOf};
-ghost use Rattle.fs_errors.specs.Counts.{Rose};
+ghost use Rattle.fs_model.specs.Counts.{Rose};
 ghost use Rattle.fs_text.specs.Streams.{Takes, TakesPrefix};
 ghost use Rattle.run_audit.specs.VerdictText.{verdict_text};
 

@@ -2,8 +2,7 @@
 ghost use Rattle.std.specs.Prelude.{◌≡◌, ◌++◌, [], IfOk};
 ghost use Rattle.store_image.specs.Listing.{with_pair};
 
-use fs_errors::Memory;
-use fs_model::{Pair, Value};
+use fs_model::{Memory, Pair, Value};
 
 /// Appends the key's pair, where it is live.
 pub fn push_pair(pairs: &mut Vec<Pair>, key: u64, value: Option<Value>) -> Result<(), Memory>

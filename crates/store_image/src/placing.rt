@@ -5,7 +5,7 @@ ghost use Rattle.store_image.specs.Parts.{placed_in_chunk};
 
 use crate::scanning::AtPlace;
 use crate::types::PlacedEntry;
-use fs_errors::Memory;
+use fs_model::Memory;
 
 /// Appends the entries of a chunk with their places.
 pub fn place_entries(

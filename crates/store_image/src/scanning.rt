@@ -3,7 +3,7 @@ ghost use Rattle.std.specs.Prelude.{◌≡◌, ℕ, ◌+◌, ◌*◌, ◌^◌, �
 ghost use Rattle.log_entry.specs.Batches.{Scan, ended, scan, scan_of};
 ghost use Rattle.store_image.specs.Scanned.{IsScan, IsNext, entries_by_place};
 
-use fs_errors::Memory;
+use fs_model::Memory;
 use log_entry::entry::{Entry, Read};
 use log_entry::entry_reading::read_entry;
 use pm_region::LINE_WORDS;

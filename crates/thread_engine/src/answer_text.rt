@@ -1,6 +1,6 @@
 // The text of a window's answers.
 ghost use Rattle.std.specs.Prelude.{◌≡◌, ◌≤◌, ◌++◌, map, true, OnOk, OnErr, IsErrOf};
-ghost use Rattle.fs_errors.specs.Counts.{Rose};
+ghost use Rattle.fs_model.specs.Counts.{Rose};
 ghost use Rattle.fs_text.specs.Output.{ended, reply_line, replies_text};
 ghost use Rattle.fs_text.specs.Streams.{Takes, TakesUpTo, TakesPrefix};
 ghost use Rattle.group_engine.specs.Reports.{reply_in};

@@ -3,7 +3,7 @@ ghost use Rattle.std.specs.Prelude.{◌≡◌, ◌*◌, ◌≤◌, ◌++◌, [],
 ghost use Rattle.thread_engine.specs.Manned.{AllEnded, AreTokensOf, AreHands};
 
 use atomic_board::{GroupTable, SeatToken};
-use fs_errors::Memory;
+use fs_model::Memory;
 use std::alloc::Global;
 use std::collections::VecDeque;
 

@@ -7,7 +7,7 @@ ghost use Rattle.group_engine.specs.Reports.{IsReport, IsBlank, HasRoomFor};
 ghost use Rattle.thread_engine.specs.Collected.{AreBlank, with_stamp, restamped, end_by, any_stopped};
 
 use core_worker::Worker;
-use fs_errors::Memory;
+use fs_model::Memory;
 use group_engine::run_outcome::{End, Outcome};
 use group_engine::run_report::{Report, report_on};
 use group_engine::types::Stamped;

@@ -12,7 +12,7 @@ ghost use Rattle.thread_engine.specs.Manned.{IsManned, AreManned};
 
 use atomic_board::{GroupTable, SeatToken};
 use chunk_map::Geometry;
-use fs_errors::Memory;
+use fs_model::Memory;
 use group_board::Opening;
 use group_engine::open_boards::{Numbered, Of};
 use group_engine::open_engine::{Found, On};

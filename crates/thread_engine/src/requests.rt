@@ -4,8 +4,7 @@ ghost use Rattle.fs_model.specs.declared.model.Request as requests;
 ghost use Rattle.engine_laws.specs.Ran.{asked_in};
 ghost use Rattle.thread_engine.specs.Requests.{Makes};
 
-use fs_errors::Memory;
-use fs_model::Request;
+use fs_model::{Memory, Request};
 use fs_text::{Input, Line};
 use std::alloc::Global;
 use std::collections::VecDeque;

@@ -18,7 +18,7 @@ use atomic_board::{GroupTable, SeatToken};
 use chunk_map::{Geometry, Layout};
 use core_worker::Gate;
 use engine_laws::engine_rules;
-use fs_errors::Memory;
+use fs_model::Memory;
 use group_engine::open_engine::open_workers;
 use group_engine::run_outcome::Outcome;
 use group_engine::run_report::Report;

@@ -4,8 +4,7 @@ ghost use Rattle.std.specs.Prelude.{◌≡◌};
 use crate::requests::Requests;
 use crate::watch::Watch;
 use answer_queue::WINDOW;
-use fs_errors::Memory;
-use fs_model::Request;
+use fs_model::{Memory, Request};
 use std::alloc::Global;
 
 /// The same requests. A run makes the first request of a window when all before it are answered: then the watch is told

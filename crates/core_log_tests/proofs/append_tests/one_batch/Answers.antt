@@ -1,5 +1,5 @@
 use Rattle.std.proofs.Common.{◌≡◌, true, is_some, rules}
-use Rattle.pm_region.specs.Steady.{steady_state}
+use Rattle.region_memory.specs.Steady.{steady_state}
 use Rattle.core_log.specs.Log.{tail_of}
 use Rattle.core_log.proofs.Clients.{may_start}
 use Rattle.core_log_tests.proofs.append_tests.one_batch.Goals as goal

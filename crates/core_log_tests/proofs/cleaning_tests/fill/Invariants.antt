@@ -1,5 +1,5 @@
 use Rattle.std.proofs.Common.{◌≡◌, ◌≤◌, false}
-use Rattle.pm_region.specs.Steady.{steady_state}
+use Rattle.region_memory.specs.Steady.{steady_state}
 use Rattle.core_log.specs.Log.{StandsIn}
 use Rattle.core_log_tests.proofs.cleaning_tests.fill.Given as goal
 

@@ -1,7 +1,7 @@
 use Rattle.std.proofs.Common.{ℕ, false, sym, subst}
 use Rattle.group_laws.specs.declared.types.Seen.TheVariants.{Mail}
 use Rattle.group_laws.specs.MemberViews.{View}
-use Rattle.crash_core.specs.Shows.{notices_of}
+use Rattle.group_board.specs.Mailing.{notices_of}
 use Rattle.core_worker.specs.GoneNames.{KnowsAll}
 use Rattle.core_worker.specs.LogNames.{KnowsBy, HearsNotices}
 use Rattle.core_worker.proofs.LogNames.{received}

@@ -3,7 +3,7 @@ use Rattle.std.proofs.lemmas.List.{length-take-le}
 use Rattle.std.proofs.lemmas.List.Filters.{length-filter_both}
 use Rattle.log_entry.specs.declared.entry.EntryName.{EntryName}
 use Rattle.chunk_map.specs.Layouts.{owner}
-use Rattle.crash_core.specs.Names.{NameList}
+use Rattle.group_board.specs.Names.{NameList}
 use Rattle.core_worker.specs.GoneMail.{names_of}
 use Rattle.core_worker.proofs.gone_mail.file_names.Goals as goal
 

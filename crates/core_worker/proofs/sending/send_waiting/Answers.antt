@@ -1,6 +1,6 @@
 -- A mailbox is loaded, and filled where it was empty.
 use Rattle.std.proofs.Common.{true, false, refl}
-use Rattle.crash_core.specs.Shows.{notices_of}
+use Rattle.group_board.specs.Mailing.{notices_of}
 use Rattle.group_laws.specs.Runs.{Kind}
 use Rattle.core_worker.proofs.MailTurns.{one_load, load_then}
 use Rattle.core_worker.proofs.sending.send_waiting.Goals as goal

@@ -1,4 +1,4 @@
-use Rattle.pm_region.specs.Steady.{steady_state}
+use Rattle.region_memory.specs.Steady.{steady_state}
 use Rattle.engine_tests.specs.WorkerTrials.{IsSeated}
 use Rattle.engine_tests.proofs.forgotten_tests.crowd.Given as goal
 

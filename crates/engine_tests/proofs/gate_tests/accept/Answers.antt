@@ -1,4 +1,4 @@
-use Rattle.pm_region.specs.Steady.{steady_state}
+use Rattle.region_memory.specs.Steady.{steady_state}
 use Rattle.fs_model.specs.Cells.{key_of}
 use Rattle.engine_tests.proofs.GateTrials.{has_tie, still_seated}
 use Rattle.engine_tests.proofs.gate_tests.accept.Goals as goal

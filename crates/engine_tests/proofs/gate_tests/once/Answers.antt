@@ -1,4 +1,4 @@
-use Rattle.pm_region.specs.Steady.{steady_state}
+use Rattle.region_memory.specs.Steady.{steady_state}
 use Rattle.engine_tests.proofs.GateTrials.{seated_on}
 use Rattle.engine_tests.proofs.gate_tests.once.Goals as goal
 

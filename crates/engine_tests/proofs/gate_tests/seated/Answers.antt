@@ -1,5 +1,5 @@
 use Rattle.std.proofs.Common.{sym, ◌∙◌}
-use Rattle.pm_region.specs.Steady.{steady_state}
+use Rattle.region_memory.specs.Steady.{steady_state}
 use Rattle.pm_region.specs.Words.{lasts}
 use Rattle.group_board.specs.Journals.{state}
 use Rattle.engine_tests.proofs.GateTrials.{words_sound, words_group, second_group, opened_second, at_board}

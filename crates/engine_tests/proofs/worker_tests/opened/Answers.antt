@@ -1,5 +1,5 @@
 use Rattle.std.proofs.Common.{sym, ◌∙◌, arith}
-use Rattle.pm_region.specs.Steady.{steady_state}
+use Rattle.region_memory.specs.Steady.{steady_state}
 use Rattle.engine_tests.proofs.WorkerTrials.{may_accept}
 use Rattle.engine_tests.proofs.worker_tests.opened.Goals as goal
 

@@ -1,7 +1,7 @@
 use Rattle.std.proofs.Common.{◌≡◌, ℕ, ◌+◌, List, Option, length, length-append, get_or, option_map, [], ◌∷◌, ap, sym, subst, ◌∙◌, refl}
 use Rattle.std.specs.Prelude.{None}
-use Rattle.crash_core.specs.declared.names.Notices.{Notices}
-use Rattle.crash_core.specs.Shows.{notices_of}
+use Rattle.group_board.specs.declared.names.Notices.{Notices}
+use Rattle.group_board.specs.Mailing.{notices_of}
 use Rattle.group_board.proofs.Picks.{all_push}
 use Rattle.group_board.proofs.local_board.empty_mail.Goals as goal
 

@@ -1,6 +1,6 @@
 use Rattle.std.proofs.Common.{◌≡◌, ℕ, length, get_or, option_map}
 use Rattle.std.specs.Prelude.{None}
-use Rattle.crash_core.specs.Shows.{notices_of}
+use Rattle.group_board.specs.Mailing.{notices_of}
 use Rattle.group_board.proofs.local_board.empty_mail.Given as goal
 
 abbrev pub invariant-loop : goal.invariant-loop

@@ -1,5 +1,5 @@
 use Rattle.std.proofs.Common.{◌≡◌, List, ◌∙◌, ap}
-use Rattle.pm_region.specs.Mem.{mem_state}
+use Rattle.region_memory.specs.Mem.{mem_state}
 use Rattle.core_log.specs.declared.types.LogChunk.{LogChunk}
 use Rattle.core_log.specs.Log.{tail_of}
 use Rattle.group_laws.specs.State.{Group}

@@ -1,4 +1,4 @@
-use Rattle.pm_region.specs.Steady.{steady_state}
+use Rattle.region_memory.specs.Steady.{steady_state}
 use Rattle.group_board.specs.Journals.{state}
 use Rattle.group_tests.proofs.TwoLeaderLaws.{one_may_write, zero_may_write, three_members}
 use Rattle.group_tests.proofs.two_leaders.both_write.Goals as goal

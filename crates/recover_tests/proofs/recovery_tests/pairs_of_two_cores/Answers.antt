@@ -1,4 +1,4 @@
-use Rattle.pm_region.specs.Steady.{steady_state}
+use Rattle.region_memory.specs.Steady.{steady_state}
 use Rattle.pm_region.specs.Words.{lasts}
 use Rattle.recover_tests.proofs.RecoveryTrials.{found_made}
 use Rattle.recover_tests.proofs.recovery_tests.pairs_of_two_cores.Goals as goal

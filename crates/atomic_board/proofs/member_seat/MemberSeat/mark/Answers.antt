@@ -9,7 +9,7 @@ use Rattle.atomic_board.specs.Deeds.{place_of, size}
 use Rattle.atomic_board.specs.SlotsOut.{has, numbers, all_empty, distinct, IsNamedBy, Holds}
 use Rattle.atomic_board.specs.StepTells.{view_in, is_own, number_in, origin_in, did, IsNamed}
 use Rattle.atomic_board.proofs.OwedGiving.{mark_owes}
-use Rattle.crash_core.specs.declared.kinds.Change.{Change}
+use Rattle.group_board.specs.declared.change.Change.{Change}
 use Rattle.atomic_board.proofs.SeatMoves.{after_giving}
 use Rattle.atomic_board.proofs.SlotsHeld.{first_out, rest_out, rest_empty, distinct_rest, holds_turned}
 use Rattle.atomic_board.proofs.member_seat.MemberSeat.mark.Goals as goal

@@ -1,8 +1,8 @@
 use Rattle.std.proofs.Common.{◌≡◌, ◌<◌, sym, ap, ap₂, refl, ◌∙◌, subst, arith, true, false, ◌∷◌, Some, None}
 use Rattle.atomic_table.specs.Table.{rest}
 use Rattle.group_laws.specs.declared.types.Seen.TheVariants as loads
-use Rattle.crash_core.specs.declared.names.Notices.{Notices}
-use Rattle.crash_core.specs.Shows.{notices_of}
+use Rattle.group_board.specs.declared.names.Notices.{Notices}
+use Rattle.group_board.specs.Mailing.{notices_of}
 use Rattle.group_board.specs.Views.{after_find, after_receive, TidiedIn}
 use Rattle.atomic_board.specs.declared.parcel.Parcel.TheVariants as parcels
 use Rattle.atomic_board.specs.declared.seat_data.Deed.TheVariants.{Found, Receive}

@@ -1,7 +1,7 @@
 use Rattle.std.proofs.Common.{◌≡◌, ◌<◌, sym, ap, ap₂, refl, ◌∙◌, subst, arith, true, false, [], ◌∷◌, Some, None}
 use Rattle.atomic_table.specs.Table.{rest}
 use Rattle.group_laws.specs.declared.types.Seen.TheVariants as loads
-use Rattle.crash_core.specs.Shows.{notices_of}
+use Rattle.group_board.specs.Mailing.{notices_of}
 use Rattle.group_laws.specs.MemberViews.{View}
 use Rattle.group_board.specs.Views.{after_find}
 use Rattle.group_board.specs.Conditions.{MaySend}

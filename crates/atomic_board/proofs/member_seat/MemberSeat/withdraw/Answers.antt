@@ -10,7 +10,7 @@ use Rattle.atomic_board.specs.ShownState.{lies}
 use Rattle.atomic_board.specs.SlotsOut.{numbers, all_empty, distinct, Holds}
 use Rattle.atomic_board.specs.StepTells.{view_in, number_in, origin_in}
 use Rattle.atomic_board.proofs.OwedGiving.{withdraw_owes}
-use Rattle.crash_core.specs.declared.kinds.Change.{Change}
+use Rattle.group_board.specs.declared.change.Change.{Change}
 use Rattle.atomic_board.proofs.SeatMoves.{IsSeat, after_freeing, withdraw_pends, view_did}
 use Rattle.atomic_board.proofs.SlotsHeld.{out_at, same_out, same_change}
 use Rattle.atomic_board.proofs.member_seat.MemberSeat.withdraw.Goals as goal

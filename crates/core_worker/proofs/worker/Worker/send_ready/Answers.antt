@@ -1,5 +1,5 @@
 -- What waits for another member is sent.
-use Rattle.crash_core.specs.Shows.{notices_of}
+use Rattle.group_board.specs.Mailing.{notices_of}
 use Rattle.core_worker.proofs.OutboxLaws.{may_send}
 use Rattle.core_worker.proofs.SentMail.{keeps_sending, lowers_sending}
 use Rattle.core_worker.proofs.worker.Worker.send_ready.Goals as goal

@@ -1,7 +1,7 @@
 -- Names that awaited are taken out of the index.
 use Rattle.std.proofs.Common.{◌≡◌, ◌∙◌, refl, sym, ap, subst, Some}
 use Rattle.std.proofs.lemmas.Option.{slice_get-get_or}
-use Rattle.crash_core.specs.declared.names.Notices.{Notices}
+use Rattle.group_board.specs.declared.names.Notices.{Notices}
 use Rattle.core_worker.specs.Outbox.{HasSpare}
 use Rattle.core_worker.proofs.ReadiedMail.{takes_in, box_here}
 use Rattle.core_worker.proofs.worker.Worker.take_for.Goals as goal

@@ -1,17 +1,15 @@
-use Rattle.std.proofs.Common.{◌∙◌, ap, sym, true}
+use Rattle.std.proofs.Common.{◌∙◌, ap, sym, true, ◌∷◌}
 use Rattle.group_laws.specs.Steps.{finds}
 use Rattle.group_laws.specs.declared.types.Seen.TheVariants as loads
-use Rattle.crash_core.specs.Shows.{notices_of}
+use Rattle.group_board.specs.Mailing.{notices_of}
 use Rattle.group_board.specs.Journals.{state, trail_in}
-use Rattle.group_board.proofs.Mail.{seen_in, receive_steps, receive_place, receive_view}
-use Rattle.group_board.proofs.Mail.{mail_step, steps_lawful, heard_before}
+use Rattle.group_board.proofs.Mail.{seen_in, receive_steps, receive_place, receive_view, mail_step, steps_lawful, heard_before}
 use Rattle.group_laws.specs.Runs as runs
 use Rattle.group_laws.proofs.Clients.{step_keeps}
 use Rattle.group_board.specs.Trails.{step_with}
 use Rattle.group_laws.specs.MemberViews.{view_of}
 use Rattle.group_board.proofs.Views as views
 use Rattle.group_board.proofs.local_board.LocalBoard.receive.Goals as goal
-use Rattle.std.proofs.Common.{◌∷◌}
 
 pub take_mail-requires-clause-seen : goal.take_mail-requires-clause-seen
 take_mail-requires-clause-seen c = seen_in (state c.args.self.now.keeper.me.0) (state c.look_at_mail.new.self.keeper.me.0) c.args.member c.args.from c.args.member true (c.look_at_mail.ensures.state ∙ ap (λ x. finds (state c.args.self.now.keeper.me.0) c.args.member (loads.Mail c.args.from c.args.member x)) c.if-look_at_mail.true)

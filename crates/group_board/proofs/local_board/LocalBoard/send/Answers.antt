@@ -1,17 +1,15 @@
-use Rattle.std.proofs.Common.{◌∙◌, ap, sym}
+use Rattle.std.proofs.Common.{◌∙◌, ap, sym, ◌∷◌, false}
 use Rattle.group_laws.specs.Steps.{finds}
 use Rattle.group_laws.specs.declared.types.Seen.TheVariants as loads
-use Rattle.crash_core.specs.Shows.{notices_of}
+use Rattle.group_board.specs.Mailing.{notices_of}
 use Rattle.group_board.specs.Journals.{state, trail_in}
-use Rattle.group_board.proofs.Mail.{can_send, send_steps, send_place, send_view}
-use Rattle.group_board.proofs.Mail.{mail_step, steps_lawful}
+use Rattle.group_board.proofs.Mail.{can_send, send_steps, send_place, send_view, mail_step, steps_lawful}
 use Rattle.group_laws.specs.Runs as runs
 use Rattle.group_laws.proofs.Clients.{step_keeps}
 use Rattle.group_board.specs.Trails.{step_with}
 use Rattle.group_laws.specs.MemberViews.{view_of}
 use Rattle.group_board.proofs.Views as views
 use Rattle.group_board.proofs.local_board.LocalBoard.send.Goals as goal
-use Rattle.std.proofs.Common.{◌∷◌, false}
 
 pub put_mail-requires : goal.put_mail-requires
 put_mail-requires c = can_send (state c.args.self.now.keeper.me.0) (state c.look_at_mail.new.self.keeper.me.0) c.args.member c.args.to (notices_of c.args.notices) (c.look_at_mail.ensures.state ∙ ap (λ x. finds (state c.args.self.now.keeper.me.0) c.args.member (loads.Mail c.args.member c.args.to x)) c.if-look_at_mail.false) c.requires

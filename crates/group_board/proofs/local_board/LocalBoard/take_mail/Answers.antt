@@ -1,7 +1,7 @@
 use Rattle.std.proofs.Common.{ℕ, ◌<◌, length-set, ◌∙◌, ap, sym, subst, option_map}
 use Rattle.group_laws.specs.Places.{members}
 use Rattle.std.specs.Prelude.{None}
-use Rattle.crash_core.specs.Shows.{notices_of}
+use Rattle.group_board.specs.Mailing.{notices_of}
 use Rattle.group_board.proofs.Facts.{covers, read_mail, still_there}
 use Rattle.group_board.proofs.Keeping.{mail_at}
 use Rattle.group_board.proofs.Calls.{receive_tidied, receive_kept}

@@ -1,5 +1,5 @@
 use Rattle.std.proofs.Common.{◌<◌, length, refl, ap, subst, arith, Result, OnOk, IfOk}
-use Rattle.fs_errors.specs.declared.Memory.{Memory}
+use Rattle.fs_model.specs.declared.memory.Memory.{Memory}
 use Rattle.chunk_map.specs.declared.layouts.Geometry.{Geometry}
 use Rattle.group_engine.specs.Calls.{NoneWinds, has_moved}
 use Rattle.group_engine.specs.Runs.{RunMoves, run_state}

@@ -1,8 +1,0 @@
-use Rattle.std.proofs.Common.{◌≡◌, ℕ, true, take}
-use Rattle.group_laws.specs.Places.{owner}
-use Rattle.group_laws.specs.Updates.{has}
-use Rattle.crash_core.specs.Shows.{place_of}
-use Rattle.crash_core.proofs.cleaning.may_report_all.Given as goal
-
-abbrev pub invariant-loop-name : goal.invariant-loop-name
-invariant-loop-name l = (k n : ℕ) → has (take l.name-index l.names) k n ≡ true → (has l.view.leaving.items k n ≡ true) × (owner (place_of l.state) k ≡ l.to)

@@ -1,6 +1,0 @@
-use Rattle.std.proofs.Common.{◌≡◌, take}
-use Rattle.group_laws.specs.Updates.{without}
-use Rattle.crash_core.proofs.sets.entries_but.Given as goal
-
-abbrev pub invariant-loop-entry : goal.invariant-loop-entry
-invariant-loop-entry l = l.left.items ≡ without l.out (take l.entry-index l.list)

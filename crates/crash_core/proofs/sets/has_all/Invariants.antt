@@ -1,6 +1,0 @@
-use Rattle.std.proofs.Common.{◌≡◌, ℕ, true, take}
-use Rattle.group_laws.specs.Updates.{has}
-use Rattle.crash_core.proofs.sets.has_all.Given as goal
-
-abbrev pub invariant-loop-name : goal.invariant-loop-name
-invariant-loop-name l = (k n : ℕ) → has (take l.name-index l.names) k n ≡ true → has l.list k n ≡ true

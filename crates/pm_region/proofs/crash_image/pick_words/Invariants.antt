@@ -1,5 +1,0 @@
-use Rattle.pm_region.specs.Image.{ArePicked}
-use Rattle.pm_region.proofs.crash_image.pick_words.Given as goal
-
-abbrev pub invariant-loop-k : goal.invariant-loop-k
-invariant-loop-k l = ArePicked l.first l.start l.steps l.pick l.image.items l.k

@@ -1,9 +1,0 @@
-use Rattle.pm_region.specs.Calls.{AreReads}
-use Rattle.pm_region.specs.Files.{AreFileParts}
-use Rattle.pm_region.proofs.file_pieces.file_pieces.Given as goal
-
-abbrev pub invariant-loop-i : goal.invariant-loop-i
-invariant-loop-i g l = record {
-  parts : AreFileParts l.path l.fn.words l.cuts l.stamp l.faults l.pieces.items l.i;
-  reads : AreReads l.tried.made;
-}

@@ -1,6 +1,0 @@
-use Rattle.std.proofs.Common.{take}
-use Rattle.pm_region.specs.Journals.{SameWithin}
-use Rattle.pm_region.proofs.step.touching_steps.Given as goal
-
-abbrev pub invariant-loop-step : goal.invariant-loop-step
-invariant-loop-step l = SameWithin l.from l.end l.own.items (take l.step-index l.steps)

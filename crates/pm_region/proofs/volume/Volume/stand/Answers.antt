@@ -1,5 +1,0 @@
-use Rattle.pm_region.proofs.Framed.{volume_goes}
-use Rattle.pm_region.proofs.volume.Volume.stand.Goals as goal
-
-pub returns : goal.returns
-returns c = λ r n n' le. let v = c.args.self.now in volume_goes v.history _ v.attached v.parted v.cuts.items v.bytes v.opens v.validations r n n' _ c.stand.ensures le

@@ -1,0 +1,5 @@
+pub mod Filing
+pub mod Lining
+pub mod Making
+pub mod Noting
+pub mod Writing

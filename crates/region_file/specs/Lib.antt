@@ -1,0 +1,11 @@
+pub mod Calls
+pub mod Filed
+pub mod Files
+pub mod Lines
+pub mod Marks
+pub mod LineRuns
+pub use Rattle.pm_region.specs.Bytes
+pub use Rattle.pm_region.specs.Cell
+pub use Rattle.fs_model.specs.Counts
+pub use Rattle.pm_region.specs.Split
+pub use Rattle.pm_region.specs.State

@@ -1,0 +1,12 @@
+pub mod OutsideCells
+pub mod Attaching
+pub mod Framed
+pub mod Joining
+pub mod Journals
+pub mod Now
+pub mod Parts
+pub mod Planning
+pub mod Splitting
+pub mod Stepping
+pub mod Taking
+pub mod Wide

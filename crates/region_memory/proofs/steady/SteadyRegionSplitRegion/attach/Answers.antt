@@ -1,0 +1,14 @@
+use Rattle.region_memory.proofs.Attaching.{attached_own, volume_finds}
+use Rattle.region_memory.proofs.steady.SteadyRegionSplitRegion.attach.Goals as goal
+
+pub returns-in_err-attach-clause-finds : goal.returns-in_err-attach-clause-finds
+returns-in_err-attach-clause-finds c = volume_finds c.args.self.now.volume 0 0
+
+pub returns-clause-finds : goal.returns-clause-finds
+returns-clause-finds c = volume_finds c.args.self.now.volume 0 0
+
+pub returns-clause-ok : goal.returns-clause-ok
+returns-clause-ok c = attached_own _ _ _ _ _ (c.in_ok-attach.ensures.ok 0 0 0 0)
+
+pub returns-clause-bytes : goal.returns-clause-bytes
+returns-clause-bytes c = λ telling. (c.in_ok-attach.ensures.ok 0 0 0 0).bytes_are
