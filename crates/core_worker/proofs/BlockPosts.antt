@@ -203,9 +203,9 @@ pub stands_places : (s : State) (p : Place) (m : ℕ) (v : View) (w : Worker) (p
 stands_places s p m v w ps S = record { lies = S.lies; licensed = S.licensed; landed = S.landed; log = S.log; free = S.free; due = S.due; cut = S.cut; names = S.names }
 
 -- what the post asks
-pub may_post : (p : Place) (m : ℕ) (v : View) (w : Worker) → Holds p m v w → (slot number q : ℕ) (e : Entry) (value : List ℕ) → slot < 8 → place_at w.places.items slot ≡ Staged number e value → e.body ≡ bodies.Pointer q → w.stopped ≡ false → GetsBlock (length value) × IsClearIn p m v q value
-    → MayPost p m v slot (record { entry = e; home = None }) value
-may_post p m v w H slot number q e value lt was points runs clear =
+pub may_post : (p : Place) (m : ℕ) (v : View) (w : Worker) → Holds p m v w → (slot number : ℕ) (e : Entry) (value : List ℕ) → slot < 8 → place_at w.places.items slot ≡ Staged number e value → w.stopped ≡ false
+    → ((q : ℕ) → e.body ≡ bodies.Pointer q → GetsBlock (length value) × IsClearIn p m v q value) → MayPost p m v slot (record { entry = e; home = None }) value
+may_post p m v w H slot number e value lt was runs clear =
     let f : IsPlaced p m v slot (Staged number e value) = subst (IsPlaced p m v slot) was (H.placed slot lt) in
     record {
       member = H.member;
@@ -218,7 +218,7 @@ may_post p m v w H slot number q e value lt was points runs clear =
       whole = by_broken v.broken refl;
       next = f.4;
       live = f.5;
-      block = λ r is. (let same : bodies.Pointer q ≡ bodies.Pointer r = sym points ∙ is in let at : q ≡ r = cc same in (clear.0, subst (λ (x : ℕ). IsClearIn p m v x value) at clear.1));
+      block = clear;
     }
   where
     by_broken : (b : Bool) → v.broken ≡ b → v.broken ≡ false

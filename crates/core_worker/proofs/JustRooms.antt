@@ -424,7 +424,7 @@ just_copies t p m a b refused C J =
 just_searched : (s : State) (w y : Worker) → BeginsNone s w y → HasJustRoom w → HasJustRoom y
 just_searched s w y B J = subst HasJustRoom (sym B.looks.same) J
 
-just_did : (s t : State) (refused : Bool) (before : Option Group) (seat : SeatAt) (a b : Moment) → AreApart a.worker.places.items → Did s t refused before seat a b → HasJustRoom a.worker → HasJustRoom b.worker
+pub just_did : (s t : State) (refused : Bool) (before : Option Group) (seat : SeatAt) (a b : Moment) → AreApart a.worker.places.items → Did s t refused before seat a b → HasJustRoom a.worker → HasJustRoom b.worker
 just_did s t refused before seat a b apart (Did.goes_round calm (inl C)) J = same_leading a.worker b.worker C.same J
 just_did s t refused before seat a b apart (Did.goes_round calm (inr R)) J = same_leading a.worker b.worker R.same J
 just_did s t refused before seat a b apart (Did.withdraws calm after all W) J = just_withdraws s seat before after a.view b.view a.worker b.worker all W J

@@ -1,3 +1,4 @@
+mod AnyPosts
 mod LeadTies
 mod Flight
 mod Led

@@ -8,6 +8,7 @@ use Rattle.core_index.specs.Index.{all_untold, known_at, room_at}
 use Rattle.group_laws.specs.Places.{owner}
 use Rattle.group_laws.specs.State.{Group}
 use Rattle.group_laws.specs.MemberViews.{View}
+use Rattle.core_worker.specs.declared.accepting.TheConstants.{UNANSWERED}
 use Rattle.core_worker.specs.declared.worker.Worker.{Worker}
 use Rattle.core_worker.specs.OwnPlaces.{is_busy}
 use Rattle.core_worker.specs.Refusals.{HasAnswerRoom}
@@ -46,7 +47,7 @@ wants_room w r = is_busy w.places.items (key_of r) || may_stage w r
 pub record Prepared (old new : Worker) (k : ℕ) (wanted : Bool) : Type 0 where
   pub record_room : room_at new.index k ≡ room_at old.index k + (if wanted then 1 else 0)
   pub others : (j : ℕ) → j ≢ k → room_at new.index j ≡ room_at old.index j
-  pub answers : HasAnswerRoom 73 new
+  pub answers : HasAnswerRoom UNANSWERED new
 
 -- The worker is tied there to its view and to the region, and the key is one of the member's.
 pub record IsTied (s : State) (w : Worker) (k : ℕ) (t : Tie) : Type 0 where

@@ -46,8 +46,16 @@ mailbox_left (Some n) = 1 + notices_left n
 unfoldable pub mail_left : ℕ → (ℕ → ℕ → Option Notices) → ℕ
 mail_left members mail = sum_below members (λ a. sum_below members (λ h. mailbox_left (mail a h)))
 
--- A core's part. An own name that was not told counts four, and three once it waits to be sent: then it is in a mailbox, which counts one more than its names. A name that stands in its log counts three, since it may wait to be sent once it is gone.
+-- A name that stands in a log counts so much, since it may wait to be sent once it is gone; and so does one that waits to be sent: then it is in a mailbox, which counts one more than its names.
+abbrev pub name_left : ℕ
+name_left = 3
+
+-- an own name that was not told counts one more
+abbrev pub own_left : ℕ
+own_left = 4
+
+-- a core's part
 unfoldable pub clears_left : Bool → Cleaning → StandingState → List (ℕ × slots.Place)
     → List ToSend → ℕ
 clears_left accepted cleaning st es out = may_begin_left accepted + (cleaning_left cleaning
-    + (3 * length st.entries + (4 * all_untold es + 3 * box_left out)))
+    + (name_left * length st.entries + (own_left * all_untold es + name_left * box_left out)))

@@ -15,16 +15,19 @@ ghost use Rattle.core_worker.specs.Accepting.{Admits, Prepared, HasTie, HoldsOrB
 ghost use Rattle.core_worker.specs.Status.{has_room, is_leading};
 ghost use Rattle.core_worker.specs.Left.{left, most, waits_left, StartsFirst};
 
+use crate::batch_names::MOST_NAMES;
+use crate::status::WAITING;
 use crate::types::{NotAccepted, Place};
 use crate::worker::Worker;
 use fs_model::{Key, Request};
+use group_laws::group_sizes::SLOTS;
 use pm_region::Region;
 use std::alloc::Global;
 
 // As many answers as there can be unanswered requests: those in the places and those that wait, and one more.
-const UNANSWERED: usize = 73;
+const UNANSWERED: usize = SLOTS as usize + WAITING as usize + 1;
 // As many names of entries as these may lead to: a lead for each, with a full batch.
-const NAMES: u64 = 4672;
+const NAMES: u64 = UNANSWERED as u64 * MOST_NAMES;
 
 // Whether a change of the key stands in a place.
 pub(crate) fn is_busy(places: &Vec<Place>, key: Key) -> bool

@@ -6,10 +6,11 @@ ghost use Rattle.core_worker.specs.StandingTies.{AddsNames, SameNames, most_name
 use crate::worker::Worker;
 use batch_leader::Batch;
 use fs_model::Memory;
+use log_entry::MOST_ENTRIES;
 use log_standing::Standing;
 
 /// As many names as a batch may have.
-pub(crate) const MOST_NAMES: u64 = 64;
+pub(crate) const MOST_NAMES: u64 = MOST_ENTRIES as u64;
 
 // Adds the names of a batch's entries.
 fn add_names(standing: &mut Standing, batch: &Batch)

@@ -8,7 +8,7 @@ ghost use Rattle.group_board.specs.declared.names.Notices.{Notices as ToSend};
 ghost use Rattle.group_laws.specs.State.{Notices};
 ghost use Rattle.core_worker.specs.declared.types.Cleaning.{Cleaning};
 ghost use Rattle.core_worker.specs.declared.types.Cleaning.TheVariants.{Nothing, Copying, Doomed};
-ghost use Rattle.core_worker.specs.CleaningLeft.{cleaning_most, most_words, notices_left, box_left, clears_left};
+ghost use Rattle.core_worker.specs.CleaningLeft.{cleaning_most, most_words, name_left, own_left, notices_left, box_left, clears_left};
 
 /// The turns of a cleaning lower what is left to do; a commit, a finished change and an accepted request raise it, by no
 /// more than so much.
@@ -46,11 +46,11 @@ pub fn every_lowering()
     ensures commits { (a : Bool) (c : Cleaning) (st now : StandingState)
         (es : List (ℕ × slots.Place)) (out : List ToSend) (n : ℕ)
         → length now.entries ≤ length st.entries + n
-        → clears_left a c now es out ≤ clears_left a c st es out + 3 * n }
+        → clears_left a c now es out ≤ clears_left a c st es out + name_left * n }
     ensures finishes { (a : Bool) (c : Cleaning) (st : StandingState)
         (es ix : List (ℕ × slots.Place)) (out : List ToSend)
         → all_untold ix ≤ all_untold es + 1
-        → clears_left a c st ix out ≤ clears_left a c st es out + 4 }
+        → clears_left a c st ix out ≤ clears_left a c st es out + own_left }
     ensures accepts { (a : Bool) (c : Cleaning) (st : StandingState)
         (es : List (ℕ × slots.Place)) (out : List ToSend)
         → clears_left true c st es out ≤ clears_left a c st es out + cleaning_most }

@@ -15,14 +15,14 @@ ghost use Rattle.group_board.specs.Told.{Makes};
 ghost use Rattle.batch_leader.specs.declared.batch_buffer.BatchBuffer.{BatchBuffer};
 ghost use Rattle.core_worker.specs.declared.types.Leading.TheVariants as leads;
 ghost use Rattle.core_worker.specs.declared.types.Place.TheVariants as kinds;
-ghost use Rattle.core_worker.specs.OwnPlaces.{place_at, Replaces};
+ghost use Rattle.core_worker.specs.OwnPlaces.{is_staged, place_at, Replaces};
 ghost use Rattle.core_worker.specs.Supplies.{HasKeptRoom};
 ghost use Rattle.batch_leader.specs.Persisting.{StaysLicensed, WritesPart};
-ghost use Rattle.core_worker.specs.Ties.{HoldsAt, KeepsStanding, LeadsNothing, Stands, StandsAt};
+ghost use Rattle.core_worker.specs.Ties.{HoldsAt, LeadsNothing, Stands, StandsAt};
 ghost use Rattle.core_worker.specs.Turns.{InOrderAt};
 ghost use Rattle.core_worker.specs.WorkerMoves.{hands_of, WorkerMoves};
 ghost use Rattle.batch_leader.specs.TurnSteps.{OneHanded, TurnSteps, trail_with};
-ghost use Rattle.core_worker.specs.Posting.{HasNoBlock, PostsPlain, IsStagedWith, WouldStand, PostsOrStops};
+ghost use Rattle.core_worker.specs.Posting.{PostsPlain, IsStagedWith, WouldStand, PostsOrStops};
 
 use crate::types::Place;
 use crate::worker::Worker;
@@ -153,60 +153,13 @@ impl Worker {
         }
     }
 
-    // Posts the change that is staged in a place and needs no block.
-    pub(crate) fn post_plain<R: Region, B: Board>(&mut self, region: &R, board: &mut B, slot: u32)
+    // Posts the change that is staged in a place. Where it has a block, that is written.
+    pub(crate) fn post_staged<R: Region, B: Board>(&mut self, region: &R, board: &mut B, slot: u32)
         requires holds { HoldsAt (B.seat board.old) (B.view board.old) self.old }
         requires runs { self.old.stopped ≡ false }
         requires nothing { LeadsNothing self.old }
         requires slot { slot < SLOTS }
-        requires staged { HasNoBlock (place_at self.old.places.items slot) }
-        ensures seat { B.seat board.new ≡ B.seat board.old }
-        ensures holds { HoldsAt (B.seat board.old) (B.view board.new) self.new }
-        ensures stands { KeepsStanding (B.seat board.old) (B.view board.old)
-            (B.view board.new) self.old self.new }
-        ensures rule { HasKeptRoom self.old → HasKeptRoom self.new }
-        ensures posts { PostsPlain (B.seat board.old).number (B.whole board.old)
-            (B.whole board.new) (B.view board.old) (B.view board.new) self.old self.new slot }
-        ensures step { OneHanded (R.state region.now).stamp (B.view board.new)
-            (B.trail board.old)
-            (trail_with (B.trail board.new) (B.at board.new)) }
-        ensures moves { (s : State) → StandsAt s (B.seat board.old) (B.view board.old) self.old
-            → WorkerMoves (B.seat board.old).place (B.seat board.old).number s s
-            (B.whole board.old) (B.whole board.new) (B.view board.old) (B.view board.new)
-            (hands_of (B.view board.old) self.old) (hands_of (B.view board.new) self.new) [] [] }
-        ensures order { InOrderAt (B.seat board.old) (B.view board.old) self.old
-            → InOrderAt (B.seat board.old) (B.view board.new) self.new }
-    {
-        match swap_place(&mut self.places, slot, Place::Free) {
-            Place::Staged {
-                number,
-                entry,
-                value,
-            } => {
-                let key = entry.key;
-                let lines = entry_lines(&entry);
-                let change = Change { entry, home: None };
-                board.post(region, slot, change, value.bytes());
-                let posted = Place::Posted { number, key, lines };
-                let _free = swap_place(&mut self.places, slot, posted);
-            }
-            _ => unreachable!(),
-        }
-    }
-
-    // Posts the change that is staged in a place, whose block is written.
-    fn post_written<R: Region, B: Board>(
-        &mut self,
-        region: &R,
-        board: &mut B,
-        slot: u32,
-        pointer: u64,
-    )
-        requires holds { HoldsAt (B.seat board.old) (B.view board.old) self.old }
-        requires runs { self.old.stopped ≡ false }
-        requires nothing { LeadsNothing self.old }
-        requires slot { slot < SLOTS }
-        requires staged { IsStagedWith (place_at self.old.places.items slot) pointer }
+        requires staged { is_staged (place_at self.old.places.items slot) ≡ true }
         ensures seat { B.seat board.new ≡ B.seat board.old }
         ensures holds { HoldsAt (B.seat board.old) (B.view board.new) self.new }
         ensures stands { (s : State) → WouldStand s (B.seat board.old).place
@@ -280,7 +233,7 @@ impl Worker {
             (trail_with (B.trail board.new) (B.at board.new)) }
     {
         if self.write_staged(region, &*board, slot, pointer) {
-            self.post_written(&*region, board, slot, pointer);
+            self.post_staged(&*region, board, slot);
         }
     }
 }

@@ -13,7 +13,7 @@ use crate::types::{Answer, Leading, Place};
 use crate::worker::Worker;
 
 // How many requests may wait.
-const WAITING: u32 = 64;
+pub(crate) const WAITING: u32 = 64;
 
 fn any_free(places: &Vec<Place>) -> bool
     ensures { result ≡ any_free places.now.items }

@@ -115,7 +115,7 @@ impl Worker {
                 return;
             }
             None => {
-                self.post_plain(&*region, board, slot);
+                self.post_staged(&*region, board, slot);
                 return;
             }
         }
@@ -345,62 +345,6 @@ impl Worker {
 }
 
 impl Worker {
-    // A turn, by what the core leads.
-    fn serve_first<R: Region, B: Board, G: Gate>(
-        &mut self,
-        alloc: Global,
-        region: &mut R,
-        board: &mut B,
-        gate: &G,
-    ) -> Result<Turn, Memory>
-        requires holds { HoldsAt (B.seat board.old) (B.view board.old) self.old }
-        requires stands { StandsAt (R.state region.old) (B.seat board.old)
-            (B.view board.old) self.old }
-        requires order { InOrderAt (B.seat board.old) (B.view board.old) self.old }
-        ensures seat { B.seat board.new ≡ B.seat board.old }
-        ensures keeps { KeepsTurn (B.seat board.old) (R.state region.old) (R.state region.new)
-            (B.whole board.old) (B.whole board.new) (B.view board.old) (B.view board.new)
-            self.old self.new }
-        ensures turned { TurnedTo result (R.state region.old) (R.state region.new)
-            (G.may_refuse gate.now) (B.whole board.old) (B.seat board.old) (at_entry self.old (B.view board.old))
-            (at_entry self.new (B.view board.new)) }
-        ensures memory { OnErr result (self.new.winds_down ≡ true) }
-        ensures awake { OnErr result (self.old.winds_down ≡ false) }
-        ensures less { (self.old.stopped ≡ false → HasKeptRoom self.old) → StartsFirst self.old
-            → Measures result (B.whole board.old) (B.whole board.new) self.old self.new }
-        ensures starts { StartsFirst self.new }
-        ensures idles { IfIdle result (AtRest (G.may_refuse gate.now) (B.seat board.old)
-            (B.whole board.old) (B.whole board.new) (B.view board.old) (B.view board.new)
-            self.old self.new) }
-        ensures works { OnOk result (self.new.winds_down ≡ self.old.winds_down) }
-        ensures steps { TurnSteps (G.may_pass gate.now) (R.state region.old) (R.state region.new)
-            (B.view board.old) (B.view board.new)
-            (trail_with (B.trail board.old) (B.at board.old))
-            (trail_with (B.trail board.new) (B.at board.new)) }
-    {
-        match &self.leading {
-            Leading::Nothing(_) => {
-                return self.serve_own(alloc, region, board, gate);
-            }
-            Leading::Collecting(_) => match self.serve_collecting(alloc, &*region, board) {
-                Ok(()) => {
-                    return Ok(Turn::Moved);
-                }
-                Err(memory) => {
-                    return Err(memory);
-                }
-            },
-            _ => match self.serve_batch(region, board) {
-                Ok(()) => {
-                    return Ok(Turn::Moved);
-                }
-                Err(memory) => {
-                    return Err(memory);
-                }
-            },
-        }
-    }
-
     /// Makes a turn: it does all of the first item of the order of work that applies, and answers Idle where none did.
     /// Where there is no memory for the answer to a request that waited, that request is in hand, and the worker winds
     /// down; so it does where there is none for what it has to tell other members.
@@ -445,6 +389,26 @@ impl Worker {
             (trail_with (B.trail board.old) (B.at board.old))
             (trail_with (B.trail board.new) (B.at board.new)) }
     {
-        self.serve_first(alloc, region, board, gate)
+        match &self.leading {
+            Leading::Nothing(_) => {
+                return self.serve_own(alloc, region, board, gate);
+            }
+            Leading::Collecting(_) => match self.serve_collecting(alloc, &*region, board) {
+                Ok(()) => {
+                    return Ok(Turn::Moved);
+                }
+                Err(memory) => {
+                    return Err(memory);
+                }
+            },
+            _ => match self.serve_batch(region, board) {
+                Ok(()) => {
+                    return Ok(Turn::Moved);
+                }
+                Err(memory) => {
+                    return Err(memory);
+                }
+            },
+        }
     }
 }

@@ -1,5 +1,5 @@
 // What room a core has, and what it has promised.
-ghost use Rattle.std.specs.Prelude.{◌≡◌, ◌⊎◌, ℕ, ◌+◌, ◌^◌, ◌<◌, ◌≤◌, length, true, Some, None, IfOk, IfErr, OnOk};
+ghost use Rattle.std.specs.Prelude.{◌≡◌, ◌⊎◌, ℕ, ◌+◌, ◌*◌, ◌^◌, ◌<◌, ◌≤◌, length, true, Some, None, IfOk, IfErr, OnOk};
 ghost use Rattle.chunk_map.specs.Layouts.{is_class};
 ghost use Rattle.core_room.specs.RoomRule.{pledged};
 ghost use Rattle.core_worker.specs.OwnPlaces.{lines_in, own};
@@ -10,7 +10,7 @@ use crate::types::{Cleaning, Place, Victim};
 use crate::worker::Worker;
 use core_room::{Shortage, Supply, lines_to_copy};
 use group_laws::group_sizes::SLOTS;
-use log_entry::entry_lines;
+use log_entry::{LONGEST_ENTRY_LINES, entry_lines};
 use log_standing::Amount;
 use std::cmp::min;
 
@@ -18,7 +18,7 @@ use std::cmp::min;
 fn lines_in(place: &Place) -> u64
     requires { IsCounted place.now }
     ensures lines { result ≡ lines_in place.now }
-    ensures few { result ≤ 5 }
+    ensures few { result ≤ LONGEST_ENTRY_LINES }
 {
     match place {
         Place::Free => 0,
@@ -32,7 +32,7 @@ fn own_lines(places: &Vec<Place>) -> u64
     requires each { AreCounted places.now.items }
     requires eight { length places.now.items ≡ SLOTS }
     ensures lines { result ≡ own places.now.items }
-    ensures few { result ≤ 40 }
+    ensures few { result ≤ SLOTS * LONGEST_ENTRY_LINES }
 {
     let mut lines = 0;
     for place in places {
@@ -125,7 +125,7 @@ impl Worker {
     // What room there is, where an entry of so many lines finds place, with a block of the class or none; else why not.
     pub(crate) fn supply_for(&self, need: u64, class: u32) -> Result<Supply, Shortage>
         requires measured { IsMeasured self.now }
-        requires few { need ≤ 5 }
+        requires few { need ≤ LONGEST_ENTRY_LINES }
         requires class { (class ≡ 0) ⊎ (is_class self.now.allocator.layout class ≡ true) }
         ensures supply { IfOk result (λ supply. supply ≡ supply_of self.now) }
         ensures few { IfOk result (λ supply. pledged supply < 2 ^ 33) }

@@ -5,6 +5,11 @@ use Rattle.core_worker.specs.declared.types.Place.TheVariants as places
 use Rattle.core_worker.specs.Posting.{HasNoBlock, IsStagedWith, PointsNowhere}
 use Rattle.pm_region.proofs.Clients.{started, all_kept}
 use Rattle.licence.specs.Licence.{Licensed, part_at, part_end}
+use Rattle.engine_laws.proofs.Clients.{at_least_same}
+use Rattle.core_worker.specs.OwnPlaces.{place_at}
+use Rattle.core_worker.specs.WorkerMoves.{stock_of}
+use Rattle.core_worker.proofs.AnyPosts.{would_stand}
+use Rattle.core_worker.proofs.PostMoves.{facts_of, posted_least, posted_order, here_moves}
 use Rattle.core_worker.proofs.TurnLaws.{keeps_posts}
 use Rattle.batch_leader.proofs.Clients.{turn_handed}
 use Rattle.core_worker.proofs.worker.Worker.post.Goals as goal
@@ -23,18 +28,31 @@ returns-in-Some-clause-keeps g c =
 
 pub returns-in-None-clause-keeps : goal.returns-in-None-clause-keeps
 returns-in-None-clause-keeps g c =
-    let e = c.post_plain.ensures in
+    let e = c.post_staged.ensures in
     let seat = g.B.Board.seat c.args.board.now in
+    let p = seat.place in
+    let m = seat.number in
     let s = g.R.Region.state c.args.region.now in
-    keeps_posts seat s s (g.B.Board.whole c.args.board.now) (g.B.Board.whole c.post_plain.new.board) (g.B.Board.view c.args.board.now) (g.B.Board.view c.post_plain.new.board) c.args.self.now c.post_plain.new.self c.args.slot
-    (started s (Licensed seat.place seat.number (g.B.Board.view c.args.board.now)) c.requires.stands.licensed) (all_kept s (part_at seat.place seat.number) (part_end seat.place seat.number))
-    e.holds (e.stands s c.requires.stands) e.order c.requires.order e.rule (inl (c.args.self.now, refl, e.posts)) (e.moves s c.requires.stands)
+    let a = g.B.Board.whole c.args.board.now in
+    let b = g.B.Board.whole c.post_staged.new.board in
+    let v = g.B.Board.view c.args.board.now in
+    let u = g.B.Board.view c.post_staged.new.board in
+    let w = c.args.self.now in
+    let x = c.post_staged.new.self in
+    let slot = c.args.slot in
+    let bare = subst HasNoBlock c.place_in.ensures c.in-None.ensures in
+    let stands = e.stands s (would_stand s p m v w c.requires.holds slot c.requires.slot c.requires.runs (place_at w.places.items slot) refl bare c.requires.stands) in
+    let F = facts_of m a b v u w w x slot refl e.posts in
+    keeps_posts seat s s a b v u w x slot
+    (started s (Licensed p m v) c.requires.stands.licensed) (all_kept s (part_at p m) (part_end p m))
+    e.holds stands (posted_order p m a b v u w x slot c.requires.slot c.requires.holds e.holds c.requires.runs F) c.requires.order e.rule (inl (w, refl, e.posts))
+    (here_moves p m a b v u w x slot c.requires.slot c.requires.holds e.holds c.requires.runs F (posted_least m a b v u w w x slot e.posts (at_least_same (stock_of w))) s c.requires.stands stands)
 
 pub returns-in-None-clause-posts : goal.returns-in-None-clause-posts
-returns-in-None-clause-posts g c = inl (c.args.self.now, refl, c.post_plain.ensures.posts)
+returns-in-None-clause-posts g c = inl (c.args.self.now, refl, c.post_staged.ensures.posts)
 
 pub returns-in-Some-clause-plain : goal.returns-in-Some-clause-plain
 returns-in-Some-clause-plain g c bare = absurd (no_block c.place_in.result.now c.in-Some.pointer (subst HasNoBlock (sym c.place_in.ensures) bare) c.in-Some.ensures)
 
 pub returns-in-None-clause-steps : goal.returns-in-None-clause-steps
-returns-in-None-clause-steps g c = let s = g.R.Region.state c.args.region.now in turn_handed s s _ _ _ _ _ _ c.post_plain.ensures.step
+returns-in-None-clause-steps g c = let s = g.R.Region.state c.args.region.now in turn_handed s s _ _ _ _ _ _ c.post_staged.ensures.step

@@ -1,16 +1,16 @@
+-- proofs/worker/Worker/post_staged/Answers.antt
 use Rattle.core_worker.proofs.RoomKept.{room_posted}
-use Rattle.std.proofs.Common.{◌≡◌, ℕ, List, refl, sym, ◌∙◌, ap, subst}
+use Rattle.std.proofs.Common.{ℕ, List, refl, sym, ◌∙◌, ap, subst}
 use Rattle.group_laws.specs.MemberViews.{View}
 use Rattle.core_worker.specs.declared.types.Place as places
 use Rattle.core_worker.specs.declared.types.Place.TheVariants.{Free, Staged, Posted}
 use Rattle.core_worker.specs.OwnPlaces.{Replaces}
-use Rattle.core_worker.specs.Posting.{PostsPlain, IsStagedWith, WouldStand}
+use Rattle.core_worker.specs.Posting.{PostsPlain, WouldStand}
 use Rattle.core_worker.specs.Ties.{Holds, Stands}
-use Rattle.core_worker.proofs.BlockClear.{clear_for}
-use Rattle.core_worker.proofs.BlockPosts.{holds_posted_block, stands_places, view_is, may_post}
+use Rattle.core_worker.proofs.AnyPosts.{may_post_staged, holds_any}
+use Rattle.core_worker.proofs.BlockPosts.{stands_places}
 use Rattle.group_board.specs.Views.{after_post}
-use Rattle.log_entry.specs.declared.entry.Body.TheVariants as bodies
-use Rattle.core_worker.proofs.worker.Worker.post_written.Goals as goal
+use Rattle.core_worker.proofs.worker.Worker.post_staged.Goals as goal
 
 -- two changes of one place
 twice : (a b c : List places.Place) (s : ℕ) (x y : places.Place) → Replaces a b s x → Replaces b c s y → Replaces a c s y
@@ -21,11 +21,8 @@ post-requires g c =
     let p = (g.B.Board.seat c.args.board.now).place in
     let m = (g.B.Board.seat c.args.board.now).number in
     let v = g.B.Board.view c.args.board.now in
-    let w = c.args.self.now in
-    let was = sym c.in-Staged.ensures.was in
-    let points : c.in-Staged.entry.body ≡ bodies.Pointer c.args.pointer = subst (λ x. IsStagedWith x c.args.pointer) was c.requires.staged in
-    let with = was ∙ ap (λ (xs : List ℕ). Staged c.in-Staged.number c.in-Staged.entry xs) (sym c.bytes.ensures) in
-    may_post p m v w c.requires.holds c.args.slot c.in-Staged.number c.args.pointer c.in-Staged.entry c.bytes.result.now c.requires.slot with points c.requires.runs (clear_for p m v w c.requires.holds c.args.slot c.in-Staged.number c.args.pointer c.in-Staged.entry c.bytes.result.now with c.requires.staged)
+    let with = sym c.in-Staged.ensures.was ∙ ap (λ (xs : List ℕ). Staged c.in-Staged.number c.in-Staged.entry xs) (sym c.bytes.ensures) in
+    may_post_staged p m v c.args.self.now c.requires.holds c.args.slot c.in-Staged.number c.in-Staged.entry c.bytes.result.now c.requires.slot with c.requires.runs
 
 pub returns-clause-holds : goal.returns-clause-holds
 returns-clause-holds g c =
@@ -33,11 +30,10 @@ returns-clause-holds g c =
     let m = (g.B.Board.seat c.args.board.now).number in
     let v = g.B.Board.view c.args.board.now in
     let w = c.args.self.now in
-    let was = sym c.in-Staged.ensures.was in
-    let points : c.in-Staged.entry.body ≡ bodies.Pointer c.args.pointer = subst (λ x. IsStagedWith x c.args.pointer) was c.requires.staged in
+    let with = sym c.in-Staged.ensures.was ∙ ap (λ (xs : List ℕ). Staged c.in-Staged.number c.in-Staged.entry xs) (sym c.bytes.ensures) in
     let both = twice w.places.items c.swap_place.new.places.items c.swap_place-free.new.places.items c.args.slot Free (Posted c.in-Staged.number c.in-Staged.entry.key c.entry_lines-lines.result) c.swap_place.ensures.now c.swap_place-free.ensures.now in
-    subst (λ (u : View). Holds p m u (record w { places = c.swap_place-free.new.places })) (sym (c.post.ensures.view ∙ view_is p m v w c.requires.holds c.args.slot c.in-Staged.number c.in-Staged.entry c.bytes.result.now c.requires.slot (was ∙ ap (λ (xs : List ℕ). Staged c.in-Staged.number c.in-Staged.entry xs) (sym c.bytes.ensures)) c.args.pointer points c.requires.runs))
-    (holds_posted_block p m v w c.requires.holds c.args.slot c.in-Staged.number c.in-Staged.entry c.bytes.result.now c.requires.slot (was ∙ ap (λ (xs : List ℕ). Staged c.in-Staged.number c.in-Staged.entry xs) (sym c.bytes.ensures)) c.args.pointer points c.requires.runs c.swap_place-free.new.places c.entry_lines-lines.result both c.entry_lines-lines.ensures.lines c.entry_lines-lines.ensures.high (c.requires.nothing.0) c.requires.nothing.1)
+    subst (λ (u : View). Holds p m u (record w { places = c.swap_place-free.new.places })) (sym c.post.ensures.view)
+    (holds_any p m v w c.requires.holds c.args.slot c.in-Staged.number c.in-Staged.entry c.bytes.result.now c.requires.slot with c.requires.runs c.swap_place-free.new.places c.entry_lines-lines.result both c.entry_lines-lines.ensures.lines c.entry_lines-lines.ensures.high c.requires.nothing.0 c.requires.nothing.1)
 
 pub returns-clause-stands : goal.returns-clause-stands
 returns-clause-stands g c s S =
@@ -45,22 +41,19 @@ returns-clause-stands g c s S =
     let m = (g.B.Board.seat c.args.board.now).number in
     let v = g.B.Board.view c.args.board.now in
     let w = c.args.self.now in
-    let was = sym c.in-Staged.ensures.was in
-    let points : c.in-Staged.entry.body ≡ bodies.Pointer c.args.pointer = subst (λ x. IsStagedWith x c.args.pointer) was c.requires.staged in
+    let with = sym c.in-Staged.ensures.was ∙ ap (λ (xs : List ℕ). Staged c.in-Staged.number c.in-Staged.entry xs) (sym c.bytes.ensures) in
     subst (λ (u : View). Stands s p m u (record w { places = c.swap_place-free.new.places })) (sym c.post.ensures.view)
-    (stands_places s p m (after_post c.args.slot c.in-Staged.entry c.bytes.result.now v) w c.swap_place-free.new.places
-    (subst (WouldStand s p m v w c.args.slot) (was ∙ ap (λ (xs : List ℕ). Staged c.in-Staged.number c.in-Staged.entry xs) (sym c.bytes.ensures)) S))
+    (stands_places s p m (after_post c.args.slot c.in-Staged.entry c.bytes.result.now v) w c.swap_place-free.new.places (subst (WouldStand s p m v w c.args.slot) with S))
 
 pub returns-clause-posts : goal.returns-clause-posts
 returns-clause-posts g c =
     let w = c.args.self.now in
-    let was = sym c.in-Staged.ensures.was in
     let both = twice w.places.items c.swap_place.new.places.items c.swap_place-free.new.places.items c.args.slot Free (Posted c.in-Staged.number c.in-Staged.entry.key c.entry_lines-lines.result) c.swap_place.ensures.now c.swap_place-free.ensures.now in
     record {
       number = c.in-Staged.number;
       entry = c.in-Staged.entry;
       value = c.bytes.result.now;
-      was = was ∙ ap (λ (xs : List ℕ). Staged c.in-Staged.number c.in-Staged.entry xs) (sym c.bytes.ensures);
+      was = sym c.in-Staged.ensures.was ∙ ap (λ (xs : List ℕ). Staged c.in-Staged.number c.in-Staged.entry xs) (sym c.bytes.ensures);
       places = subst (λ (n : ℕ). Replaces w.places.items c.swap_place-free.new.places.items c.args.slot (Posted c.in-Staged.number c.in-Staged.entry.key n)) c.entry_lines-lines.ensures.lines both;
       rest = refl;
       view = c.post.ensures.view;
