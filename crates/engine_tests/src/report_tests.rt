@@ -1,8 +1,8 @@
 // The report on five requests.
 use core_room::Shortage;
+use engine_core::run_report::{Finish, Refusal, Report, report_on};
+use engine_core::types::Stamped;
 use fs_model::Reply;
-use group_engine::run_report::{Finish, Refusal, Report, report_on};
-use group_engine::types::Stamped;
 use std::test::Fail;
 
 fn answer(reply: Reply, stamp: u64) -> Option<Stamped> {

@@ -10,9 +10,10 @@ use Rattle.recover.specs.declared.types.Recovered.{Recovered}
 use Rattle.engine_laws.specs.Engine.{Engine}
 use Rattle.engine_laws.specs.Parts.{AllLicensed}
 use Rattle.engine_laws.specs.Stands.{Origin}
-use Rattle.group_engine.specs.declared.run_outcome.Outcome.{Outcome}
-use Rattle.group_engine.specs.Replayed.{StandsAsFound, report_in}
-use Rattle.group_engine.specs.Reports.{ReportsOn, as_told, told_by}
+use Rattle.engine_core.specs.declared.run_outcome.Outcome.{Outcome}
+use Rattle.engine_core.specs.RunStarts.{StandsAsFound}
+use Rattle.engine_core.specs.Endings.{report_in}
+use Rattle.engine_core.specs.Reports.{ReportsOn, as_told, told_by}
 use Rattle.thread_engine.specs.RanApart.{RanApart, Rejoined}
 use Rattle.flatstore_commands.specs.Attaching.{Asks, GoesOnBy}
 use Rattle.flatstore_commands.specs.LastStates.{told_in}

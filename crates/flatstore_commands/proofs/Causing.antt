@@ -17,8 +17,8 @@ use Rattle.headline.specs.Limits.{IsAsked, version_of, changes_asked, is_too_lon
 use Rattle.engine_laws.specs.Engine.{Answer}
 use Rattle.headline.specs.Kinds.{AreReplies, is_reply_to}
 use Rattle.engine_laws.specs.Reports.{named_from, reply_of, replies_from}
-use Rattle.group_engine.specs.declared.run_report.Refusal.{Refusal}
-use Rattle.group_engine.specs.Answers.{reply_to}
+use Rattle.engine_core.specs.declared.run_report.Refusal.{Refusal}
+use Rattle.engine_core.specs.Answers.{reply_to}
 use Rattle.flatstore_commands.proofs.Numbering.{all_map, all_mapped, IsNamed, all_named}
 
 -- what is known of each answer: why it is a refusal

@@ -19,7 +19,7 @@ use Rattle.recover.specs.Regions.{Covers}
 use Rattle.recover.specs.Recovering.{IsFound}
 use Rattle.chunk_map.specs.Layouts.{total_bytes}
 use Rattle.chunk_map.specs.declared.layouts.Geometry.{Geometry}
-use Rattle.group_engine.specs.Replayed.{StandsAsFound}
+use Rattle.engine_core.specs.RunStarts.{StandsAsFound}
 use Rattle.run_audit.specs.FirstFault.{Judges, cells_in}
 use Rattle.run_audit.specs.Replies.{audit_input_of}
 use Rattle.run_audit.specs.VerdictText.{verdict_text}

@@ -22,11 +22,12 @@ use Rattle.headline.specs.Headline.{cells_of}
 use Rattle.recover.specs.declared.types.Recovered.{Recovered}
 use Rattle.engine_laws.specs.Engine.{Engine}
 use Rattle.engine_laws.specs.Stands.{Origin}
-use Rattle.group_engine.specs.declared.run_outcome.End.{End}
-use Rattle.group_engine.specs.declared.run_outcome.End.TheVariants as ends
-use Rattle.group_engine.specs.declared.run_outcome.Outcome.{Outcome}
-use Rattle.group_engine.specs.Replayed.{StandsAsFound, report_in}
-use Rattle.group_engine.specs.Reports.{reply_in, told_by}
+use Rattle.engine_core.specs.declared.run_outcome.End.{End}
+use Rattle.engine_core.specs.declared.run_outcome.End.TheVariants as ends
+use Rattle.engine_core.specs.declared.run_outcome.Outcome.{Outcome}
+use Rattle.engine_core.specs.RunStarts.{StandsAsFound}
+use Rattle.engine_core.specs.Endings.{report_in}
+use Rattle.engine_core.specs.Reports.{reply_in, told_by}
 use Rattle.load_requests.specs.Generated.{requests_of_load}
 use Rattle.load_run.specs.declared.load.LoadRun.{LoadRun}
 use Rattle.load_tally.specs.Tallied.{tally_of}

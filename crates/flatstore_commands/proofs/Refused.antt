@@ -23,9 +23,9 @@ use Rattle.headline.specs.Limits.{IsAsked, version_of, changes_asked, is_too_lon
 use Rattle.headline.specs.Headline.{Told, Answers, cells_of, finished_in, refused_in, RecoversThroughout}
 use Rattle.headline.specs.Run.{Recorded}
 use Rattle.headline.proofs.Clients.{recorded}
-use Rattle.group_engine.specs.declared.run_report.Refusal.{Refusal}
-use Rattle.group_engine.specs.Answers.{reply_to}
-use Rattle.group_engine.specs.Reports.{as_told, ShowsWhy}
+use Rattle.engine_core.specs.declared.run_report.Refusal.{Refusal}
+use Rattle.engine_core.specs.Answers.{reply_to}
+use Rattle.engine_core.specs.Reports.{as_told, ShowsWhy}
 use Rattle.flatstore_commands.specs.Ends.{SourceUse, SinkUse}
 use Rattle.flatstore_commands.specs.LastStates.{told_in, AreRising, WindsDown}
 use Rattle.flatstore_commands.specs.Ordering.{GoesInOrder, KeepsOrder, IsServed, due, IsDue, IsFault, status_of, is_broken, is_of_region, is_of_line, is_of_run, is_whole}

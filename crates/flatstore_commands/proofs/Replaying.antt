@@ -11,10 +11,10 @@ use Rattle.engine_laws.specs.Engine.{Engine}
 use Rattle.engine_laws.specs.Stands.{Origin, opening, given_to}
 use Rattle.engine_laws.specs.Promises.{AnyTurn}
 use Rattle.engine_laws.specs.Ran.{Ran}
-use Rattle.group_engine.specs.declared.run_outcome.End.TheVariants as ends
-use Rattle.group_engine.specs.declared.run_outcome.Outcome.{Outcome}
-use Rattle.group_engine.specs.Replayed.{report_in}
-use Rattle.group_engine.specs.Reports.{ReportsOn, as_told, told_by}
+use Rattle.engine_core.specs.declared.run_outcome.End.TheVariants as ends
+use Rattle.engine_core.specs.declared.run_outcome.Outcome.{Outcome}
+use Rattle.engine_core.specs.Endings.{report_in}
+use Rattle.engine_core.specs.Reports.{ReportsOn, as_told, told_by}
 use Rattle.engine_laws.proofs.Clients.{ran_given}
 use Rattle.flatstore_commands.specs.Attaching.{Runs, Asks}
 use Rattle.flatstore_commands.specs.Ends.{SourceUse, SinkUse, CountsFaults}

@@ -16,12 +16,13 @@ use Rattle.engine_laws.specs.Parts.{AllLicensed}
 use Rattle.engine_laws.specs.Ran.{Ran}
 use Rattle.engine_laws.proofs.Clients.{ran_seen}
 use Rattle.core_worker.specs.declared.worker.Worker.{Worker}
-use Rattle.group_engine.specs.declared.run_outcome.End.TheVariants as ends
-use Rattle.group_engine.specs.declared.run_outcome.Outcome.{Outcome}
-use Rattle.group_engine.specs.Replayed.{StandsAsFound, Replayed}
-use Rattle.group_engine.specs.Reports.{as_told}
-use Rattle.group_engine.specs.Answers.{ShowsAnswer, kept_at}
-use Rattle.group_engine.specs.declared.types.Stamped.{Stamped}
+use Rattle.engine_core.specs.declared.run_outcome.End.TheVariants as ends
+use Rattle.engine_core.specs.declared.run_outcome.Outcome.{Outcome}
+use Rattle.engine_core.specs.RunStarts.{StandsAsFound}
+use Rattle.group_engine.specs.Replayed.{Replayed}
+use Rattle.engine_core.specs.Reports.{as_told}
+use Rattle.engine_core.specs.Answers.{ShowsAnswer, kept_at}
+use Rattle.engine_core.specs.declared.types.Stamped.{Stamped}
 use Rattle.engine_laws.specs.Engine.{Answer}
 use Rattle.std.specs.List.{slice_get}
 use Rattle.group_engine.specs.Runs.{RunState, CoreMoves, first_state, with_request}

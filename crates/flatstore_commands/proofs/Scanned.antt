@@ -17,7 +17,7 @@ use Rattle.recover.specs.Recovering.{IsFound, cells_found}
 use Rattle.range_scan.specs.Starts.{AreStartsOf, AreStartsIn}
 use Rattle.query_text.specs.declared.query.Query.{Query}
 use Rattle.query_text.specs.Queries.{queries_of}
-use Rattle.group_engine.specs.Replayed.{StandsAsFound}
+use Rattle.engine_core.specs.RunStarts.{StandsAsFound}
 use Rattle.flatstore_commands.specs.Attaching.{Attaches}
 use Rattle.flatstore_commands.specs.Ends.{SourceUse, SinkUse, CountsFaults}
 use Rattle.flatstore_commands.specs.Ordering.{IsServed, is_of_line, is_of_region, is_quiet}

@@ -28,13 +28,13 @@ use Rattle.engine_laws.specs.Stands.{Origin, start_of}
 use Rattle.engine_laws.specs.Promises.{IsOrigin, Promised, IsDone, HasStopped}
 use Rattle.engine_laws.specs.Ceasing.{HasCeased}
 use Rattle.engine_laws.specs.Reports.{told_of, replies_from, AllAnswered}
-use Rattle.group_engine.specs.declared.run_outcome.End.{End}
-use Rattle.group_engine.specs.declared.run_outcome.End.TheVariants as ends
-use Rattle.group_engine.specs.declared.run_outcome.Outcome.{Outcome}
-use Rattle.group_engine.specs.Replayed.{report_in}
-use Rattle.group_engine.specs.Reports.{ReportsOn, ShowsWhy, told_by}
-use Rattle.group_engine.specs.Answers.{reply_to}
-use Rattle.group_engine.specs.declared.run_report.Refusal.{Refusal}
+use Rattle.engine_core.specs.declared.run_outcome.End.{End}
+use Rattle.engine_core.specs.declared.run_outcome.End.TheVariants as ends
+use Rattle.engine_core.specs.declared.run_outcome.Outcome.{Outcome}
+use Rattle.engine_core.specs.Endings.{report_in}
+use Rattle.engine_core.specs.Reports.{ReportsOn, ShowsWhy, told_by}
+use Rattle.engine_core.specs.Answers.{reply_to}
+use Rattle.engine_core.specs.declared.run_report.Refusal.{Refusal}
 use Rattle.flatstore_commands.specs.Ends.{SourceUse, SinkUse, CountsFaults}
 use Rattle.flatstore_commands.specs.LastStates.{told_in, AreRising, WindsDown}
 use Rattle.flatstore_commands.specs.Ordering.{GoesInOrder, KeepsOrder, IsServed, due, IsDue, IsFault, status_of, is_broken, is_quiet, is_of_line, is_whole}

@@ -15,7 +15,7 @@ use Rattle.recover.specs.declared.types.Recovered.{Recovered}
 use Rattle.recover.specs.Regions.{IsCertain}
 use Rattle.recover.specs.Recovering.{IsMade, IsFound, AllStand}
 use Rattle.engine_laws.specs.Stands.{Origin}
-use Rattle.group_engine.specs.Replayed.{StandsAsFound}
+use Rattle.engine_core.specs.RunStarts.{StandsAsFound}
 use Rattle.flatstore_commands.specs.Played.{IsCounted}
 
 module _ (s : State) (word : ℕ → ℕ) (first : s.frame.first ≡ 0) (words : s.frame.words ≡ words_in s.frame.bytes) (sure : IsTelling s → (w : ℕ) → InRange s.frame w → cell_now s w ≡ certain (lasts s w)) where

@@ -2,9 +2,9 @@
 use Rattle.std.proofs.Common.{◌≡◌, ◌≢◌, inl, inr, refl, sym, ◌∙◌, ap, subst, true, false, Bool}
 use Rattle.pm_region.specs.State.{Rose}
 use Rattle.fs_text.specs.Output.{replies_text}
-use Rattle.group_engine.specs.declared.run_outcome.End.{End}
-use Rattle.group_engine.specs.declared.run_outcome.End.TheVariants as ends
-use Rattle.group_engine.specs.declared.run_outcome.Outcome.{Outcome}
+use Rattle.engine_core.specs.declared.run_outcome.End.{End}
+use Rattle.engine_core.specs.declared.run_outcome.End.TheVariants as ends
+use Rattle.engine_core.specs.declared.run_outcome.Outcome.{Outcome}
 use Rattle.flatstore_commands.specs.Ordering.{is_quiet, is_whole}
 use Rattle.flatstore_commands.specs.Promise.{TakesReplies, TakesFront}
 use Rattle.flatstore_commands.specs.Played.{HasAnswered, EndsAs, is_ended}

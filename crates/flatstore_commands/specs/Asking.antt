@@ -12,7 +12,7 @@ use Rattle.range_scan.specs.LiveKeys.{AreLiveKeys}
 use Rattle.range_scan.specs.Starts.{HasLivePairs}
 use Rattle.query_text.specs.declared.query.Query.{Query}
 use Rattle.query_text.specs.Queries.{queries_of}
-use Rattle.group_engine.specs.Replayed.{StandsAsFound}
+use Rattle.engine_core.specs.RunStarts.{StandsAsFound}
 use Rattle.flatstore_commands.specs.Ends.{SourceUse}
 use Rattle.flatstore_commands.specs.Played.{IsUnserved}
 use Rattle.flatstore_commands.specs.Promise.{IsInput}

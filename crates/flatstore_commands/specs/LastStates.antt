@@ -19,10 +19,10 @@ use Rattle.engine_laws.specs.Stands.{Origin, Stands}
 use Rattle.engine_laws.specs.Ran.{Ran, asked_in}
 use Rattle.engine_laws.specs.Idle.{IsDrained}
 use Rattle.engine_laws.specs.Reports.{told_of, replies_of, AllAnswered}
-use Rattle.group_engine.specs.Answers.{kept_at, ShowsAnswer}
-use Rattle.group_engine.specs.Replayed.{StandsAsFound, BeginsAt}
-use Rattle.group_engine.specs.Reports.{as_told, reply_in, finishes_in, refusals_in}
-use Rattle.group_engine.specs.Runs.{RunState, CoreMoves, AreNew, first_state, with_request}
+use Rattle.engine_core.specs.Answers.{kept_at, ShowsAnswer}
+use Rattle.engine_core.specs.RunStarts.{StandsAsFound, BeginsAt, AreNew}
+use Rattle.engine_core.specs.Reports.{as_told, reply_in, finishes_in, refusals_in}
+use Rattle.group_engine.specs.Runs.{RunState, CoreMoves, first_state, with_request}
 use Rattle.headline.specs.Headline.{Told}
 use Rattle.flatstore_commands.specs.Attaching.{GoesOnFrom, Asks}
 use Rattle.flatstore_commands.specs.Ends.{SinkUse, IsAllOut}

@@ -35,10 +35,13 @@ pub use Rattle.fs_text.specs.Bounds
 pub use Rattle.fs_text.specs.Input
 pub use Rattle.fs_text.specs.Output
 pub use Rattle.fs_text.specs.Streams
-pub use Rattle.group_engine.specs.Answers
+pub use Rattle.engine_core.specs.Answers
+pub use Rattle.engine_core.specs.Endings
+pub use Rattle.engine_core.specs.RunStarts
 pub use Rattle.group_engine.specs.Replayed
+pub use Rattle.engine_core.specs.Calls
 pub use Rattle.group_engine.specs.Runs
-pub use Rattle.group_engine.specs.Reports as RunReports
+pub use Rattle.engine_core.specs.Reports as RunReports
 pub use Rattle.headline.specs.Ample
 pub use Rattle.headline.specs.Headline
 pub use Rattle.headline.specs.Kinds

@@ -3,12 +3,12 @@ use Rattle.std.specs.Prelude.{◌≡◌, ◌⊎◌, ℕ, ◌≤◌, List, [], Bo
 use Rattle.fs_model.specs.declared.model.Reply.{Reply}
 use Rattle.store_image.specs.declared.types.Fault.{Fault}
 use Rattle.store_image.specs.Soundness.{first_fault}
-use Rattle.group_engine.specs.declared.run_outcome.End.{End}
-use Rattle.group_engine.specs.declared.run_outcome.Outcome.{Outcome}
+use Rattle.engine_core.specs.declared.run_outcome.End.{End}
+use Rattle.engine_core.specs.declared.run_outcome.Outcome.{Outcome}
 use Rattle.pm_region.specs.State.{State, Faulted, Rose}
 use Rattle.pm_region.specs.Split.{Stays}
 use Rattle.recover.specs.declared.types.Recovered.{Recovered}
-use Rattle.group_engine.specs.Replayed.{StandsAsFound}
+use Rattle.engine_core.specs.RunStarts.{StandsAsFound}
 use Rattle.load_requests.specs.Generated.{requests_of_load}
 use Rattle.load_run.specs.declared.load.LoadRun.{LoadRun}
 use Rattle.load_tally.specs.Tallied.{tally_of}

@@ -13,7 +13,7 @@ use Rattle.fs_text.specs.Streams.{Takes, TakesPrefix}
 use Rattle.headline.specs.Headline.{cells_of}
 use Rattle.load_requests.specs.Generated.{requests_of_load}
 use Rattle.load_tally.specs.Tallied.{tally_of}
-use Rattle.group_engine.specs.Reports.{reply_in}
+use Rattle.engine_core.specs.Reports.{reply_in}
 use Rattle.flatstore_commands.specs.Attaching.{Asks, AsksBehind, AttachesBy, MayRejoin}
 use Rattle.flatstore_commands.specs.Ends.{SinkUse, IsAllOut}
 use Rattle.flatstore_commands.specs.Ordering.{IsServed, is_of_region, is_of_run, is_whole}

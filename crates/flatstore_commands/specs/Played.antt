@@ -7,10 +7,11 @@ use Rattle.pm_region.specs.Words.{lasts}
 use Rattle.store_image.specs.declared.types.Fault.{Fault}
 use Rattle.store_image.specs.Soundness.{first_fault}
 use Rattle.fs_text.specs.declared.line.Line.{Line}
-use Rattle.group_engine.specs.declared.run_outcome.End.{End}
-use Rattle.group_engine.specs.declared.run_outcome.End.TheVariants as ends
-use Rattle.group_engine.specs.declared.run_outcome.Outcome.{Outcome}
-use Rattle.group_engine.specs.Replayed.{Replayed, StandsAsFound}
+use Rattle.engine_core.specs.declared.run_outcome.End.{End}
+use Rattle.engine_core.specs.declared.run_outcome.End.TheVariants as ends
+use Rattle.engine_core.specs.declared.run_outcome.Outcome.{Outcome}
+use Rattle.engine_core.specs.RunStarts.{StandsAsFound}
+use Rattle.group_engine.specs.Replayed.{Replayed}
 use Rattle.recover.specs.declared.types.Recovered.{Recovered}
 use Rattle.fs_text.specs.Bounds.{IsWithin}
 use Rattle.flatstore_commands.specs.Ends.{SourceUse, SinkUse}

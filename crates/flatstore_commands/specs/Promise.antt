@@ -15,8 +15,8 @@ use Rattle.chunk_map.specs.Layouts.{layout_of, owner}
 use Rattle.log_entry.specs.declared.entry_limits.TheConstants.{LAST_PUT_VERSION}
 use Rattle.store_image.specs.Soundness.{IsSound}
 use Rattle.core_room.specs.declared.types.Shortage.TheVariants.{Versions, Length}
-use Rattle.group_engine.specs.Answers.{reply_to}
-use Rattle.group_engine.specs.Reports.{ShowsWhy}
+use Rattle.engine_core.specs.Answers.{reply_to}
+use Rattle.engine_core.specs.Reports.{ShowsWhy}
 use Rattle.flatstore_commands.specs.Ends.{SourceUse, SinkUse}
 use Rattle.flatstore_commands.specs.LastStates.{told_in, AreRising, RanTo, BreaksOff, WindsDown}
 use Rattle.flatstore_commands.specs.Ordering.{GoesInOrder, is_whole}

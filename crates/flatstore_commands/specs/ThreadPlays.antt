@@ -5,7 +5,7 @@ use Rattle.pm_region.specs.Split.{Stays}
 use Rattle.recover.specs.declared.types.Recovered.{Recovered}
 use Rattle.fs_text.specs.declared.line.Line.{Line}
 use Rattle.engine_laws.specs.Ran.{asked_in}
-use Rattle.group_engine.specs.declared.run_outcome.End.{End}
+use Rattle.engine_core.specs.declared.run_outcome.End.{End}
 use Rattle.thread_engine.specs.declared.run_to_sink.SinkRun.{SinkRun}
 use Rattle.thread_engine.specs.declared.text_outlet.Unwritten.{Unwritten}
 use Rattle.thread_engine.specs.declared.text_outlet.Unwritten.TheVariants.{Astray, SinkFault, Memory}

@@ -12,8 +12,8 @@ use Rattle.engine_laws.specs.Idle.{IsDrained}
 use Rattle.engine_laws.specs.Promises.{HasStopped}
 use Rattle.engine_laws.specs.Parts.{AllLicensed}
 use Rattle.engine_laws.specs.Reports.{told_of, AllAnswered}
-use Rattle.group_engine.specs.declared.types.Stamped.{Stamped}
-use Rattle.group_engine.specs.Reports.{reply_in, finishes_in, refusals_in}
+use Rattle.engine_core.specs.declared.types.Stamped.{Stamped}
+use Rattle.engine_core.specs.Reports.{reply_in, finishes_in, refusals_in}
 use Rattle.answer_queue.specs.declared.window_sizes.TheConstants.{WINDOW}
 use Rattle.thread_engine.specs.CoreRuns.{AllRan}
 use Rattle.thread_engine.specs.Between.{HoldsBehind}

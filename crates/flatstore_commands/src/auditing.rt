@@ -1,7 +1,7 @@
 // The replies of the input are judged.
 ghost use Rattle.std.specs.Prelude.{◌≡◌, ◌≤◌, ℕ, true, false, IfOk, IfErr};
 ghost use Rattle.pm_region.specs.Split.{Attached};
-ghost use Rattle.group_engine.specs.Replayed.{StandsAsFound};
+ghost use Rattle.engine_core.specs.RunStarts.{StandsAsFound};
 ghost use Rattle.headline.specs.Headline.{cells_of};
 ghost use Rattle.run_audit.specs.FirstFault.{Judges, cells_in};
 ghost use Rattle.run_audit.specs.VerdictText.{verdict_text};

@@ -3,7 +3,7 @@ ghost use Rattle.std.specs.Prelude.{◌≡◌, ◌⊎◌, ℕ, ◌≤◌, List, 
 ghost use Rattle.pm_region.specs.Cell.{certain};
 ghost use Rattle.pm_region.specs.Words.{lasts};
 ghost use Rattle.pm_region.specs.Split.{words_in};
-ghost use Rattle.group_engine.specs.Replayed.{StandsAsFound};
+ghost use Rattle.engine_core.specs.RunStarts.{StandsAsFound};
 ghost use Rattle.fs_text.specs.Bounds.{IsWithin};
 ghost use Rattle.flatstore_commands.specs.Attaching.{Asks};
 ghost use Rattle.flatstore_commands.specs.Ends.{sink_use, source_use};
@@ -12,8 +12,9 @@ ghost use Rattle.flatstore_commands.specs.Played.{StandsWhole, IsReady, Played, 
 ghost use Rattle.flatstore_commands.specs.Ordering.{is_of_region};
 
 use crate::report::{Report, Status};
+use engine_core::run_outcome::{End, Outcome};
 use fs_text::{Input, InputError, OutError, Sink, Source, read_input, write_replies};
-use group_engine::run_outcome::{self, End, Outcome};
+use group_engine::replaying;
 use pm_region::{ReadRegion, RegionFault, SplitRegion};
 use recover::{RecoverError, Recovered, recover_read};
 use std::alloc::Global;
@@ -106,7 +107,7 @@ pub fn replay<S: Source, R: SplitRegion + ReadRegion>(
 {
     match prepared(alloc, source, region) {
         Err(status) => Err(status),
-        Ok((recovered, input)) => Ok(run_outcome::replay(alloc, region, recovered, input)),
+        Ok((recovered, input)) => Ok(replaying::replay(alloc, region, recovered, input)),
     }
 }
 

@@ -2,8 +2,8 @@
 ghost use Rattle.std.specs.Prelude.{◌≡◌, ℕ, ◌<◌, [], false, IfOk, string_bytes};
 ghost use Rattle.flatstore_commands.specs.Statuses.{exit_code, damage_line, fault_line, fault_status};
 
+use engine_core::run_report::{Finish, Refusal};
 use fs_model::Memory;
-use group_engine::run_report::{Finish, Refusal};
 use std::alloc::Global;
 use store_image::Fault;
 

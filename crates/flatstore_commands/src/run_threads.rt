@@ -14,8 +14,8 @@ ghost use Rattle.flatstore_commands.specs.declared.run_threads.NotRun.TheVariant
 use crate::replay::{is_ended, prepared, report_on, status_of};
 use crate::report::{Report, Status};
 use core_worker::Gate;
+use engine_core::run_outcome::End;
 use fs_text::{Sink, Source};
-use group_engine::run_outcome::End;
 use pm_region::{AttachError, ReadRegion, SplitRegion};
 use std::alloc::Global;
 use std::sync::Wait;

@@ -10,7 +10,7 @@ ghost use Rattle.range_scan.specs.Starts.{AreStartsIn};
 ghost use Rattle.flatstore_commands.specs.Ends.{CountsFaults, ReportsNothing, sink_use, source_use};
 ghost use Rattle.flatstore_commands.specs.Ordering.{is_of_region, is_quiet};
 ghost use Rattle.flatstore_commands.specs.Played.{StandsWhole};
-ghost use Rattle.group_engine.specs.Replayed.{StandsAsFound};
+ghost use Rattle.engine_core.specs.RunStarts.{StandsAsFound};
 ghost use Rattle.flatstore_commands.specs.Asking.{AreAsked, AreUnread, IsReadyFor, IsUnasked, ListsLive};
 ghost use Rattle.flatstore_commands.specs.Scans.{answer_text, answers_text, Scans};
 ghost use Rattle.flatstore_commands.specs.Shows.{HasShown};

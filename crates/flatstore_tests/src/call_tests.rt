@@ -3,10 +3,10 @@ ghost use Rattle.std.specs.Prelude.{◌≡◌, false};
 
 use crate::change_tests::put;
 use core_room::{Counts, Shortage};
+use engine_core::run_report::Refusal;
 use flatstore_commands::{Report, Status, command_line, flatstore_alone};
 use fs_model::{Memory, Value};
 use fs_text::{MemSink, MemSource, Sink, Source, SteadySink, SteadySource};
-use group_engine::run_report::Refusal;
 use image_yardstick::image_superblock::read_layout;
 use image_yardstick::{first_fault, recovered_cells};
 use pm_region::{ReadRegion, Region, SplitRegion};

@@ -1,8 +1,8 @@
 // The worked rows of deletes and of values in blocks, on the top call.
 use crate::call_tests::{all_done, refuses, row, spent, with};
 use core_room::{Counts, Shortage};
+use engine_core::run_report::Refusal;
 use flatstore_commands::Status;
-use group_engine::run_report::Refusal;
 use region_memory::SteadyRegion;
 use std::alloc::Global;
 use std::test::Fail;

@@ -1,5 +1,5 @@
 -- What is shown after a step of a core.
-use Rattle.std.proofs.Common.{◌≡◌, ◌≢◌, ◌⊎◌, inl, inr, ℕ, ◌+◌, ◌*◌, ◌/◌, ◌<◌, ◌≤◌, List, [], ◌∷◌, ◌++◌, length, Bool, true, false, not, cond, Option, Some, slice_set, slice_index_or, refl, sym, ◌∙◌, ap, subst, arith, Result, Ok, Err, IfOk, OnOk}
+use Rattle.std.proofs.Common.{◌≡◌, ◌≢◌, ◌⊎◌, inl, inr, ℕ, zero, suc, ◌+◌, ◌*◌, ◌/◌, ◌<◌, ◌≤◌, List, [], ◌∷◌, ◌++◌, length, Bool, true, false, not, cond, Option, Some, slice_set, slice_index_or, refl, sym, ◌∙◌, ap, subst, arith, Result, Ok, Err, IfOk, OnOk}
 use Rattle.std.specs.List.{slice_get}
 use Rattle.std.proofs.lemmas.Bool.{cases_eq, eq-eqb, ne_eqb}
 use Rattle.fs_model.specs.declared.memory.Memory.{Memory}
@@ -28,17 +28,24 @@ use Rattle.engine_laws.proofs.Clients.{group_low}
 use Rattle.core_worker.specs.declared.types.Answer.{Answer}
 use Rattle.core_worker.specs.declared.types.Turn.{Turn}
 use Rattle.core_worker.specs.declared.types.Turn.TheVariants.{Moved, Idle}
-use Rattle.group_engine.specs.declared.types.Stamped.{Stamped}
-use Rattle.group_engine.specs.Answers.{HavePlaces, ShowsAnswer, kept_at, stored}
-use Rattle.group_engine.specs.Calls.{AreOwn, KeepsPart, Steps, steps_of, has_moved, is_idle, is_open, next_of}
+use Rattle.engine_core.specs.declared.types.Stamped.{Stamped}
+use Rattle.engine_core.specs.Answers.{HavePlaces, ShowsAnswer, kept_at, stored}
+use Rattle.engine_core.specs.Calls.{AreOwn, KeepsPart, Steps, steps_of, has_moved, is_idle, is_open, next_of, Does}
 use Rattle.engine_laws.specs.Ceasing.{Halts}
 use Rattle.group_engine.specs.Passes.{Advances}
-use Rattle.group_engine.specs.Shows.{Seat, Shows, total, left_of}
-use Rattle.group_engine.specs.Runs.{Does, RunMoves, run_state}
+use Rattle.engine_core.specs.Seated.{Seat}
+use Rattle.group_engine.specs.Shows.{Shows, total, left_of}
+use Rattle.group_engine.specs.Runs.{RunMoves, run_state}
 use Rattle.group_engine.proofs.Ending.{keeps_any}
-use Rattle.group_engine.proofs.Kept.{get_there, set_length, set_same, set_other, set_twice, total_set, stored_shows, stored_length, shows_less, places_of}
+use Rattle.engine_core.proofs.Clients.{get_there, set_length, set_same, set_other, set_twice, stored_shows, stored_length, shows_less, places_of}
 use Rattle.group_engine.proofs.Moving.{layout_of_stands}
 use Rattle.group_engine.proofs.Moving as moving
+
+-- a sum over a list with an item set
+total_set : {X : Type 0} (f : X → ℕ) (xs : List X) (n : ℕ) (y d : X) → n < length xs → total f (slice_set xs n y) + f (slice_index_or xs n d) ≡ total f xs + f y
+total_set f [] n y d low = absurd (omega (arith, low))
+total_set f (x ∷ xs) zero y d low = omega arith
+total_set f (x ∷ xs) (suc n) y d low = let r = total_set f xs n y d (omega (arith, low)) in omega (arith, r)
 
 module _ {W Q : Type 0} (hands : View → W → Hands) (answers : W → List Answer) (stands : Place → ℕ → State → View → W → Type 0) (fair : Group → ℕ → W → Type 0) (room leads : W → Bool) (queue : Q → List (ℕ × Request))
     (o : Origin) (e : Engine) (S : Stands o e) (s : State) (l : Geometry) (ws : List W) (bs : List LocalBoard) (qs : List Q) (ks : List (Option Stamped)) (H : Shows hands answers stands fair room leads queue s l ws bs qs ks e) (c : ℕ) (low : c < l.cores) where

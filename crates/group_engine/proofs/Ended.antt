@@ -19,19 +19,20 @@ use Rattle.core_worker.specs.declared.worker.Worker.{Worker}
 use Rattle.core_worker.specs.Beginning.{answers_of}
 use Rattle.core_worker.specs.Left.{fair}
 use Rattle.core_worker.specs.WorkerMoves.{hands_of}
-use Rattle.group_engine.specs.declared.types.Stamped.{Stamped}
-use Rattle.group_engine.specs.declared.run_report.Report.{Report}
-use Rattle.group_engine.specs.declared.run_outcome.End.TheVariants as ends
-use Rattle.group_engine.specs.declared.run_outcome.Outcome.{Outcome}
-use Rattle.group_engine.specs.Answers.{kept_at, ShowsAnswer}
+use Rattle.engine_core.specs.declared.types.Stamped.{Stamped}
+use Rattle.engine_core.specs.declared.run_report.Report.{Report}
+use Rattle.engine_core.specs.declared.run_outcome.End.TheVariants as ends
+use Rattle.engine_core.specs.declared.run_outcome.Outcome.{Outcome}
+use Rattle.engine_core.specs.Answers.{kept_at, ShowsAnswer}
 use Rattle.group_engine.specs.Passes.{EndsIn}
-use Rattle.group_engine.specs.Reports.{IsReport, ReportsOn, IsBlank}
-use Rattle.group_engine.specs.Replayed.{BeginsAt, Replayed, end_by, outcome_by}
-use Rattle.group_engine.specs.Runs.{RunState, CoreMoves, ShowsRun, AreNew, run_state, first_state, with_request}
+use Rattle.engine_core.specs.Reports.{IsReport, ReportsOn, IsBlank}
+use Rattle.engine_core.specs.RunStarts.{BeginsAt, AreNew}
+use Rattle.engine_core.specs.Endings.{end_by, outcome_by}
+use Rattle.group_engine.specs.Replayed.{Replayed}
+use Rattle.group_engine.specs.Runs.{RunState, CoreMoves, ShowsRun, run_state, first_state, with_request}
 use Rattle.group_engine.specs.Shows.{Shows}
-use Rattle.group_engine.specs.Working.{IsMember, may_take, leads}
-use Rattle.group_engine.proofs.Outcomes.{reports_on}
-use Rattle.group_engine.proofs.Reporting.{blank_report}
+use Rattle.engine_core.specs.Working.{IsMember, may_take, leads}
+use Rattle.engine_core.proofs.Clients.{reports_on, blank_report}
 
 turn_delivers : Delivers AnyTurn
 turn_delivers e f c b m = m.0

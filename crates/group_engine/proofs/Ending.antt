@@ -1,5 +1,5 @@
 -- What moves keep, also where they end for want of memory.
-use Rattle.std.proofs.Common.{◌+◌, ◌<◌, true, false, cond, ⊎_elim, arith, ◌≡◌, ◌∙◌, sym, ap, subst, append_assoc, ℕ, List, [], ◌∷◌, ◌++◌, Bool, refl, Result, Ok, Err, OnErr}
+use Rattle.std.proofs.Common.{◌+◌, ◌<◌, true, false, cond, ⊎_elim, arith, ◌≡◌, ◌∙◌, sym, ap, subst, append_assoc, ℕ, List, [], ◌∷◌, ◌++◌, Bool, refl}
 use Rattle.pm_region.specs.State.{State}
 use Rattle.engine_laws.specs.Engine.{Engine}
 use Rattle.engine_laws.specs.Ran.{Goes, Ran, asked_in}
@@ -42,10 +42,6 @@ module _ {W : Type 0} (Move : RunState W → ℕ → Bool → RunState W → Typ
 
 pub ends_on : (t : State) (e now f : Engine) → Keeps e now → Ends t now f → Ends t e f
 ends_on t e now f K E = record { region = E.region; keeps = keeps_on e now f K E.keeps }
-
-pub on_err : {T E A : Type 0} (r : Result T E) → A → OnErr r A
-on_err (Ok x) a = tt
-on_err (Err x) a = a
 
 pub begun_first : (ls : List Line) (e : Engine) → Begun ls ls e e
 begun_first ls e = record { stands = λ o S. S; given = refl }

@@ -19,11 +19,12 @@ use Rattle.engine_laws.specs.Engine.{Engine}
 use Rattle.engine_laws.specs.Stands.{Origin, Stands, given_to}
 use Rattle.engine_laws.proofs.Clients.{of_member, gives}
 use Rattle.core_worker.specs.declared.types.Answer.{Answer}
-use Rattle.group_engine.specs.declared.types.Stamped.{Stamped}
-use Rattle.group_engine.specs.Answers.{ShowsAnswer, kept_at}
-use Rattle.group_engine.specs.Calls.{AreOwn}
-use Rattle.group_engine.specs.Shows.{Seat, Shows}
-use Rattle.group_engine.proofs.Kept.{get_there, set_length, set_same, set_other, one_more}
+use Rattle.engine_core.specs.declared.types.Stamped.{Stamped}
+use Rattle.engine_core.specs.Answers.{ShowsAnswer, kept_at}
+use Rattle.engine_core.specs.Calls.{AreOwn}
+use Rattle.engine_core.specs.Seated.{Seat}
+use Rattle.group_engine.specs.Shows.{Shows}
+use Rattle.engine_core.proofs.Clients.{get_there, set_length, set_same, set_other, one_more}
 use Rattle.group_engine.proofs.Moving.{layout_of_stands}
 
 kept_more : (ys : List (Option Stamped)) (n : ℕ) → kept_at (ys ++ None ∷ []) n ≡ kept_at ys n

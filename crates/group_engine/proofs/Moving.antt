@@ -31,8 +31,8 @@ use Rattle.engine_laws.specs.Advance.{Calls, moved_to}
 use Rattle.engine_laws.proofs.Clients.{group_low, of_member, of_core, core_is, apart, pending_in, outside_part, loads_only, all_in, call_stands, call_sits, call_others, call_move, call_once, call_given, call_asked}
 use Rattle.core_worker.specs.declared.types.Answer.{Answer}
 use Rattle.engine_laws.specs.Ceasing.{IsResting, Halts}
-use Rattle.group_engine.specs.Calls.{HasNoMore, AreOwn, Rests, KeepsPart, Steps, steps_of, is_open, next_of}
-use Rattle.group_engine.specs.Shows.{Seat}
+use Rattle.engine_core.specs.Calls.{HasNoMore, AreOwn, Rests, KeepsPart, Steps, steps_of, is_open, next_of}
+use Rattle.engine_core.specs.Seated.{Seat}
 
 pub layout_of_stands : (o : Origin) (e : Engine) → Stands o e → IsLayout e.layout
 layout_of_stands o e S = subst IsLayout (sym S.layout) (superblock_facts o.region.frame.bytes o.found (has_layout o.region.frame.bytes o.found S.sound)).1

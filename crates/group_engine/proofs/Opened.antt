@@ -14,8 +14,9 @@ use Rattle.group_board.specs.declared.local_board.LocalBoard.{LocalBoard}
 use Rattle.engine_laws.specs.WorkerMoves.{Hands}
 use Rattle.engine_laws.specs.Stands.{Origin, opening}
 use Rattle.core_worker.specs.declared.types.Answer.{Answer}
-use Rattle.group_engine.specs.Shows.{Shows, AreSeated, AreOpened, AreEmpty}
-use Rattle.group_engine.proofs.Kept.{get_more}
+use Rattle.engine_core.specs.Seated.{AreSeated}
+use Rattle.group_engine.specs.Shows.{Shows, AreOpened, AreEmpty}
+use Rattle.engine_core.proofs.Clients.{get_more}
 
 pub boards_more : (words : List ℕ) (bs : List LocalBoard) (b : LocalBoard) → AreOpened words bs → state b.keeper.me.0 ≡ opened (place_in (length bs) words) (image_of words) → AreOpened words (bs ++ b ∷ [])
 boards_more words bs b all one g z at = elim (get_more bs b z g at) [

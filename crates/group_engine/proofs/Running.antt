@@ -12,7 +12,7 @@ use Rattle.group_board.specs.declared.local_board.LocalBoard.{LocalBoard}
 use Rattle.engine_laws.specs.WorkerMoves.{Hands}
 use Rattle.engine_laws.specs.Stands.{Origin, opening}
 use Rattle.core_worker.specs.declared.types.Answer.{Answer}
-use Rattle.group_engine.specs.declared.types.Stamped.{Stamped}
+use Rattle.engine_core.specs.declared.types.Stamped.{Stamped}
 use Rattle.group_engine.specs.Shows.{Shows}
 use Rattle.group_engine.specs.Runs.{RunState, RunMoves, ShowsRun, run_state, first_state}
 

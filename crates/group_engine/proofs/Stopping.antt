@@ -1,5 +1,5 @@
 -- Whether a core has stopped, by the workers.
-use Rattle.std.proofs.Common.{◌≡◌, ℕ, zero, suc, ◌<◌, List, [], ◌∷◌, length, Bool, true, false, Option, Some, sym, ◌∙◌, subst, arith}
+use Rattle.std.proofs.Common.{◌≡◌, ℕ, ◌<◌, List, length, Bool, true, false, Option, Some, sym, ◌∙◌, subst, arith}
 use Rattle.std.specs.List.{slice_get}
 use Rattle.fs_model.specs.declared.model.Request.{Request}
 use Rattle.pm_region.specs.State.{State}
@@ -12,13 +12,9 @@ use Rattle.engine_laws.specs.WorkerMoves.{Hands}
 use Rattle.engine_laws.specs.Engine.{Engine}
 use Rattle.engine_laws.specs.Promises.{HasStopped}
 use Rattle.core_worker.specs.declared.types.Answer.{Answer}
-use Rattle.group_engine.specs.declared.types.Stamped.{Stamped}
+use Rattle.engine_core.specs.declared.types.Stamped.{Stamped}
+use Rattle.engine_core.proofs.Clients.{some_there}
 use Rattle.group_engine.specs.Shows.{Shows}
-
-pub some_there : {X : Type 0} (xs : List X) (n : ℕ) → n < length xs → (x : X) × (slice_get xs n ≡ Some x)
-some_there [] n low = absurd (omega (arith, low))
-some_there (x ∷ xs) zero low = (x, λ i. Some x)
-some_there (x ∷ xs) (suc n) low = some_there xs n (omega (arith, low))
 
 module _ {W Q : Type 0} (hands : View → W → Hands) (answers : W → List Answer) (stands : Place → ℕ → State → View → W → Type 0) (fair : Group → ℕ → W → Type 0) (room leads : W → Bool) (queue : Q → List (ℕ × Request))
     (e : Engine) (s : State) (l : Geometry) (ws : List W) (bs : List LocalBoard) (qs : List Q) (ks : List (Option Stamped)) (H : Shows hands answers stands fair room leads queue s l ws bs qs ks e) where

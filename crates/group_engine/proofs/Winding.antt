@@ -17,11 +17,12 @@ use Rattle.engine_laws.specs.Stands.{Origin, Stands}
 use Rattle.engine_laws.proofs.Clients.{takes_stands}
 use Rattle.core_worker.specs.declared.types.Answer.{Answer}
 use Rattle.core_worker.specs.declared.types.Turn.{Turn}
-use Rattle.group_engine.specs.declared.types.Stamped.{Stamped}
-use Rattle.group_engine.specs.Calls.{AllWind, NoneWinds, EachWinds, WindsDown}
+use Rattle.engine_core.specs.declared.types.Stamped.{Stamped}
+use Rattle.engine_core.specs.Calls.{AllWind, NoneWinds, EachWinds, WindsDown}
 use Rattle.group_engine.specs.Passes.{Ends}
-use Rattle.group_engine.specs.Shows.{Seat, Shows}
-use Rattle.group_engine.proofs.Kept.{at_is, get_there, set_same, set_other, set_twice}
+use Rattle.engine_core.specs.Seated.{Seat}
+use Rattle.group_engine.specs.Shows.{Shows}
+use Rattle.engine_core.proofs.Clients.{at_is, get_there, set_same, set_other, set_twice}
 
 module _ {W : Type 0} (winds : W → Bool) where
   -- the worker in one place is another one

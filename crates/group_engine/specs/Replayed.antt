@@ -1,59 +1,23 @@
 -- What a replay of lines on a region comes to, whatever the region tells.
-use Rattle.std.specs.Prelude.{◌≡◌, ◌≢◌, ℕ, ◌/◌, ◌<◌, List, ◌++◌, length, Bool, false, Result, Ok, Err, if◌then◌else◌}
+use Rattle.std.specs.Prelude.{◌≡◌, ◌≢◌, ℕ, ◌<◌, List, ◌++◌, length, false}
 use Rattle.std.specs.List.{slice_get}
-use Rattle.fs_model.specs.declared.memory.Memory.{Memory}
 use Rattle.fs_model.specs.declared.model.Request.{Request}
 use Rattle.fs_text.specs.declared.line.Line.{Line}
 use Rattle.pm_region.specs.State.{State, IsTelling}
-use Rattle.pm_region.specs.Words.{lasts}
 use Rattle.chunk_map.specs.Layouts.{layout_of}
 use Rattle.recover.specs.declared.types.Recovered.{Recovered}
-use Rattle.recover.specs.Regions.{IsCertain}
-use Rattle.recover.specs.Recovering.{IsMade, IsFound, AllStand}
 use Rattle.engine_laws.specs.Stands.{Origin, Stands}
-use Rattle.engine_laws.specs.Promises.{IsOrigin, HasStopped, Promised, IsDone}
+use Rattle.engine_laws.specs.Promises.{HasStopped, Promised, IsDone}
 use Rattle.engine_laws.specs.Ran.{Ran, asked_in}
 use Rattle.engine_laws.specs.Ceasing.{HasCeased}
-use Rattle.group_engine.specs.declared.run_report.Report.{Report}
-use Rattle.group_engine.specs.declared.run_outcome.End.{End}
-use Rattle.group_engine.specs.declared.run_outcome.End.TheVariants as ends
-use Rattle.group_engine.specs.declared.run_outcome.Outcome.{Outcome}
 use Rattle.core_worker.specs.declared.worker.Worker.{Worker}
-use Rattle.group_engine.specs.Answers.{kept_at, ShowsAnswer}
-use Rattle.group_engine.specs.Reports.{IsReport, ReportsOn}
-use Rattle.group_engine.specs.Runs.{RunState, CoreMoves, AreNew, first_state, with_request}
-
--- A whole region stands with each word certain, and this is what recovery gave of the words that it reads.
-pub record StandsAsFound (s : State) (word : ℕ → ℕ) (r : Recovered) : Type 0 where
-  pub first : s.frame.first ≡ 0
-  pub words : s.frame.words ≡ s.frame.bytes / 8
-  pub certain : IsCertain s
-  pub made : IsMade s.frame.bytes r
-  pub found : IsFound s.frame.bytes word r
-  pub stand : AllStand s r
-
--- A run may begin at this region: its words are those that the region reads, and those that it tells where it tells.
-pub record BeginsAt (s : State) (word : ℕ → ℕ) (o : Origin) : Type 0 where
-  pub is : IsOrigin o
-  pub region : o.region ≡ s
-  pub reads : (w : ℕ) → w < s.frame.bytes / 8 → o.found w ≡ word w
-  pub tells : IsTelling s → (w : ℕ) → w < s.frame.bytes / 8 → o.found w ≡ lasts s w
-
--- how a run ended, by whether a core has stopped and by what it answered
-abbrev pub end_by : Bool → Result (Unit {0}) Memory → End
-end_by stopped (Ok x) = if stopped then ends.RegionFault else ends.Complete
-end_by stopped (Err e) = ends.Memory
-
-abbrev pub outcome_by : Report → End → Outcome
-outcome_by r end = record {
-  replies = r.replies;
-  finishes = r.finishes;
-  refusals = r.refusals;
-  end = end;
-}
-
-abbrev pub report_in : Outcome → Report
-report_in x = record { replies = x.replies; finishes = x.finishes; refusals = x.refusals }
+use Rattle.engine_core.specs.declared.run_outcome.End.TheVariants as ends
+use Rattle.engine_core.specs.declared.run_outcome.Outcome.{Outcome}
+use Rattle.engine_core.specs.Answers.{kept_at, ShowsAnswer}
+use Rattle.engine_core.specs.Reports.{IsReport, ReportsOn}
+use Rattle.engine_core.specs.RunStarts.{BeginsAt, AreNew}
+use Rattle.engine_core.specs.Endings.{report_in}
+use Rattle.group_engine.specs.Runs.{RunState, CoreMoves, first_state, with_request}
 
 -- Lines led from a region's state and words, of which recovery gave this, to its state t, and this is the outcome, by the run's last state.
 pub record Replayed (s : State) (word : ℕ → ℕ) (r : Recovered) (lines : List Line) (t : State)

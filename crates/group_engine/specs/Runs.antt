@@ -1,13 +1,12 @@
 -- A run of the engine that has its workers: what its states have, how it begins, and what a move of a core is.
-use Rattle.std.specs.Prelude.{◌≡◌, ℕ, List, [], ◌∷◌, ◌++◌, length, Bool, true, Option, Some, None, slice_set}
+use Rattle.std.specs.Prelude.{◌≡◌, ℕ, List, [], ◌∷◌, ◌++◌, Bool, Option, Some, None, slice_set}
 use Rattle.std.specs.List.{slice_get}
 use Rattle.fs_model.specs.declared.model.Request.{Request}
 use Rattle.pm_region.specs.State.{State}
 use Rattle.chunk_map.specs.declared.layouts.Geometry.{Geometry}
-use Rattle.recover.specs.declared.types.CoreStart.{CoreStart}
 use Rattle.group_laws.specs.Places.{Place}
 use Rattle.group_laws.specs.State.{Group}
-use Rattle.group_laws.specs.MemberViews.{View, view_of}
+use Rattle.group_laws.specs.MemberViews.{View}
 use Rattle.group_laws.specs.Regions.{place_at}
 use Rattle.group_board.specs.Seats.{SeatAt}
 use Rattle.group_board.specs.declared.local_board.LocalBoard.{LocalBoard}
@@ -20,13 +19,14 @@ use Rattle.core_worker.specs.declared.types.Answer.{Answer}
 use Rattle.core_worker.specs.declared.worker.Worker.{Worker}
 use Rattle.core_worker.specs.Beginning.{answers_of}
 use Rattle.core_worker.specs.Left.{fair}
-use Rattle.core_worker.specs.Openings.{IsNew}
 use Rattle.core_worker.specs.WorkerMoves.{hands_of}
-use Rattle.group_engine.specs.declared.types.Stamped.{Stamped}
-use Rattle.group_engine.specs.declared.worker_calls.CoreWorker.{Ghosts}
-use Rattle.group_engine.specs.Answers.{stored}
-use Rattle.group_engine.specs.Shows.{Seat, Shows}
-use Rattle.group_engine.specs.Working.{IsMember, may_take, leads, BeginsRequest, MakesTurn, SameButAnswers}
+use Rattle.engine_core.specs.declared.types.Stamped.{Stamped}
+use Rattle.engine_core.specs.declared.worker_calls.CoreWorker.{Ghosts}
+use Rattle.engine_core.specs.Answers.{stored}
+use Rattle.engine_core.specs.Calls.{Does}
+use Rattle.engine_core.specs.Seated.{Seat}
+use Rattle.group_engine.specs.Shows.{Shows}
+use Rattle.engine_core.specs.Working.{IsMember, may_take, leads, BeginsRequest, MakesTurn, SameButAnswers}
 
 -- Where a run stands: the engine's state, the workers by core, and what is kept of the answers by number: each with its stamp, and with the cause of a refusal.
 pub record RunState (W : Type 0) : Type 0 where
@@ -44,30 +44,6 @@ first_state o ws = run_state (opening o) ws []
 -- a request is given to its owner, and no answer of it is kept yet
 abbrev pub with_request : {W : Type 0} → RunState W → Request → RunState W
 with_request e q = run_state (given_to e.engine q) e.workers (e.answers ++ None ∷ [])
-
--- The worker of member m accepts a request that it is handed: it makes no step, and the region is as it was.
-pub record TakesIn {W : Type 0} (begins : State → View → W → W → ℕ → Request → Type 0) (m : ℕ)
-    (s t : State) (a b : Group) (w x : W) (y : ℕ × Request) (moved : Bool) : Type 0 where
-  pub begun : begins s (view_of a m) w x y.0 y.1
-  pub moves : moved ≡ true
-  pub region : t ≡ s
-  pub group : b ≡ a
-
--- It makes a turn, at a seat of that member.
-pub record TakesTurn {W : Type 0} (turned : Bool → State → State → Option Group → SeatAt → View
-    → View → W → W → Type 0) (p : Place) (m : ℕ) (s t : State) (a b : Group) (w x : W)
-    (moved : Bool) : Type 0 where
-  pub seat : SeatAt
-  pub place : seat.place ≡ p
-  pub number : seat.number ≡ m
-  pub turn : turned moved s t (Some a) seat (view_of a m) (view_of b m) w x
-
--- what a worker does in a move, by the requests that it is handed: one, or none
-abbrev pub Does : {W : Type 0} → (State → View → W → W → ℕ → Request → Type 0)
-    → (Bool → State → State → Option Group → SeatAt → View → View → W → W → Type 0) → Place → ℕ → State
-    → State → Group → Group → W → W → List (ℕ × Request) → Bool → Type 0
-Does begins turned p m s t a b w x [] moved = TakesTurn turned p m s t a b w x moved
-Does begins turned p m s t a b w x (y ∷ ys) moved = TakesIn begins m s t a b w x y moved
 
 -- A move of core c: its worker accepts the first request of its backlog, where it may take one and one waits, and else makes a turn. Then all its answers are given out, and kept with the region's stamp.
 pub record RunMoves {W : Type 0} (hands : View → W → Hands) (answers : W → List Answer)
@@ -111,9 +87,3 @@ pub record ShowsRun {W Q : Type 0} (hands : View → W → Hands) (answers : W �
       e.engine
   pub workers_are : e.workers ≡ workers
   pub answers_are : e.answers ≡ kept
-
--- Each worker is as it is made of the start of its core.
-pub record AreNew (starts : List CoreStart) (layout : Geometry) (ws : List Worker) : Type 0 where
-  pub count : length ws ≡ length starts
-  pub each : (c : ℕ) (w : Worker) (start : CoreStart) → slice_get ws c ≡ Some w
-      → slice_get starts c ≡ Some start → IsNew start layout w

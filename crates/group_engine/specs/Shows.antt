@@ -14,22 +14,11 @@ use Rattle.group_board.specs.declared.local_board.LocalBoard.{LocalBoard}
 use Rattle.engine_laws.specs.Parts.{group_of, member_of}
 use Rattle.engine_laws.specs.WorkerMoves.{Hands}
 use Rattle.engine_laws.specs.Engine.{Engine}
-use Rattle.engine_laws.specs.Workers.{Sits}
 use Rattle.core_worker.specs.declared.types.Answer.{Answer}
-use Rattle.group_engine.specs.declared.types.Stamped.{Stamped}
-use Rattle.group_engine.specs.Answers.{kept_at, ShowsAnswer}
-use Rattle.group_engine.specs.Calls.{AreOwn, is_open}
-
--- The worker of core c in a state: it has given out all its answers.
-pub record Seat {W : Type 0} (hands : View → W → Hands) (answers : W → List Answer)
-    (stands : Place → ℕ → State → View → W → Type 0) (fair : Group → ℕ → W → Type 0)
-    (room leads : W → Bool) (e : Engine) (c : ℕ) (w : W) : Type 0 where
-  pub view : View
-  pub sits : Sits e c view (hands view w)
-  pub tied : stands (place_at e.layout (group_of e.layout c)) (member_of e.layout c) e.region view w
-  pub fairly : fair (e.group (group_of e.layout c)) (member_of e.layout c) w
-  pub takes : e.takes c ≡ is_open room leads w
-  pub given : answers w ≡ []
+use Rattle.engine_core.specs.declared.types.Stamped.{Stamped}
+use Rattle.engine_core.specs.Answers.{kept_at, ShowsAnswer}
+use Rattle.engine_core.specs.Calls.{AreOwn}
+use Rattle.engine_core.specs.Seated.{Seat}
 
 -- The layout, the workers, the boards, the backlogs and the answers by number show this state, but for the requests themselves.
 pub record Shows {W Q : Type 0} (hands : View → W → Hands) (answers : W → List Answer)
@@ -71,10 +60,3 @@ AreOpened words bs = (g : ℕ) (b : LocalBoard) → slice_get bs g ≡ Some b
 
 abbrev pub AreEmpty : {Q : Type 0} → List Q → (Q → List (ℕ × Request)) → Type 0
 AreEmpty {Q} qs queue = (c : ℕ) (q : Q) → slice_get qs c ≡ Some q → queue q ≡ []
-
--- each worker is in its place
-abbrev pub AreSeated : {W : Type 0} (hands : View → W → Hands) (answers : W → List Answer)
-    (stands : Place → ℕ → State → View → W → Type 0) (fair : Group → ℕ → W → Type 0)
-    (room leads : W → Bool) → List W → Engine → Type 0
-AreSeated {W} hands answers stands fair room leads ws e = (c : ℕ) (w : W) → slice_get ws c ≡ Some w
-    → Seat hands answers stands fair room leads e c w

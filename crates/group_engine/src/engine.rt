@@ -3,18 +3,18 @@ ghost use Rattle.std.specs.Prelude.{◌≡◌, ℕ, ◌<◌, List, length, Some,
 ghost use Rattle.std.specs.List.{slice_get};
 ghost use Rattle.group_laws.specs.MemberViews.{View};
 ghost use Rattle.core_worker.specs.declared.types.Turn.TheVariants.{Moved, Idle};
-ghost use Rattle.group_engine.specs.Calls.{AllWind, NoneWinds, EachWinds, has_moved};
-ghost use Rattle.group_engine.specs.Reports.{IsBlank, HasRoomFor};
+ghost use Rattle.engine_core.specs.Calls.{AllWind, NoneWinds, EachWinds, has_moved};
+ghost use Rattle.engine_core.specs.Reports.{IsBlank, HasRoomFor};
 
-use crate::backlog::append;
-use crate::engine_step::{collect, step};
 use crate::passes;
 use crate::passes::Cores;
-use crate::run_report::{Report, report_on};
-use crate::types::Stamped;
-use crate::worker_calls::CoreWorker;
 use chunk_map::Geometry;
 use core_worker::Turn;
+use engine_core::backlog::append;
+use engine_core::engine_step::{collect, step};
+use engine_core::run_report::{Report, report_on};
+use engine_core::types::Stamped;
+use engine_core::worker_calls::CoreWorker;
 use fs_model::{Memory, Request};
 use fs_text::Line;
 use group_board::LocalBoard;
@@ -304,7 +304,7 @@ impl<W: CoreWorker + Drop> Engine<W> {
     ghost use Rattle.pm_region.specs.State.{State};
     ghost use Rattle.engine_laws.specs.Engine as engines;
     ghost use Rattle.engine_laws.specs.Stands.{Origin, Stands};
-    ghost use Rattle.group_engine.specs.Reports.{IsReport, ReportsOn};
+    ghost use Rattle.engine_core.specs.Reports.{IsReport, ReportsOn};
     ghost use Rattle.group_engine.specs.Shows.{Shows};
 
     /// The replies, and the report on them: those of the state that the engine shows. It takes no memory.

@@ -1,43 +1,23 @@
 // The opening of an engine: a board for each group, and nothing given yet.
-ghost use Rattle.std.specs.Prelude.{◌≡◌, ℕ, ◌/◌, ◌<◌, length, IfOk};
+ghost use Rattle.std.specs.Prelude.{◌≡◌, ◌/◌, ◌<◌, length, IfOk};
 ghost use Rattle.chunk_map.specs.Layouts.{layout_of};
 ghost use Rattle.store_image.specs.Soundness as images;
 ghost use Rattle.group_laws.specs.OpeningImages.{opened};
 ghost use Rattle.group_board.specs.Journals.{image_of, place_in, state};
 ghost use Rattle.engine_laws.specs.Stands.{Origin, opening};
-ghost use Rattle.group_engine.specs.Shows.{Shows, AreSeated, AreOpened, AreEmpty};
+ghost use Rattle.engine_core.specs.Seated.{AreSeated};
+ghost use Rattle.group_engine.specs.Shows.{Shows, AreOpened, AreEmpty};
 
 use crate::engine::Engine;
-use crate::run_report::Report;
-use crate::worker_calls::CoreWorker;
 use chunk_map::Geometry;
+use engine_core::openings::{Numbered, Of};
+use engine_core::run_report::Report;
+use engine_core::worker_calls::CoreWorker;
 use fs_model::{Memory, Request};
 use group_board::{LocalBoard, Opening};
 use std::alloc::Global;
 use std::collections::VecDeque;
-use std::marker::{Brand, PhantomData};
-
-/// A number that is known only when the program runs.
-pub trait Numbered {
-    ghost number: { ℕ };
-}
-
-impl Numbered for Brand {
-    ghost number = { 0 };
-}
-
-/// The group with a number, of what an opening says.
-pub struct Of<O, N> {
-    marker: PhantomData<(O, N)>,
-}
-
-impl<O: Opening, N: Numbered> Opening for Of<O, N> {
-    ghost words = { O.words };
-
-    ghost bytes = { O.bytes };
-
-    ghost group = { N.number };
-}
+use std::marker::Brand;
 
 fn open_one<O: Opening, N: Numbered>(
     alloc: Global,

@@ -1,5 +1,5 @@
 // The opening of an engine on a region that recovery read.
-ghost use Rattle.std.specs.Prelude.{◌≡◌, ℕ, List, [], ◌<◌, length, IfOk};
+ghost use Rattle.std.specs.Prelude.{◌≡◌, ◌<◌, length, IfOk};
 ghost use Rattle.chunk_map.specs.Layouts.{layout_of};
 ghost use Rattle.store_image.specs.Soundness as images;
 ghost use Rattle.group_board.specs.Journals.{image_of};
@@ -7,66 +7,22 @@ ghost use Rattle.core_worker.specs.Beginning.{answers_of};
 ghost use Rattle.core_worker.specs.Left.{fair};
 ghost use Rattle.core_worker.specs.WorkerMoves.{hands_of};
 ghost use Rattle.engine_laws.specs.Stands.{Origin, opening};
-ghost use Rattle.group_engine.specs.Replayed.{StandsAsFound, BeginsAt};
-ghost use Rattle.group_engine.specs.Shows.{Shows, AreSeated};
-ghost use Rattle.group_engine.specs.Runs.{AreNew};
-ghost use Rattle.group_engine.specs.Working.{IsMember, may_take, leads, SeatFirst};
+ghost use Rattle.engine_core.specs.RunStarts.{StandsAsFound, BeginsAt, AreNew};
+ghost use Rattle.engine_core.specs.Seated.{AreSeated};
+ghost use Rattle.group_engine.specs.Shows.{Shows};
+ghost use Rattle.engine_core.specs.Working.{IsMember, may_take, leads};
 
 use crate::engine::Engine;
 use crate::open_boards::open;
-use crate::real_worker::open_worker;
-use chunk_map::{Geometry, Layout};
+use chunk_map::Geometry;
 use core_worker::Worker;
+use engine_core::open_workers::open_workers;
+use engine_core::openings::{Found, On};
 use fs_model::Memory;
-use group_board::Opening;
 use pm_region::ReadRegion;
-use recover::{CoreStart, Recovered};
+use recover::Recovered;
 use std::alloc::Global;
-use std::marker::{Brand, PhantomData};
-
-/// The words of a region and its length in bytes, which are known only when the program runs.
-pub trait Found {
-    ghost words: { List ℕ };
-
-    ghost bytes: { ℕ };
-}
-
-impl Found for Brand {
-    ghost words = { [] };
-
-    ghost bytes = { 0 };
-}
-
-/// The opening of a group on them.
-pub struct On<F> {
-    marker: PhantomData<F>,
-}
-
-impl<F: Found> Opening for On<F> {
-    ghost words = { F.words };
-
-    ghost bytes = { F.bytes };
-
-    ghost group = { 0 };
-}
-
-/// One worker for each core, in their order, as it is opened of what recovery gave of the core.
-pub fn open_workers(
-    alloc: Global,
-    layout: Layout,
-    starts: Vec<CoreStart>,
-) -> Result<Vec<Worker>, Memory>
-    ensures count { IfOk result (λ workers. length workers.items ≡ length starts.items) }
-    ensures new { IfOk result (λ workers. AreNew starts.items layout workers.items) }
-    ensures seat { IfOk result (λ workers. SeatFirst starts.items layout workers.items) }
-{
-    let mut workers = Vec::new(alloc);
-    for start in starts {
-        let worker = open_worker(alloc, start, layout)?;
-        workers.push(worker)?;
-    }
-    Ok(workers)
-}
+use std::marker::Brand;
 
 // The engine on those words. The region is passed since what is known of them must be said of what is passed.
 fn open_on<F: Found, R: ReadRegion>(

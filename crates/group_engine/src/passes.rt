@@ -5,7 +5,7 @@ ghost use Rattle.engine_laws.specs.Engine.{Engine};
 ghost use Rattle.engine_laws.specs.Promises.{AnyTurn};
 ghost use Rattle.engine_laws.specs.Ran.{Goes, Ran};
 ghost use Rattle.core_worker.specs.declared.types.Turn.TheVariants.{Moved, Idle};
-ghost use Rattle.group_engine.specs.Calls.{has_moved};
+ghost use Rattle.engine_core.specs.Calls.{has_moved};
 ghost use Rattle.group_engine.specs.Runs.{RunState, with_request};
 ghost use Rattle.group_engine.specs.Passes.{Settles, Passes, NameCores, Ends, EndsIn, DrainsOut, Leads, Ceases, CeasePasses, CeasesOut, CeasesIn};
 

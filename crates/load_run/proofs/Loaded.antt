@@ -8,7 +8,7 @@ use Rattle.pm_region.specs.Split.{Refuses}
 use Rattle.pm_region.specs.declared.split.AttachError.{AttachError}
 use Rattle.pm_region.specs.declared.split.AttachError.TheVariants as errors
 use Rattle.recover.specs.declared.types.Recovered.{Recovered}
-use Rattle.group_engine.specs.Reports.{reply_in}
+use Rattle.engine_core.specs.Reports.{reply_in}
 use Rattle.load_tally.specs.Tallied.{tally_of}
 use Rattle.thread_engine.specs.Collected.{had_memory}
 use Rattle.thread_engine.specs.Outlets.{all_replies, TakesAll}

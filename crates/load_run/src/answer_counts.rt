@@ -1,12 +1,12 @@
 // Answers that are counted as replies.
 ghost use Rattle.std.specs.Prelude.{◌≡◌, ◌+◌, ◌^◌, ◌<◌, List, [], ◌∷◌, ◌++◌, length, map};
 ghost use Rattle.fs_model.specs.declared.model.Reply as replies;
-ghost use Rattle.group_engine.specs.Reports.{reply_in};
+ghost use Rattle.engine_core.specs.Reports.{reply_in};
 ghost use Rattle.load_tally.specs.Tallied.{IsWithin, tally_of};
 
+use engine_core::types::Stamped;
 use fs_model::Reply;
 use fs_text::Tally;
-use group_engine::types::Stamped;
 use load_tally::add_reply;
 
 // Counts an answer. A request without one is stopped.

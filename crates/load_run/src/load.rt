@@ -1,7 +1,7 @@
 // A run of a load.
 ghost use Rattle.std.specs.Prelude.{◌≡◌, ◌^◌, ◌<◌, [], true, false, IfOk, OnErr};
 ghost use Rattle.pm_region.specs.Split.{Stays, Refuses, IsNotOpened};
-ghost use Rattle.group_engine.specs.Replayed.{StandsAsFound};
+ghost use Rattle.engine_core.specs.RunStarts.{StandsAsFound};
 ghost use Rattle.load_requests.specs.Generated.{requests_of_load};
 ghost use Rattle.load_tally.specs.Tallied.{tally_of};
 ghost use Rattle.thread_engine.specs.Collected.{had_memory};
@@ -10,8 +10,8 @@ ghost use Rattle.thread_engine.specs.RanApart.{RanApart};
 use crate::made_requests::LoadRequests;
 use crate::tally_outlet::TallyOutlet;
 use core_worker::Gate;
+use engine_core::run_outcome::Outcome;
 use fs_text::Tally;
-use group_engine::run_outcome::Outcome;
 use pm_region::{AttachError, ReadRegion, SplitRegion};
 use recover::Recovered;
 use std::alloc::Global;

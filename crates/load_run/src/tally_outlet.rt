@@ -4,8 +4,8 @@ ghost use Rattle.load_tally.specs.Tallied.{IsWithin, tally_of};
 ghost use Rattle.load_run.specs.Counted.{CountsMore};
 
 use crate::answer_counts::add_answers;
+use engine_core::types::Stamped;
 use fs_text::Tally;
-use group_engine::types::Stamped;
 use load_tally::nothing;
 use pm_region::SplitRegion;
 use std::alloc::Global;

@@ -28,10 +28,11 @@ use Rattle.core_worker.specs.declared.worker.Worker.{Worker}
 use Rattle.engine_laws.specs.Origins.{Origin}
 use Rattle.engine_laws.specs.Parts.{Groups, group_of, member_of}
 use Rattle.engine_laws.proofs.Clients.{group_low, member_low, member_core}
-use Rattle.group_engine.specs.declared.run_outcome.Outcome.{Outcome}
-use Rattle.group_engine.specs.declared.types.Stamped.{Stamped}
-use Rattle.group_engine.specs.Replayed.{StandsAsFound, BeginsAt, report_in}
-use Rattle.group_engine.specs.Reports.{IsReport}
+use Rattle.engine_core.specs.declared.run_outcome.Outcome.{Outcome}
+use Rattle.engine_core.specs.declared.types.Stamped.{Stamped}
+use Rattle.engine_core.specs.RunStarts.{StandsAsFound, BeginsAt}
+use Rattle.engine_core.specs.Endings.{report_in}
+use Rattle.engine_core.specs.Reports.{IsReport}
 use Rattle.thread_engine.specs.declared.muster.Returned.{Returned}
 use Rattle.thread_engine.specs.declared.run_apart.Supplies.{Supplies}
 use Rattle.thread_engine.specs.CoreRuns.{HasView, LoadsLook, requests_to}

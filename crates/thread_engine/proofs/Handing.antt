@@ -9,9 +9,9 @@ use Rattle.pm_region.specs.Split.{Stays}
 use Rattle.store_image.specs.Facts.{In}
 use Rattle.core_worker.specs.declared.types.Answer.{Answer}
 use Rattle.answer_queue.specs.declared.window_sizes.TheConstants.{WINDOW}
-use Rattle.group_engine.specs.declared.types.Stamped.{Stamped}
-use Rattle.group_engine.specs.Answers.{stored}
-use Rattle.group_engine.specs.Reports.{reply_in}
+use Rattle.engine_core.specs.declared.types.Stamped.{Stamped}
+use Rattle.engine_core.specs.Answers.{stored}
+use Rattle.engine_core.specs.Reports.{reply_in}
 use Rattle.thread_engine.specs.Collected.{AreBlank, with_stamp, restamped, end_by, had_memory}
 use Rattle.thread_engine.specs.Outlets.{IsAsked, all_replies, TakesAll}
 use Rattle.thread_engine.specs.RanApart.{stamped}

@@ -6,8 +6,8 @@ use Rattle.store_image.specs.Facts.{In}
 use Rattle.engine_laws.specs.WorkerMoves.{Fixed}
 use Rattle.core_worker.specs.declared.types.Answer.{Answer}
 use Rattle.core_worker.specs.Answering.{IsGiven, AreGiven}
-use Rattle.group_engine.specs.declared.types.Stamped.{Stamped}
-use Rattle.group_engine.specs.Answers.{kept_at, stored}
+use Rattle.engine_core.specs.declared.types.Stamped.{Stamped}
+use Rattle.engine_core.specs.Answers.{kept_at, stored}
 use Rattle.thread_engine.specs.Collected.{AreBlank}
 use Rattle.thread_engine.specs.RanApart.{stamped}
 

@@ -52,13 +52,14 @@ use Rattle.core_worker.specs.declared.worker.Worker.{Worker}
 use Rattle.core_worker.specs.Answering.{IsGiven, AreGiven}
 use Rattle.core_worker.specs.Beginning.{answers_of}
 use Rattle.core_worker.specs.Openings.{IsNew, IsStartAt}
-use Rattle.group_engine.specs.declared.types.Stamped.{Stamped}
-use Rattle.group_engine.specs.declared.run_outcome.End.TheVariants as closings
-use Rattle.group_engine.specs.declared.run_outcome.Outcome.{Outcome}
-use Rattle.group_engine.specs.Answers.{ShowsAnswer, kept_at, stored}
-use Rattle.group_engine.specs.Replayed.{BeginsAt, report_in}
-use Rattle.group_engine.specs.Reports.{IsReport}
-use Rattle.group_engine.proofs.Clients.{reports_by}
+use Rattle.engine_core.specs.declared.types.Stamped.{Stamped}
+use Rattle.engine_core.specs.declared.run_outcome.End.TheVariants as closings
+use Rattle.engine_core.specs.declared.run_outcome.Outcome.{Outcome}
+use Rattle.engine_core.specs.Answers.{ShowsAnswer, kept_at, stored}
+use Rattle.engine_core.specs.RunStarts.{BeginsAt}
+use Rattle.engine_core.specs.Endings.{report_in}
+use Rattle.engine_core.specs.Reports.{IsReport}
+use Rattle.engine_core.proofs.Clients.{reports_by}
 use Rattle.thread_engine.specs.Collected.{AreBlank, restamped, any_stopped, end_by}
 use Rattle.thread_engine.specs.RanApart.{stamped, KeepsAnswers, TakesOnce, Rejoined, RanApart}
 use Rattle.thread_engine.specs.Takings.{TakenAs}

@@ -4,8 +4,8 @@ use Rattle.std.proofs.lemmas.List.{take_all}
 use Rattle.fs_text.specs.Output.{ended, lines_text, reply_line, replies_text}
 use Rattle.fs_text.specs.Streams.{Takes, TakesUpTo}
 use Rattle.fs_text.proofs.Streaming.{takes_more}
-use Rattle.group_engine.specs.declared.types.Stamped.{Stamped}
-use Rattle.group_engine.specs.Reports.{reply_in}
+use Rattle.engine_core.specs.declared.types.Stamped.{Stamped}
+use Rattle.engine_core.specs.Reports.{reply_in}
 
 abbrev pub lines_of : Option Stamped → List ℕ
 lines_of x = ended (reply_line (reply_in x))

@@ -19,7 +19,7 @@ use Rattle.chunk_map.proofs.Clients.{chunk_in_part}
 use Rattle.core_worker.specs.declared.worker.Worker.{Worker}
 use Rattle.core_worker.specs.Ties.{Holds, Stands}
 use Rattle.core_worker.proofs.Clients.{names_kept}
-use Rattle.group_engine.specs.Working.{IsMember}
+use Rattle.engine_core.specs.Working.{IsMember}
 use Rattle.thread_engine.specs.Pieces.{IsPieceOf, HasPart}
 
 -- a chunk that is Data is one of the part's

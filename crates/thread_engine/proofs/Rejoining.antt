@@ -14,7 +14,7 @@ use Rattle.store_image.proofs.Clients.{layout_numbers}
 use Rattle.recover.specs.declared.types.Recovered.{Recovered}
 use Rattle.engine_laws.specs.Parts.{HasSuperblock}
 use Rattle.engine_laws.specs.Origins.{Origin}
-use Rattle.group_engine.specs.Replayed.{StandsAsFound, BeginsAt}
+use Rattle.engine_core.specs.RunStarts.{StandsAsFound, BeginsAt}
 use Rattle.thread_engine.specs.Outlets.{IsAsked}
 use Rattle.thread_engine.specs.RanApart.{Rejoined}
 use Rattle.thread_engine.specs.Supplied.{ArePartCuts}

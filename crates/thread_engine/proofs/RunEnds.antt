@@ -34,8 +34,8 @@ use Rattle.core_worker.specs.Beginning.{answers_of}
 use Rattle.core_worker.specs.Left.{fair}
 use Rattle.core_worker.specs.Openings.{IsNew, IsStartAt}
 use Rattle.core_worker.specs.WorkerMoves.{hands_of}
-use Rattle.group_engine.specs.Shows.{Seat}
-use Rattle.group_engine.specs.Working.{IsMember, may_take, leads}
+use Rattle.engine_core.specs.Seated.{Seat}
+use Rattle.engine_core.specs.Working.{IsMember, may_take, leads}
 use Rattle.thread_engine.specs.declared.muster.Crew.{Crew}
 use Rattle.thread_engine.specs.WorkStates.{IsAtWork}
 use Rattle.thread_engine.specs.Windows.{dealt_from, OwnsKeys}

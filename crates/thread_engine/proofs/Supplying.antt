@@ -20,10 +20,10 @@ use Rattle.core_worker.specs.Left.{fair}
 use Rattle.core_worker.specs.Openings.{IsStartAt, IsCertainAt}
 use Rattle.core_worker.specs.WorkerMoves.{hands_of}
 use Rattle.core_worker.proofs.Clients.{start_at, certain_at}
-use Rattle.group_engine.specs.Replayed.{StandsAsFound, BeginsAt}
-use Rattle.group_engine.specs.Shows.{Seat}
-use Rattle.group_engine.specs.Working.{IsMember, SeatFirst, may_take, leads}
-use Rattle.group_engine.proofs.Clients.{found_agrees}
+use Rattle.engine_core.specs.RunStarts.{StandsAsFound, BeginsAt}
+use Rattle.engine_core.specs.Seated.{Seat}
+use Rattle.engine_core.specs.Working.{IsMember, SeatFirst, may_take, leads}
+use Rattle.engine_core.proofs.Clients.{found_agrees}
 use Rattle.thread_engine.proofs.Places.{get_low, get_at, get_index}
 
 module _ (s : State) (word : ℕ → ℕ) (r : Recovered) (o : Origin) (F : StandsAsFound s word r) (B : BeginsAt s word o) where

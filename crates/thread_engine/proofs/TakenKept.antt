@@ -8,8 +8,8 @@ use Rattle.core_worker.specs.declared.types.Answer.{Answer}
 use Rattle.answer_queue.specs.Accounts.{times, numbers, AreDistinct}
 use Rattle.answer_queue.proofs.Clients.{once_here}
 use Rattle.answer_cores.specs.Passes.{all_answers}
-use Rattle.group_engine.specs.declared.types.Stamped.{Stamped}
-use Rattle.group_engine.specs.Answers.{kept_at, stored, HavePlaces}
+use Rattle.engine_core.specs.declared.types.Stamped.{Stamped}
+use Rattle.engine_core.specs.Answers.{kept_at, stored, HavePlaces}
 use Rattle.thread_engine.specs.RanApart.{stamped}
 use Rattle.thread_engine.specs.Windows.{EachChanges}
 use Rattle.thread_engine.specs.Collected.{AreBlank, with_stamp, restamped}

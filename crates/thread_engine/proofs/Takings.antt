@@ -7,8 +7,8 @@ use Rattle.core_worker.specs.declared.types.Answer.{Answer}
 use Rattle.answer_queue.specs.Accounts.{times, numbers}
 use Rattle.answer_queue.proofs.Clients.{times_append, numbers_append, once_there}
 use Rattle.answer_cores.specs.Passes.{all_answers}
-use Rattle.group_engine.specs.declared.types.Stamped.{Stamped}
-use Rattle.group_engine.specs.Answers.{stored}
+use Rattle.engine_core.specs.declared.types.Stamped.{Stamped}
+use Rattle.engine_core.specs.Answers.{stored}
 use Rattle.thread_engine.specs.Takings.{both_outs, TakenAs}
 
 -- the answers of two windows, core by core, are those of the first and those of the second

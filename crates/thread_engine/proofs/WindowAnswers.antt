@@ -10,7 +10,7 @@ use Rattle.store_image.specs.Facts.{In}
 use Rattle.group_laws.specs.Places.{owner}
 use Rattle.group_board.specs.Seats.{SeatAt}
 use Rattle.engine_laws.specs.WorkerMoves.{Fixed, asked, fixed_of, requests_for, line_in, request_placed}
-use Rattle.group_engine.specs.Calls.{AreOwn}
+use Rattle.engine_core.specs.Calls.{AreOwn}
 use Rattle.thread_engine.specs.WorkStates.{WorkState, IsAtWork, Move, Leads, Works, HasEnded, joined_by, joined_along, joined_in}
 use Rattle.thread_engine.specs.WorkStates.Move.{accepts, turns, winds_down, joins, hands_over}
 use Rattle.thread_engine.specs.WorkLaws.{KeepsDoubts, WorksOff, HasRested, hands_at}

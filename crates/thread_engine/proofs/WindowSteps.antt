@@ -14,8 +14,8 @@ use Rattle.answer_cores.proofs.Clients.{whole}
 use Rattle.answer_cores.specs.Passes.{AllPut, IsWhole, IsDealt as HasNumbers, numbers_in, all_answers, all_numbers, after_deals, joined_all}
 use Rattle.thread_engine.specs.declared.core_job.CoreJob.{CoreJob}
 use Rattle.thread_engine.specs.WorkStates.{Sight, WorkState, stands_at}
-use Rattle.group_engine.specs.declared.types.Stamped.{Stamped}
-use Rattle.group_engine.specs.Answers.{HavePlaces, stored}
+use Rattle.engine_core.specs.declared.types.Stamped.{Stamped}
+use Rattle.engine_core.specs.Answers.{HavePlaces, stored}
 use Rattle.store_image.specs.Facts.{In}
 use Rattle.thread_engine.specs.Windows.{dealt_from, OwnsKeys, IsDealt, AreDealt, AreAtRest, AllWentOn, HaveEnded, HaveGiven, HaveMemory, EachChanges}
 use Rattle.thread_engine.specs.Takings.{TakenAs}

@@ -2,9 +2,9 @@
 use Rattle.std.specs.Prelude.{◌≡◌, ℕ, List, map, Bool, true, false, Option, Some, None, if◌then◌else◌}
 use Rattle.std.specs.List.{list_any, AllByRecursion}
 use Rattle.core_worker.specs.declared.worker.Worker.{Worker}
-use Rattle.group_engine.specs.declared.types.Stamped.{Stamped}
-use Rattle.group_engine.specs.declared.run_outcome.End.{End}
-use Rattle.group_engine.specs.declared.run_outcome.End.TheVariants as ends
+use Rattle.engine_core.specs.declared.types.Stamped.{Stamped}
+use Rattle.engine_core.specs.declared.run_outcome.End.{End}
+use Rattle.engine_core.specs.declared.run_outcome.End.TheVariants as ends
 
 -- nothing is answered yet
 abbrev pub AreBlank : List (Option Stamped) → Type 0

@@ -13,7 +13,7 @@ use Rattle.thread_engine.specs.Between.{HoldsBehind}
 use Rattle.fs_text.specs.Output.{replies_text}
 use Rattle.fs_text.specs.Streams.{Takes, TakesPrefix}
 use Rattle.recover.specs.declared.types.Recovered.{Recovered}
-use Rattle.group_engine.specs.declared.run_outcome.End.TheVariants as ends
+use Rattle.engine_core.specs.declared.run_outcome.End.TheVariants as ends
 use Rattle.thread_engine.specs.declared.run_to_sink.SinkRun.{SinkRun}
 use Rattle.thread_engine.specs.declared.text_outlet.Unwritten.{Unwritten}
 use Rattle.thread_engine.specs.declared.text_outlet.Unwritten.TheVariants.{Astray, SinkFault, Memory}

@@ -15,12 +15,13 @@ use Rattle.core_worker.specs.declared.types.Answer.{Answer}
 use Rattle.answer_queue.specs.Accounts.{numbers, AreDistinct}
 use Rattle.answer_queue.specs.declared.window_sizes.TheConstants.{WINDOW}
 use Rattle.answer_cores.specs.Passes.{all_answers}
-use Rattle.group_engine.specs.declared.types.Stamped.{Stamped}
-use Rattle.group_engine.specs.declared.run_outcome.End.TheVariants as ends
-use Rattle.group_engine.specs.declared.run_outcome.Outcome.{Outcome}
-use Rattle.group_engine.specs.Answers.{kept_at, stored}
-use Rattle.group_engine.specs.Replayed.{BeginsAt, report_in}
-use Rattle.group_engine.specs.Reports.{IsReport, ReportsOn}
+use Rattle.engine_core.specs.declared.types.Stamped.{Stamped}
+use Rattle.engine_core.specs.declared.run_outcome.End.TheVariants as ends
+use Rattle.engine_core.specs.declared.run_outcome.Outcome.{Outcome}
+use Rattle.engine_core.specs.Answers.{kept_at, stored}
+use Rattle.engine_core.specs.RunStarts.{BeginsAt}
+use Rattle.engine_core.specs.Endings.{report_in}
+use Rattle.engine_core.specs.Reports.{IsReport, ReportsOn}
 use Rattle.thread_engine.specs.CoreRuns.{CoreRun, AllRan, gave_at}
 use Rattle.thread_engine.specs.Cuts.{HoldsInside}
 use Rattle.thread_engine.specs.Between.{HoldsBehind}

@@ -7,7 +7,7 @@ use Rattle.core_worker.specs.declared.types.Answer.{Answer}
 use Rattle.core_worker.specs.declared.worker.Worker.{Worker}
 use Rattle.core_worker.specs.Beginning.{answers_of}
 use Rattle.answer_queue.specs.declared.window_sizes.TheConstants.{PARTS, WINDOW}
-use Rattle.group_engine.specs.declared.types.Stamped.{Stamped}
+use Rattle.engine_core.specs.declared.types.Stamped.{Stamped}
 use Rattle.atomic_board.specs.declared.group_table.GroupTable.{GroupTable}
 use Rattle.atomic_board.specs.declared.token.SeatToken.{SeatToken}
 use Rattle.atomic_board.specs.declared.token.CoreSeat.{CoreSeat}

@@ -4,9 +4,9 @@ use Rattle.chunk_map.specs.declared.layouts.Geometry.{Geometry}
 use Rattle.chunk_map.specs.Layouts.{layout_of, part_first}
 use Rattle.recover.specs.declared.types.Recovered.{Recovered}
 use Rattle.engine_laws.specs.Origins.{Origin}
-use Rattle.group_engine.specs.Reports.{IsBlank, HasRoomFor}
-use Rattle.group_engine.specs.Runs.{AreNew}
-use Rattle.group_engine.specs.Working.{SeatFirst}
+use Rattle.engine_core.specs.Reports.{IsBlank, HasRoomFor}
+use Rattle.engine_core.specs.RunStarts.{AreNew}
+use Rattle.engine_core.specs.Working.{SeatFirst}
 use Rattle.thread_engine.specs.declared.run_apart.Supplies.{Supplies}
 use Rattle.thread_engine.specs.Collected.{AreBlank}
 use Rattle.thread_engine.specs.Manned.{AreManned, AreHands}

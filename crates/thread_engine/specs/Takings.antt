@@ -4,8 +4,8 @@ use Rattle.store_image.specs.Facts.{In}
 use Rattle.core_worker.specs.declared.types.Answer.{Answer}
 use Rattle.answer_queue.specs.Accounts.{numbers, AreDistinct}
 use Rattle.answer_cores.specs.Passes.{all_answers}
-use Rattle.group_engine.specs.declared.types.Stamped.{Stamped}
-use Rattle.group_engine.specs.Answers.{stored}
+use Rattle.engine_core.specs.declared.types.Stamped.{Stamped}
+use Rattle.engine_core.specs.Answers.{stored}
 
 -- core by core, those of one window and then those of another
 abbrev pub both_outs : List (List Answer) → List (List Answer) → List (List Answer)

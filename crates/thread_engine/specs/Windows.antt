@@ -11,8 +11,8 @@ use Rattle.thread_engine.specs.declared.core_job.CoreJob.{CoreJob}
 use Rattle.core_worker.specs.declared.types.Answer.{Answer}
 use Rattle.core_worker.specs.Beginning.{answers_of}
 use Rattle.answer_queue.specs.declared.window_sizes.TheConstants.{WINDOW}
-use Rattle.group_engine.specs.declared.types.Stamped.{Stamped}
-use Rattle.group_engine.specs.Reports.{reply_in}
+use Rattle.engine_core.specs.declared.types.Stamped.{Stamped}
+use Rattle.engine_core.specs.Reports.{reply_in}
 use Rattle.thread_engine.specs.declared.windows.Course.{Course}
 use Rattle.thread_engine.specs.WorkStates.{Sight, IsAtWork, WorksOn, HasEnded, stands_at}
 use Rattle.thread_engine.specs.WindowJobs.{IsAtRest}

@@ -18,8 +18,8 @@ use Rattle.core_worker.specs.PostedPlaces.{any_posted}
 use Rattle.core_worker.specs.Status.{is_leading, is_pending}
 use Rattle.core_worker.specs.Turning.{TurnMoves, TurnedTo, at_entry}
 use Rattle.core_worker.specs.WorkerMoves.{hands_of}
-use Rattle.group_engine.specs.Calls.{AreOwn, AcceptsAs, is_open}
-use Rattle.group_engine.specs.Working.{IsMember, may_take, leads, BeginsRequest}
+use Rattle.engine_core.specs.Calls.{AreOwn, AcceptsAs, is_open}
+use Rattle.engine_core.specs.Working.{IsMember, may_take, leads, BeginsRequest}
 use Rattle.thread_engine.specs.declared.core_job.CoreJob.{CoreJob}
 
 -- What a seat has: its member's view, and the steps that led to it.

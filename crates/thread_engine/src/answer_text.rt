@@ -3,12 +3,12 @@ ghost use Rattle.std.specs.Prelude.{◌≡◌, ◌≤◌, ◌++◌, map, true, O
 ghost use Rattle.fs_model.specs.Counts.{Rose};
 ghost use Rattle.fs_text.specs.Output.{ended, reply_line, replies_text};
 ghost use Rattle.fs_text.specs.Streams.{Takes, TakesUpTo, TakesPrefix};
-ghost use Rattle.group_engine.specs.Reports.{reply_in};
+ghost use Rattle.engine_core.specs.Reports.{reply_in};
 
+use engine_core::types::Stamped;
 use fs_model::Reply;
 use fs_text::pending_text::Pending;
 use fs_text::{OutError, Sink, SinkFault};
-use group_engine::types::Stamped;
 use std::alloc::Global;
 
 // The line of an answer in two parts, of which the second is a value or empty.

@@ -2,15 +2,15 @@
 ghost use Rattle.std.specs.Prelude.{◌≡◌, ℕ, ◌<◌, ◌≤◌, length, true, false, Some, map, IfOk};
 ghost use Rattle.std.specs.List.{slice_get, AllByRecursion};
 ghost use Rattle.core_worker.specs.declared.worker.Worker.{Worker};
-ghost use Rattle.group_engine.specs.Replayed.{report_in};
-ghost use Rattle.group_engine.specs.Reports.{IsReport, IsBlank, HasRoomFor};
+ghost use Rattle.engine_core.specs.Endings.{report_in};
+ghost use Rattle.engine_core.specs.Reports.{IsReport, IsBlank, HasRoomFor};
 ghost use Rattle.thread_engine.specs.Collected.{AreBlank, with_stamp, restamped, end_by, any_stopped};
 
 use core_worker::Worker;
+use engine_core::run_outcome::{End, Outcome};
+use engine_core::run_report::{Report, report_on};
+use engine_core::types::Stamped;
 use fs_model::Memory;
-use group_engine::run_outcome::{End, Outcome};
-use group_engine::run_report::{Report, report_on};
-use group_engine::types::Stamped;
 use std::alloc::Global;
 
 // Sets the stamp of an answer that is kept.

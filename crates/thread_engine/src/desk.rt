@@ -4,7 +4,7 @@ ghost use Rattle.answer_queue.specs.declared.window_sizes.TheConstants.{WINDOW, 
 ghost use Rattle.answer_queue.specs.Accounts.{AreAmong};
 ghost use Rattle.answer_queue.specs.Queues.{account_of};
 ghost use Rattle.answer_cores.specs.Passes.{all_numbers};
-ghost use Rattle.group_engine.specs.Answers.{HavePlaces, stored};
+ghost use Rattle.engine_core.specs.Answers.{HavePlaces, stored};
 ghost use Rattle.thread_engine.specs.declared.core_job.CoreJob as data_of;
 ghost use Rattle.thread_engine.specs.WorkStates.{sight_by};
 ghost use Rattle.thread_engine.specs.WindowJobs.{Awaits, AllWorked, waiting_for};
@@ -15,8 +15,8 @@ use crate::crew::work_all;
 use crate::passes::{deal_passes, take_passes};
 use answer_queue::{AnswerPass, AnswerQueue, WINDOW, take_all};
 use core_worker::{Answer, Gate};
+use engine_core::types::Stamped;
 use group_board::Board;
-use group_engine::types::Stamped;
 use pm_region::Region;
 use std::alloc::{AllocError, Global};
 use std::marker::Brand;

@@ -7,15 +7,14 @@ ghost use Rattle.group_laws.specs.OpeningImages.{opened};
 ghost use Rattle.atomic_board.specs.Deeds.{began};
 ghost use Rattle.atomic_board.specs.GroupTables.{origin_of};
 ghost use Rattle.engine_laws.specs.Origins.{Origin};
-ghost use Rattle.group_engine.specs.Replayed.{StandsAsFound, BeginsAt};
+ghost use Rattle.engine_core.specs.RunStarts.{StandsAsFound, BeginsAt};
 ghost use Rattle.thread_engine.specs.Manned.{IsManned, AreManned};
 
 use atomic_board::{GroupTable, SeatToken};
 use chunk_map::Geometry;
+use engine_core::openings::{Found, Numbered, Of, On};
 use fs_model::Memory;
 use group_board::Opening;
-use group_engine::open_boards::{Numbered, Of};
-use group_engine::open_engine::{Found, On};
 use pm_region::ReadRegion;
 use recover::Recovered;
 use std::alloc::Global;

@@ -10,7 +10,7 @@ use crate::requests::Requests;
 use crate::windows::{Course, work_windows};
 use atomic_board::{CoreSeat, GroupTable, SeatToken};
 use core_worker::{Gate, Worker};
-use group_engine::types::Stamped;
+use engine_core::types::Stamped;
 use pm_region::{Region, SplitRegion};
 use std::alloc::{AllocError, Global};
 use std::collections::VecDeque;

@@ -2,10 +2,10 @@
 ghost use Rattle.std.specs.Prelude.{◌≡◌, ℕ, List, Bool, map, true};
 ghost use Rattle.fs_model.specs.declared.model.Reply as replies;
 ghost use Rattle.pm_region.specs.State.{State};
-ghost use Rattle.group_engine.specs.Reports.{reply_in};
+ghost use Rattle.engine_core.specs.Reports.{reply_in};
 ghost use Rattle.thread_engine.specs.Outlets.{IsAsked};
 
-use group_engine::types::Stamped;
+use engine_core::types::Stamped;
 use pm_region::SplitRegion;
 use std::alloc::Global;
 

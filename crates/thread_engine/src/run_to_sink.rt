@@ -1,15 +1,15 @@
 // A run on threads whose replies go to a sink, window by window.
 ghost use Rattle.std.specs.Prelude.{◌≡◌, true, false, None, IfOk, OnErr};
 ghost use Rattle.pm_region.specs.Split.{Stays, Refuses, IsNotOpened};
-ghost use Rattle.group_engine.specs.Replayed.{StandsAsFound};
+ghost use Rattle.engine_core.specs.RunStarts.{StandsAsFound};
 ghost use Rattle.thread_engine.specs.Printed.{RanToSink};
 
 use crate::requests::Requests;
 use crate::run_apart::run;
 use crate::text_outlet::{TextOutlet, Unwritten};
 use core_worker::Gate;
+use engine_core::run_outcome::Outcome;
 use fs_text::Sink;
-use group_engine::run_outcome::Outcome;
 use pm_region::{AttachError, ReadRegion, SplitRegion};
 use recover::Recovered;
 use std::alloc::Global;

@@ -4,8 +4,8 @@ ghost use Rattle.thread_engine.specs.Printed.{WritesWindow};
 
 use crate::answer_text::write_answers;
 use crate::outlet::Outlet;
+use engine_core::types::Stamped;
 use fs_text::{OutError, Sink};
-use group_engine::types::Stamped;
 use pm_region::{RegionFault, SplitRegion};
 use std::alloc::Global;
 

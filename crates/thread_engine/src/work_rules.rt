@@ -6,7 +6,7 @@ ghost use Rattle.group_laws.specs.Places.{Place};
 ghost use Rattle.group_laws.specs.MemberViews.{View};
 ghost use Rattle.licence.specs.Licence.{Licensed};
 ghost use Rattle.core_worker.specs.declared.worker.Worker.{Worker};
-ghost use Rattle.group_engine.specs.Working.{IsMember};
+ghost use Rattle.engine_core.specs.Working.{IsMember};
 ghost use Rattle.thread_engine.specs.Pieces.{IsPieceOf, HasPart};
 ghost use Rattle.group_board.specs.Seats.{SeatAt};
 ghost use Rattle.thread_engine.specs.WorkStates.{WorkState, IsAtWork, Works, HasEnded, joined_in, given_in};

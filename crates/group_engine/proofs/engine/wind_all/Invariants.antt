@@ -1,5 +1,5 @@
 use Rattle.std.proofs.Common.{◌≡◌, ◌≤◌, length}
-use Rattle.group_engine.specs.Calls.{EachWinds}
+use Rattle.engine_core.specs.Calls.{EachWinds}
 use Rattle.group_engine.proofs.engine.wind_all.Given as goal
 
 abbrev pub invariant-loop-core : goal.invariant-loop-core

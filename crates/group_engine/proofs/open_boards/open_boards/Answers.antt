@@ -2,7 +2,7 @@ use Rattle.std.proofs.Common.{◌+◌, sym, ◌∙◌, ap, subst, length, arith}
 use Rattle.group_laws.specs.OpeningImages.{opened}
 use Rattle.group_board.specs.Journals.{image_of, place_in}
 use Rattle.group_engine.specs.Shows.{AreOpened}
-use Rattle.group_engine.proofs.Kept.{one_more}
+use Rattle.engine_core.proofs.Clients.{one_more}
 use Rattle.group_engine.proofs.Opened.{boards_more}
 use Rattle.group_engine.proofs.open_boards.open_boards.Goals as goal
 

@@ -1,5 +1,5 @@
 use Rattle.std.proofs.Common.{◌∙◌, false, refl, subst}
-use Rattle.group_engine.specs.Calls.{has_moved}
+use Rattle.engine_core.specs.Calls.{has_moved}
 use Rattle.group_engine.specs.Passes.{CeasePasses}
 use Rattle.group_engine.proofs.Ending.{ends_first, ends_then, ceased_out}
 use Rattle.group_engine.proofs.passes.cease.Goals as goal

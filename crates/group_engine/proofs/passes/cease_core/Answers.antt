@@ -1,5 +1,5 @@
 use Rattle.std.proofs.Common.{◌∙◌, ◌<◌, refl, sym, subst, arith}
-use Rattle.group_engine.specs.Calls.{has_moved}
+use Rattle.engine_core.specs.Calls.{has_moved}
 use Rattle.group_engine.specs.Passes.{Ceases}
 use Rattle.group_engine.proofs.Passing.{no_higher}
 use Rattle.group_engine.proofs.Ending.{ceases_first, ceases_more, ceases_last}

@@ -2,7 +2,7 @@ use Rattle.std.proofs.Common.{◌≡◌, ◌<◌, ◌≤◌}
 use Rattle.engine_laws.specs.Engine.{Engine}
 use Rattle.group_engine.specs.Passes.{CeasesSoFar}
 use Rattle.core_worker.specs.declared.types.Turn.TheVariants.{Moved, Idle}
-use Rattle.group_engine.specs.Calls.{has_moved}
+use Rattle.engine_core.specs.Calls.{has_moved}
 use Rattle.group_engine.proofs.passes.cease_core.Given as goal
 
 abbrev pub invariant-loop-turn : goal.invariant-loop-turn

@@ -1,5 +1,5 @@
 use Rattle.std.proofs.Common.{◌≡◌, ◌∙◌, true, cond, refl, sym, ap, subst, arith}
-use Rattle.group_engine.specs.Calls.{has_moved}
+use Rattle.engine_core.specs.Calls.{has_moved}
 use Rattle.group_engine.specs.Passes.{CeasePasses}
 use Rattle.group_engine.proofs.Passing.{no_higher}
 use Rattle.group_engine.proofs.Ending.{cease_none, cease_one}

@@ -1,8 +1,9 @@
 use Rattle.std.proofs.Common.{◌∙◌, ℕ, true, false, refl, subst}
-use Rattle.group_engine.specs.Calls.{has_moved}
+use Rattle.engine_core.specs.Calls.{has_moved}
 use Rattle.group_engine.specs.Passes.{Passes}
 use Rattle.group_engine.proofs.Passing.{no_passes, more_passes, drained}
-use Rattle.group_engine.proofs.Ending.{keeps_all, keeps_passes, ends_on, on_err}
+use Rattle.engine_core.proofs.Clients.{on_err}
+use Rattle.group_engine.proofs.Ending.{keeps_all, keeps_passes, ends_on}
 use Rattle.group_engine.proofs.passes.drain.Goals as goal
 
 pub loop-init : goal.loop-init

@@ -1,7 +1,8 @@
 use Rattle.std.proofs.Common.{◌∙◌, ◌<◌, refl, sym, subst, arith}
-use Rattle.group_engine.specs.Calls.{has_moved}
+use Rattle.engine_core.specs.Calls.{has_moved}
 use Rattle.group_engine.proofs.Passing.{no_goes, more_goes, gone}
-use Rattle.group_engine.proofs.Ending.{keeps_all, keeps_move, ends_on, on_err}
+use Rattle.engine_core.proofs.Clients.{on_err}
+use Rattle.group_engine.proofs.Ending.{keeps_all, keeps_move, ends_on}
 use Rattle.group_engine.proofs.passes.go.Goals as goal
 
 pub loop-turn-init : goal.loop-turn-init

@@ -1,8 +1,9 @@
 use Rattle.std.proofs.Common.{◌≡◌, ◌∙◌, ℕ, ◌+◌, ◌<◌, Bool, true, cond, refl, sym, ap, subst, arith}
-use Rattle.group_engine.specs.Calls.{has_moved}
+use Rattle.engine_core.specs.Calls.{has_moved}
 use Rattle.group_engine.specs.Passes.{Settles, PassSoFar}
 use Rattle.group_engine.proofs.Passing.{no_cores, more_cores, passed, no_higher}
-use Rattle.group_engine.proofs.Ending.{keeps_all, keeps_settles, ends_on, on_err}
+use Rattle.engine_core.proofs.Clients.{on_err}
+use Rattle.group_engine.proofs.Ending.{keeps_all, keeps_settles, ends_on}
 use Rattle.group_engine.proofs.passes.pass.Goals.{in-Moved, in-Idle}
 use Rattle.group_engine.proofs.passes.pass.Goals as goal
 

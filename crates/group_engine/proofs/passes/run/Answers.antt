@@ -4,7 +4,8 @@ use Rattle.fs_text.specs.declared.line.Line.TheVariants.{Ask, Go}
 use Rattle.group_engine.specs.Passes.{NameCores}
 use Rattle.group_engine.specs.Runs.{with_request}
 use Rattle.engine_laws.specs.Ran.{Ran, Drains}
-use Rattle.group_engine.proofs.Ending.{ends_in, ends_here, begun_ask, begun_go, ran_ask, ran_go, keeps_all, keeps_goes, on_err}
+use Rattle.engine_core.proofs.Clients.{on_err}
+use Rattle.group_engine.proofs.Ending.{ends_in, ends_here, begun_ask, begun_go, ran_ask, ran_go, keeps_all, keeps_goes}
 use Rattle.group_engine.proofs.passes.run.Goals as goal
 
 ok_then : {T E A B : Type 0} (r : Result T E) → (A → B) → OnOk r A → OnOk r B

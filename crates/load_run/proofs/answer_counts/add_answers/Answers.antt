@@ -1,6 +1,6 @@
 use Rattle.std.proofs.Common.{◌+◌, ◌∷◌, [], ◌++◌, map, take, sym, ap, ◌∙◌, append_assoc, arith}
 use Rattle.std.proofs.lemmas.List.{take_more, take_all}
-use Rattle.group_engine.specs.Reports.{reply_in}
+use Rattle.engine_core.specs.Reports.{reply_in}
 use Rattle.load_tally.specs.Tallied.{tally_of}
 use Rattle.load_run.proofs.Loaded.{map_both}
 use Rattle.load_run.proofs.answer_counts.add_answers.Goals as goal

@@ -1,6 +1,6 @@
 use Rattle.std.proofs.Common.{◌≡◌, ◌+◌, List, [], ◌++◌, map, take}
 use Rattle.fs_model.specs.declared.model.Reply.{Reply}
-use Rattle.group_engine.specs.Reports.{reply_in}
+use Rattle.engine_core.specs.Reports.{reply_in}
 use Rattle.load_tally.specs.Tallied.{IsWithin, tally_of}
 use Rattle.load_run.proofs.answer_counts.add_answers.Given as goal
 

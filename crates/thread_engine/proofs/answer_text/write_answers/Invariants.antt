@@ -1,7 +1,7 @@
 use Rattle.std.proofs.Common.{◌≤◌, map, take}
 use Rattle.fs_text.specs.Output.{ended, lines_text, reply_line, replies_text}
 use Rattle.fs_text.specs.Streams.{TakesUpTo}
-use Rattle.group_engine.specs.Reports.{reply_in}
+use Rattle.engine_core.specs.Reports.{reply_in}
 use Rattle.thread_engine.proofs.answer_text.write_answers.Given as goal
 
 abbrev pub invariant-loop-answer : goal.invariant-loop-answer

@@ -1,5 +1,5 @@
 use Rattle.std.proofs.Common.{length, sym, ◌∙◌, ap, subst}
-use Rattle.group_engine.specs.Reports.{HasRoomFor}
+use Rattle.engine_core.specs.Reports.{HasRoomFor}
 use Rattle.thread_engine.proofs.TakenKept.{restamped_long}
 use Rattle.thread_engine.proofs.collecting.outcome_of.Goals as goal
 

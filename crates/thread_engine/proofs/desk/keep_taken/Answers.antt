@@ -1,5 +1,5 @@
 use Rattle.std.proofs.Common.{length, sym, ap, subst}
-use Rattle.group_engine.specs.Answers.{HavePlaces, stored}
+use Rattle.engine_core.specs.Answers.{HavePlaces, stored}
 use Rattle.thread_engine.proofs.desk.keep_taken.Goals as goal
 
 pub loop-answer-init : goal.loop-answer-init

@@ -1,5 +1,5 @@
 use Rattle.std.proofs.Common.{◌≡◌, length}
-use Rattle.group_engine.specs.Answers.{HavePlaces, stored}
+use Rattle.engine_core.specs.Answers.{HavePlaces, stored}
 use Rattle.thread_engine.proofs.desk.keep_taken.Given as goal
 
 abbrev pub invariant-loop-answer : goal.invariant-loop-answer

@@ -4,7 +4,7 @@ use Rattle.pm_region.specs.State.{IsTelling}
 use Rattle.pm_region.specs.Words.{lasts}
 use Rattle.chunk_map.specs.declared.layouts.Geometry.{Geometry}
 use Rattle.store_image.proofs.Clients.{layout_numbers}
-use Rattle.group_engine.proofs.Clients.{sound, layout_is, begins, origin_at}
+use Rattle.engine_core.proofs.Clients.{sound, layout_is, begins, origin_at}
 use Rattle.thread_engine.proofs.group_tables.open_tables.Goals as goal
 
 pub open_on-requires-clause-sound : goal.open_on-requires-clause-sound

@@ -1,5 +1,5 @@
 use Rattle.std.proofs.Common.{◌/◌}
-use Rattle.group_engine.proofs.Clients.{words_in}
+use Rattle.engine_core.proofs.Clients.{words_in}
 use Rattle.thread_engine.proofs.group_tables.open_tables.Given as goal
 
 abbrev pub ghosts-open_on : goal.ghosts-open_on

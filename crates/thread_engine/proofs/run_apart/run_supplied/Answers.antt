@@ -3,9 +3,9 @@ use Rattle.std.proofs.lemmas.List.{length-take-le}
 use Rattle.pm_region.specs.State.{State}
 use Rattle.pm_region.specs.Split.{AreCuts, IsPiece, Parted, Joined, Refuses}
 use Rattle.thread_engine.proofs.Assembly.{cuts_are, crew_is, all_rest, tokens_back, pieces_back, run_ran}
-use Rattle.group_engine.specs.Replayed.{report_in}
-use Rattle.group_engine.specs.Reports.{IsReport, HasRoomFor}
-use Rattle.group_engine.specs.declared.run_report.Report.{Report}
+use Rattle.engine_core.specs.Endings.{report_in}
+use Rattle.engine_core.specs.Reports.{IsReport, HasRoomFor}
+use Rattle.engine_core.specs.declared.run_report.Report.{Report}
 use Rattle.thread_engine.specs.Collected.{restamped, any_stopped, had_memory}
 use Rattle.thread_engine.specs.Outlets.{IsAsked, HandsOut}
 use Rattle.thread_engine.proofs.Handing.{fewer_blank, same_replies, end_memory}

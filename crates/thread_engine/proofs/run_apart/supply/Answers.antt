@@ -1,6 +1,6 @@
 use Rattle.std.proofs.Common.{◌/◌, sym, ◌∙◌, ap, subst}
 use Rattle.chunk_map.specs.declared.layouts.Geometry.{Geometry}
-use Rattle.group_engine.specs.Reports.{HasRoomFor}
+use Rattle.engine_core.specs.Reports.{HasRoomFor}
 use Rattle.thread_engine.specs.Manned.{AreHands}
 use Rattle.thread_engine.specs.Supplied.{ArePartCuts}
 use Rattle.thread_engine.proofs.Supplying.{layout_found}

@@ -1,6 +1,6 @@
 use Rattle.std.proofs.Common.{◌≡◌, ◌⊎◌, inl, inr, suc, [], ◌∷◌, ◌++◌, length, length-append, map, take, drop, true, false, refl, sym, ◌∙◌, ap, subst, append-nil, append_assoc, arith}
 use Rattle.std.proofs.lemmas.List.{nil_from_length, take_all}
-use Rattle.group_engine.specs.Reports.{reply_in}
+use Rattle.engine_core.specs.Reports.{reply_in}
 use Rattle.thread_engine.specs.Outlets.{all_replies}
 use Rattle.thread_engine.specs.Windows.{WorksThrough, AllRested}
 use Rattle.thread_engine.specs.Takings.{both_outs, TakenAs}

@@ -3,7 +3,7 @@ use Rattle.std.specs.List.{AllByRecursion}
 use Rattle.fs_model.specs.declared.model.Request.{Request}
 use Rattle.fs_model.specs.declared.model.Reply.{Reply}
 use Rattle.answer_queue.specs.declared.window_sizes.TheConstants.{WINDOW}
-use Rattle.group_engine.specs.Reports.{reply_in}
+use Rattle.engine_core.specs.Reports.{reply_in}
 use Rattle.thread_engine.specs.Outlets.{IsAsked, all_replies, TakesAll}
 use Rattle.core_worker.specs.declared.types.Answer.{Answer}
 use Rattle.thread_engine.specs.Takings.{TakenAs}

@@ -1,6 +1,6 @@
 use Rattle.std.proofs.Common.{refl}
 use Rattle.group_engine.specs.Runs.{run_state}
-use Rattle.group_engine.proofs.Kept.{ok_then, err_then}
+use Rattle.engine_core.proofs.Clients.{ok_then, err_then}
 use Rattle.group_engine.proofs.engine.Engine.drain.Goals as goal
 
 pub drain-requires : goal.drain-requires

@@ -1,4 +1,4 @@
-use Rattle.group_engine.proofs.Outcomes.{reports_on}
+use Rattle.engine_core.proofs.Clients.{reports_on}
 use Rattle.group_engine.proofs.engine.Engine.into_report.Goals as goal
 
 pub returns-clause-reports : goal.returns-clause-reports

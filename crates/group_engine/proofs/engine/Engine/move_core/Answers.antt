@@ -1,10 +1,10 @@
 use Rattle.std.proofs.Common.{rules, ◌≡◌, ◌/◌, ◌<◌, Some, sym, ◌∙◌, ap, subst, length, arith}
 use Rattle.group_board.specs.Journals.{state}
 use Rattle.engine_laws.proofs.Clients.{some_group}
-use Rattle.group_engine.specs.Answers.{HavePlaces, stored}
-use Rattle.group_engine.specs.Shows.{Seat}
-use Rattle.group_engine.specs.Reports.{HasRoomFor}
-use Rattle.group_engine.proofs.Kept.{get_there, index_set, at_is, stored_length}
+use Rattle.engine_core.specs.Answers.{HavePlaces, stored}
+use Rattle.engine_core.specs.Seated.{Seat}
+use Rattle.engine_core.specs.Reports.{HasRoomFor}
+use Rattle.engine_core.proofs.Clients.{get_there, index_set, at_is, stored_length}
 use Rattle.group_engine.proofs.Winding.{goes_on, winds_on, sure_of}
 use Rattle.group_engine.proofs.Advancing as advancing
 use Rattle.group_engine.proofs.engine.Engine.move_core.Goals as goal

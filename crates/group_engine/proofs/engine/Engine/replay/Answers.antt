@@ -6,7 +6,7 @@ use Rattle.engine_laws.specs.Promises.{AnyTurn}
 use Rattle.engine_laws.specs.Ran.{Ran}
 use Rattle.engine_laws.proofs.Clients.{opens, ceased, done, promised, ran_seen}
 use Rattle.group_engine.specs.Runs.{RunMoves, first_state, with_request}
-use Rattle.group_engine.proofs.Kept.{ok_then, err_then}
+use Rattle.engine_core.proofs.Clients.{ok_then, err_then}
 use Rattle.group_engine.proofs.Running.{shows_first}
 use Rattle.group_engine.proofs.engine.Engine.replay.Goals as goal
 

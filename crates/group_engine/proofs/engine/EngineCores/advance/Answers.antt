@@ -1,12 +1,10 @@
 use Rattle.std.proofs.Common.{◌<◌, length, refl, ap, subst, arith, Result, OnOk, IfOk}
 use Rattle.fs_model.specs.declared.memory.Memory.{Memory}
 use Rattle.chunk_map.specs.declared.layouts.Geometry.{Geometry}
-use Rattle.group_engine.specs.Calls.{NoneWinds, has_moved}
+use Rattle.engine_core.specs.Calls.{NoneWinds, has_moved}
 use Rattle.group_engine.specs.Runs.{RunMoves, run_state}
-use Rattle.group_engine.proofs.Ending.{on_err}
+use Rattle.engine_core.proofs.Clients.{on_err, ok_of, some_there}
 use Rattle.group_engine.proofs.Running.{of_lists}
-use Rattle.group_engine.proofs.Kept.{ok_of}
-use Rattle.group_engine.proofs.Stopping.{some_there}
 use Rattle.group_engine.proofs.engine.EngineCores.advance.Goals as goal
 
 pub move_core-requires-clause-stays : goal.move_core-requires-clause-stays

@@ -1,6 +1,6 @@
 use Rattle.std.proofs.Common.{◌≡◌, ◌<◌, length, true, false, ap, sym, ◌∙◌, arith}
 use Rattle.chunk_map.specs.declared.layouts.Geometry.{Geometry}
-use Rattle.group_engine.proofs.Stopping.{some_there}
+use Rattle.engine_core.proofs.Clients.{some_there}
 use Rattle.group_engine.proofs.engine.EngineCores.cease.Goals as goal
 
 pub move_core-requires-clause-stays : goal.move_core-requires-clause-stays

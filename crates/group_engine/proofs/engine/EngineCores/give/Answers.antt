@@ -2,7 +2,7 @@ use Rattle.std.proofs.Common.{rules, ◌≡◌, ◌%◌, ◌<◌, [], ◌∷◌,
 use Rattle.chunk_map.specs.Layouts.{owner}
 use Rattle.chunk_map.proofs.Clients.{numbers_of}
 use Rattle.group_engine.specs.Runs.{ShowsRun}
-use Rattle.group_engine.proofs.Ending.{on_err}
+use Rattle.engine_core.proofs.Clients.{on_err}
 use Rattle.group_engine.proofs.Giving.{layout_is, gave_at, still_at}
 use Rattle.group_engine.proofs.engine.EngineCores.give.Goals as goal
 

@@ -4,8 +4,8 @@ use Rattle.pm_region.specs.State.{IsTelling}
 use Rattle.pm_region.specs.Words.{lasts}
 use Rattle.chunk_map.specs.declared.layouts.Geometry.{Geometry}
 use Rattle.store_image.proofs.Clients.{layout_numbers}
-use Rattle.group_engine.specs.Runs.{AreNew}
-use Rattle.group_engine.proofs.Opens.{sound, layout_is, begins, are_seated, origin_at}
+use Rattle.engine_core.specs.RunStarts.{AreNew}
+use Rattle.engine_core.proofs.Clients.{sound, layout_is, begins, are_seated, origin_at}
 use Rattle.group_engine.proofs.open_engine.Engine+Worker.open.Goals as goal
 
 pub open_on-requires-clause-sound : goal.open_on-requires-clause-sound

@@ -1,5 +1,5 @@
 use Rattle.std.proofs.Common.{◌/◌}
-use Rattle.group_engine.proofs.Ranged.{words_in}
+use Rattle.engine_core.proofs.Clients.{words_in}
 use Rattle.group_engine.proofs.open_engine.Engine+Worker.open.Given as goal
 
 abbrev pub ghosts-open_on : goal.ghosts-open_on

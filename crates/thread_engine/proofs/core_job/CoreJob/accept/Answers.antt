@@ -1,6 +1,6 @@
 -- A request is accepted, or goes back to the front.
 use Rattle.std.proofs.Common.{[], ◌∷◌, inl, inr, refl, sym, ◌∙◌, ap, subst}
-use Rattle.group_engine.specs.Calls.{AreOwn}
+use Rattle.engine_core.specs.Calls.{AreOwn}
 use Rattle.thread_engine.proofs.core_job.CoreJob.accept.Goals as goal
 
 pub returns-in-Ok-clause-work : goal.returns-in-Ok-clause-work

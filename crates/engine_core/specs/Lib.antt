@@ -1,0 +1,7 @@
+pub mod Answers
+pub mod Calls
+pub mod Seated
+pub mod Working
+pub mod Reports
+pub mod RunStarts
+pub mod Endings
