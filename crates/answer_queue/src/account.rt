@@ -82,12 +82,12 @@ impl Lesson<Answer, Account> for Puts {
 }
 
 /// An answer is taken. Where there is none, a pass with all parts has taken what was put.
-pub struct Takes;
+pub struct TakesAnswer;
 
-impl Outcome<Answer, Account> for Takes {
+impl Outcome<Answer, Account> for TakesAnswer {
     ghost then = { TakesAs };
 }
 
-impl Lesson<Answer, Account> for Takes {
+impl Lesson<Answer, Account> for TakesAnswer {
     ghost fact = { SettlesAs };
 }

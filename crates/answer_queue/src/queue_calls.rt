@@ -4,7 +4,7 @@ ghost use Rattle.answer_queue.specs.declared.window_sizes.TheConstants.{WINDOW, 
 ghost use Rattle.answer_queue.specs.Accounts.{AreDistinct, times, AreAmong, granted, without_numbers, with_numbers, joined, after_put, TakesAs, IsSettled};
 ghost use Rattle.answer_queue.specs.Queues.{IsOf, account_of};
 
-use crate::account::{Account, Deals, Grants, Joins, Kept, Numbers, Puts, Takes};
+use crate::account::{Account, Deals, Grants, Joins, Kept, Numbers, Puts, TakesAnswer};
 use crate::answer_queue::{AnswerPass, AnswerQueue};
 use crate::window_sizes::WINDOW;
 use core_worker::Answer;
@@ -52,7 +52,7 @@ impl AnswerQueue {
             × ((account_of pass.old).parts ≡ PARTS → IsSettled (account_of pass.old)))
             (λ x. TakesAs (account_of pass.old) x (account_of pass.new)) }
     {
-        self.ring.pop_as::<Takes, R>(rt, pass)
+        self.ring.pop_as::<TakesAnswer, R>(rt, pass)
     }
 
     /// The pass of the next window, for one with all parts that has taken as many answers as it put. The queue is empty

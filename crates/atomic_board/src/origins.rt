@@ -10,9 +10,9 @@ use std::alloc::Global;
 use std::marker::PhantomData;
 
 /// The rule of a table that asks nothing.
-pub struct Asks;
+pub struct AsksNothing;
 
-impl TableRule<u8, Origin, ()> for Asks {
+impl TableRule<u8, Origin, ()> for AsksNothing {
     ghost holds = { λ _ _. Unit {0} };
 
     ghost first = { λ _. record { group = 0; words = [] } };
@@ -31,7 +31,7 @@ impl<O: Opening> Play<u8, Origin> for Opens<O> {
 pub fn origin_seat<O: Opening>(alloc: Global) -> Result<OriginSeat, Memory>
     ensures { IfOk result (λ p. p.me.0 ≡ record { group = O.group; words = O.words }) }
 {
-    let (free, mut plan) = Table::<u8, Origin, (), Asks, Global>::of_words(alloc, &[0], &())?;
+    let (free, mut plan) = Table::<u8, Origin, (), AsksNothing, Global>::of_words(alloc, &[0], &())?;
     free.shared.load::<Opens<O>>(&mut plan, 0);
     Ok(plan)
 }

@@ -28,11 +28,11 @@ impl TableRule<Option<Parcel>, SeatData, OriginSeat> for Ruled {
 }
 
 /// The stamp at which a region stands. The proof of the call picks it.
-pub trait Stamped {
+pub trait RegionStamp {
     ghost at: { ℕ };
 }
 
-impl Stamped for Brand {
+impl RegionStamp for Brand {
     ghost at = { 0 };
 }
 
@@ -41,7 +41,7 @@ pub struct Commits<W> {
     marker: PhantomData<W>,
 }
 
-impl<W: Stamped> Play<Option<Parcel>, SeatData> for Commits<W> {
+impl<W: RegionStamp> Play<Option<Parcel>, SeatData> for Commits<W> {
     ghost then = { tells_commit W.at };
 }
 
@@ -99,14 +99,14 @@ impl Play<Option<Parcel>, SeatData> for Takes {
 }
 
 /// The bytes behind a posted entry's pointer. The proof of the call picks them.
-pub trait Value {
+pub trait PostedValue {
     ghost value: { List ℕ };
 
     // The stamp at which the region stands.
     ghost at: { ℕ };
 }
 
-impl Value for Brand {
+impl PostedValue for Brand {
     ghost value = { [] };
 
     ghost at = { 0 };
@@ -117,7 +117,7 @@ pub struct Posts<W> {
     marker: PhantomData<W>,
 }
 
-impl<W: Value> Play<Option<Parcel>, SeatData> for Posts<W> {
+impl<W: PostedValue> Play<Option<Parcel>, SeatData> for Posts<W> {
     ghost then = { tells_post W.value W.at };
 }
 

@@ -5,10 +5,10 @@ use Rattle.std.specs.List.{AllByRecursion}
 use Rattle.std.proofs.lemmas.Bool.{cases_eq, eqb-true, eq-eqb, ne_eqb, cond-true, cond-false}
 use Rattle.std.proofs.lemmas.List.{append_assoc}
 use Rattle.log_entry.specs.declared.entry.EntryName.{EntryName}
-use Rattle.core_index.specs.declared.types.Head.{Head}
+use Rattle.core_index.specs.declared.types.LastChange.{LastChange}
 use Rattle.core_index.specs.declared.types.Record.{Record}
 use Rattle.core_index.specs.declared.types.Standee.{Standee}
-use Rattle.core_index.specs.declared.types.Standing.{Standing}
+use Rattle.core_index.specs.declared.types.StandingEntry.{StandingEntry}
 use Rattle.core_index.specs.declared.types.Tombstone.{Tombstone}
 use Rattle.core_index.specs.Records.{KeyRecord, Awaits, is_dead, standing_at, standing_with, opened}
 use Rattle.core_index.specs.Slots.{Place, mortal, standee_with, count_dead, count_of, alive_at, home_in, home_alive, record_with, OnlyDead}
@@ -195,20 +195,20 @@ none_awaits es a b home is none far n waits = ⊎_elim (λ (noted : Noted b home
 
 -- A record that is put in at the start.
 
-pub all_noted : (k : ℕ) (b : Book) (h : Head) (ss : List Standing) → AllByRecursion (NotedIfDead b k (record_with h ss)) ss → (v home : ℕ) → Awaits (Some (record_with h ss)) home v → Noted b home (name_with k v)
+pub all_noted : (k : ℕ) (b : Book) (h : LastChange) (ss : List StandingEntry) → AllByRecursion (NotedIfDead b k (record_with h ss)) ss → (v home : ℕ) → Awaits (Some (record_with h ss)) home v → Noted b home (name_with k v)
 all_noted k b h ss all v home waits =
     let needs = awaits_needs (record_with h ss) v home waits in
     found_has (NotedIfDead b k (record_with h ss)) ss v (standing_with v home false) all needs.stands needs.dead
 
-pub noted_append : (k : ℕ) (b c : Book) (r : KeyRecord) (xs ys : List Standing) → ((h : ℕ) (n : EntryName) → Noted b h n → Noted c h n) → AllByRecursion (NotedIfDead b k r) xs → AllByRecursion (NotedIfDead c k r) ys → AllByRecursion (NotedIfDead c k r) (xs ++ ys)
+pub noted_append : (k : ℕ) (b c : Book) (r : KeyRecord) (xs ys : List StandingEntry) → ((h : ℕ) (n : EntryName) → Noted b h n → Noted c h n) → AllByRecursion (NotedIfDead b k r) xs → AllByRecursion (NotedIfDead c k r) ys → AllByRecursion (NotedIfDead c k r) (xs ++ ys)
 noted_append k b c r [] ys kept all new = new
 noted_append k b c r (x ∷ xs) ys kept all new = (λ dies. kept x.home (name_with k x.version) (all.0 dies), noted_append k b c r xs ys kept all.1 new)
 
-pub lively_append : (r : KeyRecord) (xs ys : List Standing) → count_lively r (xs ++ ys) ≡ count_lively r xs + count_lively r ys
+pub lively_append : (r : KeyRecord) (xs ys : List StandingEntry) → count_lively r (xs ++ ys) ≡ count_lively r xs + count_lively r ys
 lively_append r [] ys = omega arith
 lively_append r (x ∷ xs) ys = let rest = lively_append r xs ys in omega (arith, rest)
 
-found_lively : (r : KeyRecord) (ss : List Standing) (v : ℕ) (s : Standing) → standing_at ss v ≡ Some s → is_dead r v ≡ false → 1 ≤ count_lively r ss
+found_lively : (r : KeyRecord) (ss : List StandingEntry) (v : ℕ) (s : StandingEntry) → standing_at ss v ≡ Some s → is_dead r v ≡ false → 1 ≤ count_lively r ss
 found_lively r [] v s is lives = absurd (cc is)
 found_lively r (x ∷ ss) v s is lives = by (found_lively r ss v s) (x.version == v) refl is
   where
@@ -220,7 +220,7 @@ found_lively r (x ∷ ss) v s is lives = by (found_lively r ss v s) (x.version =
 pub alive_lively : (r : KeyRecord) → count_of (home_alive r) ≤ count_lively r r.standing
 alive_lively r = by (is_dead r r.version) refl (standing_at r.standing r.version) refl
   where
-    by : (b : Bool) → is_dead r r.version ≡ b → (o : Option Standing) → standing_at r.standing r.version ≡ o → count_of (home_alive r) ≤ count_lively r r.standing
+    by : (b : Bool) → is_dead r r.version ≡ b → (o : Option StandingEntry) → standing_at r.standing r.version ≡ o → count_of (home_alive r) ≤ count_lively r r.standing
     by true dies o at = let none = ap count_of (alive_none r dies) in omega (arith, none)
     by false lives None at = let none : count_of (home_alive r) ≡ 0 = ap count_of (cond-false (is_dead r r.version) None (home_in (standing_at r.standing r.version)) lives ∙ ap home_in at) in omega (arith, none)
     by false lives (Some s) at = let one : count_of (home_alive r) ≡ 1 = ap count_of (alive_is r s lives at) in let le = found_lively r r.standing r.version s at lives in omega (arith, one, le)

@@ -11,13 +11,13 @@ use Rattle.std.proofs.lemmas.List.{length-append, take-append-le, drop-append-le
 use Rattle.std.proofs.lemmas.Bool.{eqb-true, eq-eqb, ne_eqb, le-ltb, cond-true, cond-false, cases_eq, cases_lt}
 use Rattle.log_entry.specs.declared.entry.Body.{Body}
 use Rattle.log_entry.specs.declared.entry.Body.TheVariants as bodies
-use Rattle.core_index.specs.declared.types.Holding.{Holding}
-use Rattle.core_index.specs.declared.types.Holding.TheVariants.{InBlock, Beside}
+use Rattle.core_index.specs.declared.types.ValuePlace.{ValuePlace}
+use Rattle.core_index.specs.declared.types.ValuePlace.TheVariants.{InBlock, Beside}
 use Rattle.core_index.specs.declared.types.LiveFate.{LiveFate}
 use Rattle.core_index.specs.declared.types.LiveFate.TheVariants.{Stands, Gone, Moved}
 use Rattle.core_index.specs.declared.types.LiveKey.{LiveKey}
 use Rattle.core_index.specs.declared.types.Look.{Look}
-use Rattle.core_index.specs.declared.types.Standing.{Standing}
+use Rattle.core_index.specs.declared.types.StandingEntry.{StandingEntry}
 use Rattle.core_index.specs.Records.{KeyRecord, Shows, ShowsBody, is_dead, is_tombstone, stands_alone, standing_at, standing_with, without}
 use Rattle.core_index.specs.Slots.{Place, alive_at, home_in, count_of}
 use Rattle.core_index.specs.Lives.{entry_version, entry_home, AreLives, live_key, body_in, IsWithin, valued, valued_by, IsStanding, live_place, live_at, places_of, with_live_fate, turned, AllLess, KeysRise, IsNotThere}
@@ -187,11 +187,11 @@ bare_live = record { high = 0; low = 0; version_low = 0; version_and_home = 0; f
 part_more : (bytes more : List ℕ) (start size : ℕ) → start + size ≤ length bytes → take size (drop start (bytes ++ more)) ≡ take size (drop start bytes)
 part_more bytes more start size le = ap (take size) (drop-append-le start bytes more (omega (arith, le))) ∙ take-append-le size (drop start bytes) more (omega (arith, le, length-drop start bytes))
 
-pub body_more : (bytes more : List ℕ) (h : Holding) → IsWithin bytes h → body_in (bytes ++ more) h ≡ body_in bytes h
+pub body_more : (bytes more : List ℕ) (h : ValuePlace) → IsWithin bytes h → body_in (bytes ++ more) h ≡ body_in bytes h
 body_more bytes more (InBlock p) there = refl
 body_more bytes more (Beside start size) there = ap (λ (v : List ℕ). bodies.Embedded v) (part_more bytes more start size there)
 
-within_more : (bytes more : List ℕ) (h : Holding) → IsWithin bytes h → IsWithin (bytes ++ more) h
+within_more : (bytes more : List ℕ) (h : ValuePlace) → IsWithin bytes h → IsWithin (bytes ++ more) h
 within_more bytes more (InBlock p) there = tt
 within_more bytes more (Beside start size) there = let longer = length-append bytes more in omega (arith, longer, there)
 
@@ -270,18 +270,18 @@ live_absent bytes xs k w is = same_at (places_of bytes xs) k (option_map (gone_p
     none : place_at (places_of bytes xs) k ≡ None
     none = placed_found bytes xs k ∙ ap (option_map (live_place bytes)) (sym is)
 
-pub no_tombstone : (bytes : List ℕ) (h : Holding) → is_tombstone (body_in bytes h) ≡ false
+pub no_tombstone : (bytes : List ℕ) (h : ValuePlace) → is_tombstone (body_in bytes h) ≡ false
 no_tombstone bytes (InBlock p) = refl
 no_tombstone bytes (Beside start size) = refl
 
 -- the one entry of a live key is not dead
-pub not_dead : (bytes : List ℕ) (h : Holding) (v : ℕ) (ss : List Standing) → is_dead (record { version = v; body = body_in bytes h; standing = ss }) v ≡ false
+pub not_dead : (bytes : List ℕ) (h : ValuePlace) (v : ℕ) (ss : List StandingEntry) → is_dead (record { version = v; body = body_in bytes h; standing = ss }) v ≡ false
 not_dead bytes h v ss = ap (λ (b : Bool). b || ((v == v) && (is_tombstone (body_in bytes h) && stands_alone ss v))) (le-ltb v v (omega arith)) ∙ ap (λ (b : Bool). (v == v) && (b && stands_alone ss v)) (no_tombstone bytes h) ∙ ap (λ (b : Bool). b && false) (eq-eqb v v refl)
 
-pub one_alive : (bytes : List ℕ) (h : Holding) (f : LiveFate) (v home : ℕ) → f ≡ Stands → count_of (alive_at (valued_by f v home (body_in bytes h))) ≡ 1
+pub one_alive : (bytes : List ℕ) (h : ValuePlace) (f : LiveFate) (v home : ℕ) → f ≡ Stands → count_of (alive_at (valued_by f v home (body_in bytes h))) ≡ 1
 one_alive bytes h f v home is = ap (λ (g : LiveFate). count_of (alive_at (valued_by g v home (body_in bytes h)))) is ∙ ap (λ (b : Bool). count_of (cond b None (home_in (standing_at (standing_with v home false ∷ []) v)))) (not_dead bytes h v (standing_with v home false ∷ [])) ∙ ap (λ (b : Bool). count_of (home_in (cond b (Some (standing_with v home false)) None))) (eq-eqb v v refl)
 
-pub none_alive : (bytes : List ℕ) (h : Holding) (f : LiveFate) (v home : ℕ) → (f ≡ Stands → ⊥) → count_of (alive_at (valued_by f v home (body_in bytes h))) ≡ 0
+pub none_alive : (bytes : List ℕ) (h : ValuePlace) (f : LiveFate) (v home : ℕ) → (f ≡ Stands → ⊥) → count_of (alive_at (valued_by f v home (body_in bytes h))) ≡ 0
 none_alive bytes h Stands v home ne = absurd (ne refl)
 none_alive bytes h Gone v home ne = ap (λ (b : Bool). count_of (cond b None None)) (not_dead bytes h v [])
 none_alive bytes h Moved v home ne = refl

@@ -13,7 +13,7 @@ use Rattle.std.proofs.lemmas.Map.Keys.{sorted_head, sorted_tail}
 use Rattle.std.proofs.lemmas.List.{take_more, append_assoc, length-append}
 use Rattle.core_index.specs.declared.types.Marked.{Marked}
 use Rattle.core_index.specs.declared.types.Standee.{Standee}
-use Rattle.core_index.specs.declared.types.Standing.{Standing}
+use Rattle.core_index.specs.declared.types.StandingEntry.{StandingEntry}
 use Rattle.core_index.specs.Records.{standing_with, standing_at, stands_alone, with_told, others, homes_of, untold_at, by_version, untold}
 use Rattle.core_index.specs.Marks.{kept, marked, mark_of, Rises, IsAbsent, AreMarks, Gathering}
 
@@ -54,24 +54,24 @@ absent_from ms v at rises less more ne = all_from (λ (m : Marked). m.entry.vers
 
 -- What a list without a version does.
 
-abbrev Lacks : ℕ → List Standing → Type 0
-Lacks v ss = AllByRecursion (λ (s : Standing). s.version ≢ v) ss
+abbrev Lacks : ℕ → List StandingEntry → Type 0
+Lacks v ss = AllByRecursion (λ (s : StandingEntry). s.version ≢ v) ss
 
 kept_lacks : (ms : List Marked) (v : ℕ) → IsAbsent ms v → Lacks v (kept ms)
 kept_lacks [] v absent = tt
 kept_lacks (m ∷ ms) v absent = elim m.gone as (λ b. Lacks v (cond b (kept ms) (m.entry ∷ kept ms))) [ true ↦ kept_lacks ms v absent.1 | false ↦ (absent.0, kept_lacks ms v absent.1) ]
 
-lacks_at : (ss : List Standing) (v : ℕ) → Lacks v ss → standing_at ss v ≡ None
+lacks_at : (ss : List StandingEntry) (v : ℕ) → Lacks v ss → standing_at ss v ≡ None
 lacks_at [] v lacks = refl
 lacks_at (s ∷ ss) v lacks = cond-false (s.version == v) (Some s) (standing_at ss v) (ne_eqb s.version v lacks.0) ∙ lacks_at ss v lacks.1
 
-lacks_told : (ss : List Standing) (v : ℕ) → Lacks v ss → with_told ss v ≡ ss
+lacks_told : (ss : List StandingEntry) (v : ℕ) → Lacks v ss → with_told ss v ≡ ss
 lacks_told [] v lacks = refl
-lacks_told (s ∷ ss) v lacks = cond-false (s.version == v) (standing_with s.version s.home true ∷ ss) (s ∷ with_told ss v) (ne_eqb s.version v lacks.0) ∙ ap (λ (xs : List Standing). s ∷ xs) (lacks_told ss v lacks.1)
+lacks_told (s ∷ ss) v lacks = cond-false (s.version == v) (standing_with s.version s.home true ∷ ss) (s ∷ with_told ss v) (ne_eqb s.version v lacks.0) ∙ ap (λ (xs : List StandingEntry). s ∷ xs) (lacks_told ss v lacks.1)
 
-lacks_others : (ss : List Standing) (v : ℕ) → Lacks v ss → others v ss ≡ ss
+lacks_others : (ss : List StandingEntry) (v : ℕ) → Lacks v ss → others v ss ≡ ss
 lacks_others [] v lacks = refl
-lacks_others (s ∷ ss) v lacks = ap (λ (b : Bool). cond (not b) (s ∷ others v ss) (others v ss)) (ne_eqb s.version v lacks.0) ∙ ap (λ (xs : List Standing). s ∷ xs) (lacks_others ss v lacks.1)
+lacks_others (s ∷ ss) v lacks = ap (λ (b : Bool). cond (not b) (s ∷ others v ss) (others v ss)) (ne_eqb s.version v lacks.0) ∙ ap (λ (xs : List StandingEntry). s ∷ xs) (lacks_others ss v lacks.1)
 
 pub absent_at : (ms : List Marked) (v : ℕ) → IsAbsent ms v → standing_at (kept ms) v ≡ None
 absent_at ms v absent = lacks_at (kept ms) v (kept_lacks ms v absent)
@@ -123,7 +123,7 @@ told_kept (m ∷ ms) v (suc i) d rises lt is =
     let new = kept (slice_set ms i (told_mark (get_or ms i d))) in
     elim m.gone as (λ b. cond b new (m.entry ∷ new) ≡ with_told (cond b (kept ms) (m.entry ∷ kept ms)) v) [
       | true ↦ rest
-      | false ↦ ap (λ (xs : List Standing). m.entry ∷ xs) rest ∙ sym (cond-false (m.entry.version == v) (standing_with m.entry.version m.entry.home true ∷ kept ms) (m.entry ∷ with_told (kept ms) v) isnt)
+      | false ↦ ap (λ (xs : List StandingEntry). m.entry ∷ xs) rest ∙ sym (cond-false (m.entry.version == v) (standing_with m.entry.version m.entry.home true ∷ kept ms) (m.entry ∷ with_told (kept ms) v) isnt)
     ]
 
 pub gone_kept : (ms : List Marked) (v i : ℕ) (d : Marked) → Rises ms → i < length ms → (get_or ms i d).entry.version ≡ v → kept (slice_set ms i (gone_mark (get_or ms i d))) ≡ others v (kept ms)
@@ -141,7 +141,7 @@ gone_kept (m ∷ ms) v (suc i) d rises lt is =
     let new = kept (slice_set ms i (gone_mark (get_or ms i d))) in
     elim m.gone as (λ b. cond b new (m.entry ∷ new) ≡ others v (cond b (kept ms) (m.entry ∷ kept ms))) [
       | true ↦ rest
-      | false ↦ ap (λ (xs : List Standing). m.entry ∷ xs) rest ∙ sym (ap (λ (b : Bool). cond (not b) (m.entry ∷ others v (kept ms)) (others v (kept ms))) isnt)
+      | false ↦ ap (λ (xs : List StandingEntry). m.entry ∷ xs) rest ∙ sym (ap (λ (b : Bool). cond (not b) (m.entry ∷ others v (kept ms)) (others v (kept ms))) isnt)
     ]
 
 pub gone_already : (ms : List Marked) (v i : ℕ) (d : Marked) → Rises ms → i < length ms → (get_or ms i d).entry.version ≡ v → (get_or ms i d).gone ≡ true → kept ms ≡ others v (kept ms)
@@ -151,7 +151,7 @@ gone_already ms v i d rises lt is gone = same ms i rises lt is gone ∙ gone_kep
   same (m ∷ xs) zero rises lt is gone = cond-true m.gone (kept xs) (m.entry ∷ kept xs) gone
   same (m ∷ xs) (suc k) rises lt is gone = let rest = same xs k rises.1 (omega (arith, lt)) is gone in elim m.gone as (λ b. cond b (kept xs) (m.entry ∷ kept xs) ≡ cond b (kept (slice_set xs k (gone_mark (get_or xs k d)))) (m.entry ∷ kept (slice_set xs k (gone_mark (get_or xs k d))))) [
     | true ↦ rest
-    | false ↦ ap (λ (ys : List Standing). m.entry ∷ ys) rest
+    | false ↦ ap (λ (ys : List StandingEntry). m.entry ∷ ys) rest
   ]
 
 pub gone_length : (ms : List Marked) (i : ℕ) (d : Marked) → i < length ms → (get_or ms i d).gone ≡ false → length (kept (slice_set ms i (gone_mark (get_or ms i d)))) + 1 ≡ length (kept ms)
@@ -184,7 +184,7 @@ pub kept_push : (ms : List Marked) (v home : ℕ) → kept (ms ++ marked v home 
 kept_push [] v home = refl
 kept_push (m ∷ ms) v home = elim m.gone as (λ b. cond b (kept (ms ++ marked v home ∷ [])) (m.entry ∷ kept (ms ++ marked v home ∷ [])) ≡ cond b (kept ms) (m.entry ∷ kept ms) ++ standing_with v home false ∷ []) [
   | true ↦ kept_push ms v home
-  | false ↦ ap (λ (xs : List Standing). m.entry ∷ xs) (kept_push ms v home)
+  | false ↦ ap (λ (xs : List StandingEntry). m.entry ∷ xs) (kept_push ms v home)
 ]
 
 pub rises_push : (ms : List Marked) (top v home : ℕ) → Rises ms → AllByRecursion (λ (m : Marked). m.entry.version ≤ top) ms → top < v → Rises (ms ++ marked v home ∷ [])
@@ -205,7 +205,7 @@ kept_closed [] = refl
 kept_closed (m ∷ ms) = by (kept_closed ms) m.gone refl where
   by : kept (closed ms) ≡ kept ms → (b : Bool) → m.gone ≡ b → kept (cond (not m.gone) (m ∷ closed ms) (closed ms)) ≡ cond m.gone (kept ms) (m.entry ∷ kept ms)
   by rest true is = ap (λ (b : Bool). kept (cond (not b) (m ∷ closed ms) (closed ms))) is ∙ rest ∙ sym (cond-true m.gone (kept ms) (m.entry ∷ kept ms) is)
-  by rest false is = ap (λ (b : Bool). kept (cond (not b) (m ∷ closed ms) (closed ms))) is ∙ cond-false m.gone (kept (closed ms)) (m.entry ∷ kept (closed ms)) is ∙ ap (λ (xs : List Standing). m.entry ∷ xs) rest ∙ sym (cond-false m.gone (kept ms) (m.entry ∷ kept ms) is)
+  by rest false is = ap (λ (b : Bool). kept (cond (not b) (m ∷ closed ms) (closed ms))) is ∙ cond-false m.gone (kept (closed ms)) (m.entry ∷ kept (closed ms)) is ∙ ap (λ (xs : List StandingEntry). m.entry ∷ xs) rest ∙ sym (cond-false m.gone (kept ms) (m.entry ∷ kept ms) is)
 
 pub all_closed : (P : Marked → Type 0) (ms : List Marked) → AllByRecursion P ms → AllByRecursion P (closed ms)
 all_closed P [] all = tt
@@ -230,21 +230,21 @@ closed_marks ms n top are = record {
 }
 
 -- what is true of every place is true of what stands
-pub all_kept : (P : ℕ → Type 0) (ms : List Marked) → AllByRecursion (λ (m : Marked). P m.entry.version) ms → AllByRecursion (λ (s : Standing). P s.version) (kept ms)
+pub all_kept : (P : ℕ → Type 0) (ms : List Marked) → AllByRecursion (λ (m : Marked). P m.entry.version) ms → AllByRecursion (λ (s : StandingEntry). P s.version) (kept ms)
 all_kept P [] all = tt
-all_kept P (m ∷ ms) all = elim m.gone as (λ b. AllByRecursion (λ (s : Standing). P s.version) (cond b (kept ms) (m.entry ∷ kept ms))) [ true ↦ all_kept P ms all.1 | false ↦ (all.0, all_kept P ms all.1) ]
+all_kept P (m ∷ ms) all = elim m.gone as (λ b. AllByRecursion (λ (s : StandingEntry). P s.version) (cond b (kept ms) (m.entry ∷ kept ms))) [ true ↦ all_kept P ms all.1 | false ↦ (all.0, all_kept P ms all.1) ]
 
 -- A version stands alone where nothing stands, or nothing but it.
 
-abbrev Climbs : List Standing → Type 0
+abbrev Climbs : List StandingEntry → Type 0
 Climbs [] = Unit {0}
-Climbs (s ∷ ss) = AllByRecursion (λ (x : Standing). s.version < x.version) ss × Climbs ss
+Climbs (s ∷ ss) = AllByRecursion (λ (x : StandingEntry). s.version < x.version) ss × Climbs ss
 
 climbs : (ms : List Marked) → Rises ms → Climbs (kept ms)
 climbs [] rises = tt
 climbs (m ∷ ms) rises = elim m.gone as (λ b. Climbs (cond b (kept ms) (m.entry ∷ kept ms))) [ true ↦ climbs ms rises.1 | false ↦ (all_kept (λ (w : ℕ). m.entry.version < w) ms rises.0, climbs ms rises.1) ]
 
-alone_in : (ss : List Standing) (v : ℕ) → Climbs ss → ((length ss == 0) || ((length ss == 1) && is_some (standing_at ss v))) ≡ stands_alone ss v
+alone_in : (ss : List StandingEntry) (v : ℕ) → Climbs ss → ((length ss == 0) || ((length ss == 1) && is_some (standing_at ss v))) ≡ stands_alone ss v
 alone_in [] v up = refl
 alone_in (s ∷ []) v up = elim (s.version == v) as (λ b. is_some (cond b (Some s) None) ≡ (b && true)) [ true ↦ refl | false ↦ refl ]
 alone_in (s ∷ x ∷ ss) v up =
@@ -280,7 +280,7 @@ rises_marks (e ∷ es) sorted = (first es (sorted_head nat_cmp e.0 (keys_of es) 
 
 pub kept_marks : (es : List (ℕ × ℕ)) → kept (map mark_of es) ≡ map untold_at es
 kept_marks [] = refl
-kept_marks (e ∷ es) = ap (λ (xs : List Standing). untold_at e ∷ xs) (kept_marks es)
+kept_marks (e ∷ es) = ap (λ (xs : List StandingEntry). untold_at e ∷ xs) (kept_marks es)
 
 abbrev Below : ℕ → List (ℕ × ℕ) → Type 0
 Below n es = AllByRecursion (λ (e : ℕ × ℕ). e.0 ≤ n) es
@@ -305,12 +305,12 @@ below_marks n ss all = each (homes_of ss) (below_homes n ss all) where
 
 -- A version's entry at the start is its first one.
 
-either : (older newer rest : Option Standing) (a b : Bool) → (a ≡ true → b ≡ true → ⊥) → cond a older (cond b newer rest) ≡ cond b newer (cond a older rest)
+either : (older newer rest : Option StandingEntry) (a b : Bool) → (a ≡ true → b ≡ true → ⊥) → cond a older (cond b newer rest) ≡ cond b newer (cond a older rest)
 either older newer rest true true ne = absurd (ne refl refl)
 either older newer rest true false ne = refl
 either older newer rest false b ne = refl
 
-twice : (x older rest : Option Standing) (b : Bool) → cond b x rest ≡ cond b x (cond b older rest)
+twice : (x older rest : Option StandingEntry) (b : Bool) → cond b x rest ≡ cond b x (cond b older rest)
 twice x older rest true = refl
 twice x older rest false = refl
 
@@ -321,12 +321,12 @@ at_insert (e ∷ es) k h v = by (at_insert es k h v) (nat_lt k e.0) (k == e.0) r
     by : standing_at (map untold_at (insert_entry nat_cmp es k h)) v ≡ cond (k == v) (Some (standing_with k h false)) (standing_at (map untold_at es) v) → (b c : Bool) → (k == e.0) ≡ c → standing_at (map untold_at (match_ordering (cond b Less (cond c Equal Greater)) ((k, h) ∷ e ∷ es) ((e.0, h) ∷ es) (e ∷ insert_entry nat_cmp es k h))) v ≡ cond (k == v) (Some (standing_with k h false)) (cond (e.0 == v) (Some (untold_at e)) (standing_at (map untold_at es) v))
     by rest true c is = refl
     by rest false true is = subst (λ (w : ℕ). cond (e.0 == v) (Some (standing_with e.0 h false)) (standing_at (map untold_at es) v) ≡ cond (w == v) (Some (standing_with w h false)) (cond (e.0 == v) (Some (untold_at e)) (standing_at (map untold_at es) v))) (sym (eqb-true k e.0 is)) (twice (Some (standing_with e.0 h false)) (Some (untold_at e)) (standing_at (map untold_at es) v) (e.0 == v))
-    by rest false false is = ap (λ (o : Option Standing). cond (e.0 == v) (Some (untold_at e)) o) rest
+    by rest false false is = ap (λ (o : Option StandingEntry). cond (e.0 == v) (Some (untold_at e)) o) rest
         ∙ either (Some (untold_at e)) (Some (standing_with k h false)) (standing_at (map untold_at es) v) (e.0 == v) (k == v) (λ at here. eqb-false k e.0 is (eqb-true k v here ∙ sym (eqb-true e.0 v at)))
 
 pub opened_at : (ss : List Standee) (v : ℕ) → standing_at (by_version ss) v ≡ standing_at (map untold ss) v
 opened_at [] v = refl
-opened_at (s ∷ ss) v = at_insert (homes_of ss) s.version s.home v ∙ ap (λ (o : Option Standing). cond (s.version == v) (Some (untold s)) o) (opened_at ss v)
+opened_at (s ∷ ss) v = at_insert (homes_of ss) s.version s.home v ∙ ap (λ (o : Option StandingEntry). cond (s.version == v) (Some (untold s)) o) (opened_at ss v)
 
 pub gathered_more : (all left less : List Standee) (es fs : List (ℕ × ℕ)) (s : Standee) → Gathering all left es → left ≡ less ++ s ∷ [] → fs ≡ insert_entry nat_cmp es s.version s.home → Gathering all less fs
 gathered_more all left less es fs s is pop more = record {
@@ -338,9 +338,9 @@ gathered_more all left less es fs s is pop more = record {
 pub gathered_all : (all left : List Standee) (es : List (ℕ × ℕ)) → Gathering all left es → left ≡ [] → es ≡ homes_of all
 gathered_all all left es is none = is.homes ∙ ap homes_of (sym (is.split ∙ ap (λ (xs : List Standee). xs ++ is.done) none))
 
-pub below_entries : (n : ℕ) (ss : List Standee) → AllByRecursion (λ (s : Standee). s.version ≤ n) ss → AllByRecursion (λ (s : Standing). s.version ≤ n) (by_version ss)
+pub below_entries : (n : ℕ) (ss : List Standee) → AllByRecursion (λ (s : Standee). s.version ≤ n) ss → AllByRecursion (λ (s : StandingEntry). s.version ≤ n) (by_version ss)
 below_entries n ss all = each (homes_of ss) (below_homes n ss all) where
-  each : (es : List (ℕ × ℕ)) → Below n es → AllByRecursion (λ (s : Standing). s.version ≤ n) (map untold_at es)
+  each : (es : List (ℕ × ℕ)) → Below n es → AllByRecursion (λ (s : StandingEntry). s.version ≤ n) (map untold_at es)
   each [] all = tt
   each (e ∷ es) all = (all.0, each es all.1)
 
@@ -350,7 +350,7 @@ kept_append : (xs ys : List Marked) → kept (xs ++ ys) ≡ kept xs ++ kept ys
 kept_append [] ys = refl
 kept_append (x ∷ xs) ys = elim x.gone as (λ b. cond b (kept (xs ++ ys)) (x.entry ∷ kept (xs ++ ys)) ≡ cond b (kept xs) (x.entry ∷ kept xs) ++ kept ys) [
   | true ↦ kept_append xs ys
-  | false ↦ ap (λ (zs : List Standing). x.entry ∷ zs) (kept_append xs ys)
+  | false ↦ ap (λ (zs : List StandingEntry). x.entry ∷ zs) (kept_append xs ys)
 ]
 
 pub kept_more : (ms : List Marked) (i : ℕ) (d : Marked) → i < length ms → kept (take (i + 1) ms) ≡ kept (take i ms) ++ kept (get_or ms i d ∷ [])
@@ -385,7 +385,7 @@ told_marks ms ns left top v i d are lt at is = subst (λ (xs : List Marked). Are
   count = are.count ∙ sym (ap length (told_kept ms v i d are.rises lt at) ∙ told_length (kept ms) v);
 })
   where
-    told_length : (ss : List Standing) (v : ℕ) → length (with_told ss v) ≡ length ss
+    told_length : (ss : List StandingEntry) (v : ℕ) → length (with_told ss v) ≡ length ss
     told_length [] v = refl
     told_length (s ∷ ss) v = let rest = told_length ss v in elim (s.version == v) as (λ b. length (cond b (standing_with s.version s.home true ∷ ss) (s ∷ with_told ss v)) ≡ suc (length ss)) [ true ↦ refl | false ↦ ap (λ (n : ℕ). suc n) rest ]
 

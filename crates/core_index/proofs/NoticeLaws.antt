@@ -5,51 +5,51 @@ use Rattle.std.specs.List.{AllByRecursion}
 use Rattle.std.proofs.lemmas.List.{length-append, length-set, get_or-set_same, get_or-set_other, get_or_append_left, get_or-append-add}
 use Rattle.std.proofs.lemmas.Bool.{cases_eq, cases_lt, eqb-true, eq-eqb}
 use Rattle.log_entry.specs.declared.entry.EntryName.{EntryName}
-use Rattle.core_index.specs.declared.notices.Node.{Node}
+use Rattle.core_index.specs.declared.notices.NoticeNode.{NoticeNode}
 use Rattle.core_index.specs.Noted.{Book, Noted, node_with, bare, home_at, name_at, next_at, is_for, LacksHome, chain_of, Follows, In, Lacks, Once, IsChain, AreChains, one_used, count_used, IsBook, Grows}
 
-lacks_class : (ns : List Node) (i c : ℕ) (xs : List ℕ) → AllByRecursion (λ (x : ℕ). chain_of (home_at ns x) ≡ c) xs → chain_of (home_at ns i) ≢ c → Lacks i xs
+lacks_class : (ns : List NoticeNode) (i c : ℕ) (xs : List ℕ) → AllByRecursion (λ (x : ℕ). chain_of (home_at ns x) ≡ c) xs → chain_of (home_at ns i) ≢ c → Lacks i xs
 lacks_class ns i c [] own ne = tt
 lacks_class ns i c (x ∷ xs) own ne = ((λ e. ne (ap (λ (j : ℕ). chain_of (home_at ns j)) (sym e) ∙ own.0)), lacks_class ns i c xs own.1 ne)
 
-lacks_long : (ns : List Node) (at : Option ℕ) (xs : List ℕ) → Follows ns at xs → Lacks (length ns) xs
+lacks_long : (ns : List NoticeNode) (at : Option ℕ) (xs : List ℕ) → Follows ns at xs → Lacks (length ns) xs
 lacks_long ns at [] is = tt
 lacks_long ns at (x ∷ xs) is = ((λ e. let lt = is.1 in omega (arith, lt, e)), lacks_long ns (next_at ns x) xs is.2)
 
 -- One place was written, or added.
-record Frame (ns ms : List Node) (i : ℕ) : Type 0 where
+record Frame (ns ms : List NoticeNode) (i : ℕ) : Type 0 where
   pub longer : length ns ≤ length ms
   pub short : (j : ℕ) → j < length ms → j ≢ i → j < length ns
   pub same : (j : ℕ) → j ≢ i → j < length ns → get_or ms j bare ≡ get_or ns j bare
 
-frame_set : (ns : List Node) (i : ℕ) (n : Node) → Frame ns (slice_set ns i n) i
+frame_set : (ns : List NoticeNode) (i : ℕ) (n : NoticeNode) → Frame ns (slice_set ns i n) i
 frame_set ns i n = let l = length-set ns i n in record {
   longer = omega (arith, l);
   short = λ j lt ne. omega (arith, l, lt);
   same = λ j ne lt. get_or-set_other ns i j n bare ne;
 }
 
-frame_push : (ns : List Node) (n : Node) → Frame ns (ns ++ n ∷ []) (length ns)
+frame_push : (ns : List NoticeNode) (n : NoticeNode) → Frame ns (ns ++ n ∷ []) (length ns)
 frame_push ns n = let l = length-append ns (n ∷ []) in record {
   longer = omega (arith, l);
   short = λ j lt ne. ⊎_elim (λ (less : j < length ns). less) (λ (ge : length ns ≤ j). absurd (ne (omega (arith, l, lt, ge)))) (cases_lt j (length ns));
   same = λ j ne lt. get_or_append_left ns (n ∷ []) bare j lt;
 }
 
-follows_frame : (ns ms : List Node) (i : ℕ) (at : Option ℕ) (xs : List ℕ) → Frame ns ms i → Lacks i xs → Follows ns at xs → Follows ms at xs
+follows_frame : (ns ms : List NoticeNode) (i : ℕ) (at : Option ℕ) (xs : List ℕ) → Frame ns ms i → Lacks i xs → Follows ns at xs → Follows ms at xs
 follows_frame ns ms i at [] f lacks is = is
 follows_frame ns ms i at (x ∷ xs) f lacks is =
     let n = f.same x lacks.0 is.1 in
     let le = f.longer in
     let lt = is.1 in
-    (is.0, omega (arith, le, lt), subst (λ (o : Option ℕ). Follows ms o xs) (sym (ap (λ (m : Node). m.next) n)) (follows_frame ns ms i (next_at ns x) xs f lacks.1 is.2))
+    (is.0, omega (arith, le, lt), subst (λ (o : Option ℕ). Follows ms o xs) (sym (ap (λ (m : NoticeNode). m.next) n)) (follows_frame ns ms i (next_at ns x) xs f lacks.1 is.2))
 
-own_frame : (ns ms : List Node) (i c : ℕ) (at : Option ℕ) (xs : List ℕ) → Frame ns ms i → Lacks i xs → Follows ns at xs → AllByRecursion (λ (x : ℕ). chain_of (home_at ns x) ≡ c) xs → AllByRecursion (λ (x : ℕ). chain_of (home_at ms x) ≡ c) xs
+own_frame : (ns ms : List NoticeNode) (i c : ℕ) (at : Option ℕ) (xs : List ℕ) → Frame ns ms i → Lacks i xs → Follows ns at xs → AllByRecursion (λ (x : ℕ). chain_of (home_at ns x) ≡ c) xs → AllByRecursion (λ (x : ℕ). chain_of (home_at ms x) ≡ c) xs
 own_frame ns ms i c at [] f lacks is own = tt
-own_frame ns ms i c at (x ∷ xs) f lacks is own = (ap (λ (n : Node). chain_of n.home) (f.same x lacks.0 is.1) ∙ own.0, own_frame ns ms i c (next_at ns x) xs f lacks.1 is.2 own.1)
+own_frame ns ms i c at (x ∷ xs) f lacks is own = (ap (λ (n : NoticeNode). chain_of n.home) (f.same x lacks.0 is.1) ∙ own.0, own_frame ns ms i c (next_at ns x) xs f lacks.1 is.2 own.1)
 
 -- a place of another chain
-chain_other : (ns ms : List Node) (i c : ℕ) (at : Option ℕ) → Frame ns ms i → (ch : IsChain ns at c) → Lacks i ch.numbers → chain_of (home_at ms i) ≢ c → IsChain ms at c
+chain_other : (ns ms : List NoticeNode) (i c : ℕ) (at : Option ℕ) → Frame ns ms i → (ch : IsChain ns at c) → Lacks i ch.numbers → chain_of (home_at ms i) ≢ c → IsChain ms at c
 chain_other ns ms i c at f ch lacks ne = record {
   numbers = ch.numbers;
   follows = follows_frame ns ms i at ch.numbers f lacks ch.follows;
@@ -57,12 +57,12 @@ chain_other ns ms i c at f ch lacks ne = record {
   own = own_frame ns ms i c at ch.numbers f lacks ch.follows ch.own;
   all = λ j lt is. ⊎_elim
       (λ (e : j ≡ i). absurd (ne (ap (λ (k : ℕ). chain_of (home_at ms k)) (sym e) ∙ is)))
-      (λ (other : j ≢ i). let l = f.short j lt other in ch.all j l (ap (λ (n : Node). chain_of n.home) (sym (f.same j other l)) ∙ is))
+      (λ (other : j ≢ i). let l = f.short j lt other in ch.all j l (ap (λ (n : NoticeNode). chain_of n.home) (sym (f.same j other l)) ∙ is))
       (cases_eq j i);
 }
 
 -- the first place leaves its chain
-chain_shorter : (ns ms : List Node) (i c : ℕ) (at : Option ℕ) → Frame ns ms i → IsChain ns at c → at ≡ Some i → chain_of (home_at ms i) ≢ c → IsChain ms (next_at ns i) c
+chain_shorter : (ns ms : List NoticeNode) (i c : ℕ) (at : Option ℕ) → Frame ns ms i → IsChain ns at c → at ≡ Some i → chain_of (home_at ms i) ≢ c → IsChain ms (next_at ns i) c
 chain_shorter ns ms i c at f ch is ne = by ch.numbers ch.follows ch.once ch.own ch.all where
   by : (xs : List ℕ) → Follows ns at xs → Once xs → AllByRecursion (λ (x : ℕ). chain_of (home_at ns x) ≡ c) xs → ((j : ℕ) → j < length ns → chain_of (home_at ns j) ≡ c → In j xs) → IsChain ms (next_at ns i) c
   by [] fol once own all = absurd (cc (is, fol))
@@ -77,12 +77,12 @@ chain_shorter ns ms i c at f ch is ne = by ch.numbers ch.follows ch.once ch.own 
         own = own_frame ns ms i c (next_at ns x) xs f lacks fol.2 own.1;
         all = λ j lt there. ⊎_elim
             (λ (q : j ≡ i). absurd (ne (ap (λ (k : ℕ). chain_of (home_at ms k)) (sym q) ∙ there)))
-            (λ (other : j ≢ i). let l = f.short j lt other in ⊎_elim (λ (h : x ≡ j). absurd (other (sym h ∙ e))) (λ (r : In j xs). r) (all j l (ap (λ (n : Node). chain_of n.home) (sym (f.same j other l)) ∙ there)))
+            (λ (other : j ≢ i). let l = f.short j lt other in ⊎_elim (λ (h : x ≡ j). absurd (other (sym h ∙ e))) (λ (r : In j xs). r) (all j l (ap (λ (n : NoticeNode). chain_of n.home) (sym (f.same j other l)) ∙ there)))
             (cases_eq j i);
       }
 
 -- a place becomes the first one of a chain
-chain_longer : (ns ms : List Node) (i c : ℕ) (at : Option ℕ) → Frame ns ms i → (ch : IsChain ns at c) → Lacks i ch.numbers → i < length ms → chain_of (home_at ms i) ≡ c → next_at ms i ≡ at → IsChain ms (Some i) c
+chain_longer : (ns ms : List NoticeNode) (i c : ℕ) (at : Option ℕ) → Frame ns ms i → (ch : IsChain ns at c) → Lacks i ch.numbers → i < length ms → chain_of (home_at ms i) ≡ c → next_at ms i ≡ at → IsChain ms (Some i) c
 chain_longer ns ms i c at f ch lacks lt class next = record {
   numbers = i ∷ ch.numbers;
   follows = (refl, lt, subst (λ (o : Option ℕ). Follows ms o ch.numbers) (sym next) (follows_frame ns ms i at ch.numbers f lacks ch.follows));
@@ -90,16 +90,16 @@ chain_longer ns ms i c at f ch lacks lt class next = record {
   own = (class, own_frame ns ms i c at ch.numbers f lacks ch.follows ch.own);
   all = λ j within is. ⊎_elim
       (λ (e : j ≡ i). inl (sym e))
-      (λ (other : j ≢ i). let l = f.short j within other in inr (ch.all j l (ap (λ (n : Node). chain_of n.home) (sym (f.same j other l)) ∙ is)))
+      (λ (other : j ≢ i). let l = f.short j within other in inr (ch.all j l (ap (λ (n : NoticeNode). chain_of n.home) (sym (f.same j other l)) ∙ is)))
       (cases_eq j i);
 }
 
 -- the first place of a chain
-pub record IsFirst (ns : List Node) (i c : ℕ) : Type 0 where
+pub record IsFirst (ns : List NoticeNode) (i c : ℕ) : Type 0 where
   pub within : i < length ns
   pub class : chain_of (home_at ns i) ≡ c
 
-pub first_of : (ns : List Node) (at : Option ℕ) (i c : ℕ) → IsChain ns at c → at ≡ Some i → IsFirst ns i c
+pub first_of : (ns : List NoticeNode) (at : Option ℕ) (i c : ℕ) → IsChain ns at c → at ≡ Some i → IsFirst ns i c
 first_of ns at i c ch is = by ch.numbers ch.follows ch.own where
   by : (xs : List ℕ) → Follows ns at xs → AllByRecursion (λ (x : ℕ). chain_of (home_at ns x) ≡ c) xs → IsFirst ns i c
   by [] fol own = absurd (cc (is, fol))
@@ -109,7 +109,7 @@ first_of ns at i c ch is = by ch.numbers ch.follows ch.own where
       record { within = subst (λ (k : ℕ). k < length ns) e fol.1; class = subst (λ (k : ℕ). chain_of (home_at ns k) ≡ c) e own.0 }
 
 -- no place is of an empty chain
-pub none_of : (ns : List Node) (at : Option ℕ) (c j : ℕ) → IsChain ns at c → at ≡ None → j < length ns → chain_of (home_at ns j) ≡ c → ⊥
+pub none_of : (ns : List NoticeNode) (at : Option ℕ) (c j : ℕ) → IsChain ns at c → at ≡ None → j < length ns → chain_of (home_at ns j) ≡ c → ⊥
 none_of ns at c j ch is lt class = by ch.numbers ch.follows (ch.all j lt class) where
   by : (xs : List ℕ) → Follows ns at xs → In j xs → ⊥
   by [] fol has = has
@@ -119,7 +119,7 @@ pub chain_below : (h : Option ℕ) → chain_of h < 9
 chain_below None = omega arith
 chain_below (Some h) = omega arith
 
-pub chains_moved : (ns : List Node) (hs : List (Option ℕ)) (a i : ℕ) (n : Node) → AreChains ns hs → a < 9 → ((d : Option ℕ) → get_or hs a d ≡ Some i) → chain_of n.home ≢ a → n.next ≡ get_or hs (chain_of n.home) None → AreChains (slice_set ns i n) (slice_set (slice_set hs a (next_at ns i)) (chain_of n.home) (Some i))
+pub chains_moved : (ns : List NoticeNode) (hs : List (Option ℕ)) (a i : ℕ) (n : NoticeNode) → AreChains ns hs → a < 9 → ((d : Option ℕ) → get_or hs a d ≡ Some i) → chain_of n.home ≢ a → n.next ≡ get_or hs (chain_of n.home) None → AreChains (slice_set ns i n) (slice_set (slice_set hs a (next_at ns i)) (chain_of n.home) (Some i))
 chains_moved ns hs a i n are lt first ne next =
     let b = chain_of n.home in
     let ms = slice_set ns i n in
@@ -128,7 +128,7 @@ chains_moved ns hs a i n are lt first ne next =
     let from = are.each a None lt in
     let here = first_of ns (get_or hs a None) i a from (first None) in
     let node : get_or ms i bare ≡ n = get_or-set_same ns i n bare here.within in
-    let class : chain_of (home_at ms i) ≡ b = ap (λ (m : Node). chain_of m.home) node in
+    let class : chain_of (home_at ms i) ≡ b = ap (λ (m : NoticeNode). chain_of m.home) node in
     let below = chain_below n.home in
     let nine = are.nine in
     let l1 = length-set hs a (next_at ns i) in
@@ -143,7 +143,7 @@ chains_moved ns hs a i n are lt first ne next =
       each = λ c d within. ⊎_elim
           (λ (e : c ≡ b).
           let to = are.each b None below in
-          let ch : IsChain ms (Some i) b = chain_longer ns ms i b (get_or hs b None) f to (lacks_class ns i b to.numbers to.own (λ q. ne (sym q ∙ old))) (omega (arith, l3, in_i)) class (ap (λ (m : Node). m.next) node ∙ next) in
+          let ch : IsChain ms (Some i) b = chain_longer ns ms i b (get_or hs b None) f to (lacks_class ns i b to.numbers to.own (λ q. ne (sym q ∙ old))) (omega (arith, l3, in_i)) class (ap (λ (m : NoticeNode). m.next) node ∙ next) in
           subst (λ (k : ℕ). IsChain ms (get_or (slice_set gs b (Some i)) k d) k) (sym e) (subst (λ (o : Option ℕ). IsChain ms o b) (sym (get_or-set_same gs b (Some i) d in_b)) ch))
           (λ (other : c ≢ b).
           let skip : get_or (slice_set gs b (Some i)) c d ≡ get_or gs c d = get_or-set_other gs b c (Some i) d other in
@@ -160,14 +160,14 @@ chains_moved ns hs a i n are lt first ne next =
     }
 
 -- a free place more
-pub chains_grown : (ns : List Node) (hs : List (Option ℕ)) (n : Node) → AreChains ns hs → n.home ≡ None → n.next ≡ get_or hs 8 None → AreChains (ns ++ n ∷ []) (slice_set hs 8 (Some (length ns)))
+pub chains_grown : (ns : List NoticeNode) (hs : List (Option ℕ)) (n : NoticeNode) → AreChains ns hs → n.home ≡ None → n.next ≡ get_or hs 8 None → AreChains (ns ++ n ∷ []) (slice_set hs 8 (Some (length ns)))
 chains_grown ns hs n are free next =
     let ms = ns ++ n ∷ [] in
     let i = length ns in
     let f = frame_push ns n in
     let zero_is : length ns + 0 ≡ length ns = omega arith in
     let node : get_or ms i bare ≡ n = ap (λ (k : ℕ). get_or ms k bare) (sym zero_is) ∙ get_or-append-add ns (n ∷ []) 0 bare in
-    let class : chain_of (home_at ms i) ≡ 8 = ap (λ (m : Node). chain_of m.home) node ∙ ap chain_of free in
+    let class : chain_of (home_at ms i) ≡ 8 = ap (λ (m : NoticeNode). chain_of m.home) node ∙ ap chain_of free in
     let nine = are.nine in
     let l1 = length-set hs 8 (Some i) in
     let l2 = length-append ns (n ∷ []) in
@@ -176,7 +176,7 @@ chains_grown ns hs n are free next =
       each = λ c d within. ⊎_elim
           (λ (e : c ≡ 8).
           let to = are.each 8 None (omega arith) in
-          let ch : IsChain ms (Some i) 8 = chain_longer ns ms i 8 (get_or hs 8 None) f to (lacks_long ns (get_or hs 8 None) to.numbers to.follows) (omega (arith, l2)) class (ap (λ (m : Node). m.next) node ∙ next) in
+          let ch : IsChain ms (Some i) 8 = chain_longer ns ms i 8 (get_or hs 8 None) f to (lacks_long ns (get_or hs 8 None) to.numbers to.follows) (omega (arith, l2)) class (ap (λ (m : NoticeNode). m.next) node ∙ next) in
           subst (λ (k : ℕ). IsChain ms (get_or (slice_set hs 8 (Some i)) k d) k) (sym e) (subst (λ (o : Option ℕ). IsChain ms o 8) (sym (get_or-set_same hs 8 (Some i) d (omega (arith, nine)))) ch))
           (λ (other : c ≢ 8).
           let was = are.each c d within in
@@ -186,27 +186,27 @@ chains_grown ns hs n are free next =
 
 -- A place gets another name for a home of the same chain.
 
-record Alike (ns ms : List Node) : Type 0 where
+record Alike (ns ms : List NoticeNode) : Type 0 where
   pub long : length ms ≡ length ns
   pub next : (j : ℕ) → next_at ms j ≡ next_at ns j
   pub class : (j : ℕ) → chain_of (home_at ms j) ≡ chain_of (home_at ns j)
 
-alike_set : (ns : List Node) (k : ℕ) (n : Node) → k < length ns → n.next ≡ next_at ns k → chain_of n.home ≡ chain_of (home_at ns k) → Alike ns (slice_set ns k n)
+alike_set : (ns : List NoticeNode) (k : ℕ) (n : NoticeNode) → k < length ns → n.next ≡ next_at ns k → chain_of n.home ≡ chain_of (home_at ns k) → Alike ns (slice_set ns k n)
 alike_set ns k n lt next class = record {
   long = length-set ns k n;
-  next = λ j. ⊎_elim (λ (e : j ≡ k). ap (next_at (slice_set ns k n)) e ∙ ap (λ (m : Node). m.next) (get_or-set_same ns k n bare lt) ∙ next ∙ ap (next_at ns) (sym e)) (λ (ne : j ≢ k). ap (λ (m : Node). m.next) (get_or-set_other ns k j n bare ne)) (cases_eq j k);
-  class = λ j. ⊎_elim (λ (e : j ≡ k). ap (λ (i : ℕ). chain_of (home_at (slice_set ns k n) i)) e ∙ ap (λ (m : Node). chain_of m.home) (get_or-set_same ns k n bare lt) ∙ class ∙ ap (λ (i : ℕ). chain_of (home_at ns i)) (sym e)) (λ (ne : j ≢ k). ap (λ (m : Node). chain_of m.home) (get_or-set_other ns k j n bare ne)) (cases_eq j k);
+  next = λ j. ⊎_elim (λ (e : j ≡ k). ap (next_at (slice_set ns k n)) e ∙ ap (λ (m : NoticeNode). m.next) (get_or-set_same ns k n bare lt) ∙ next ∙ ap (next_at ns) (sym e)) (λ (ne : j ≢ k). ap (λ (m : NoticeNode). m.next) (get_or-set_other ns k j n bare ne)) (cases_eq j k);
+  class = λ j. ⊎_elim (λ (e : j ≡ k). ap (λ (i : ℕ). chain_of (home_at (slice_set ns k n) i)) e ∙ ap (λ (m : NoticeNode). chain_of m.home) (get_or-set_same ns k n bare lt) ∙ class ∙ ap (λ (i : ℕ). chain_of (home_at ns i)) (sym e)) (λ (ne : j ≢ k). ap (λ (m : NoticeNode). chain_of m.home) (get_or-set_other ns k j n bare ne)) (cases_eq j k);
 }
 
-follows_alike : (ns ms : List Node) (at : Option ℕ) (xs : List ℕ) → Alike ns ms → Follows ns at xs → Follows ms at xs
+follows_alike : (ns ms : List NoticeNode) (at : Option ℕ) (xs : List ℕ) → Alike ns ms → Follows ns at xs → Follows ms at xs
 follows_alike ns ms at [] a is = is
 follows_alike ns ms at (x ∷ xs) a is = let l = a.long in let lt = is.1 in (is.0, omega (arith, l, lt), subst (λ (o : Option ℕ). Follows ms o xs) (sym (a.next x)) (follows_alike ns ms (next_at ns x) xs a is.2))
 
-own_alike : (ns ms : List Node) (c : ℕ) (xs : List ℕ) → Alike ns ms → AllByRecursion (λ (x : ℕ). chain_of (home_at ns x) ≡ c) xs → AllByRecursion (λ (x : ℕ). chain_of (home_at ms x) ≡ c) xs
+own_alike : (ns ms : List NoticeNode) (c : ℕ) (xs : List ℕ) → Alike ns ms → AllByRecursion (λ (x : ℕ). chain_of (home_at ns x) ≡ c) xs → AllByRecursion (λ (x : ℕ). chain_of (home_at ms x) ≡ c) xs
 own_alike ns ms c [] a own = tt
 own_alike ns ms c (x ∷ xs) a own = (a.class x ∙ own.0, own_alike ns ms c xs a own.1)
 
-pub chains_over : (ns : List Node) (hs : List (Option ℕ)) (k : ℕ) (n : Node) → AreChains ns hs → k < length ns → n.next ≡ next_at ns k → chain_of n.home ≡ chain_of (home_at ns k) → AreChains (slice_set ns k n) hs
+pub chains_over : (ns : List NoticeNode) (hs : List (Option ℕ)) (k : ℕ) (n : NoticeNode) → AreChains ns hs → k < length ns → n.next ≡ next_at ns k → chain_of n.home ≡ chain_of (home_at ns k) → AreChains (slice_set ns k n) hs
 chains_over ns hs k n are lt next class =
     let ms = slice_set ns k n in
     let a = alike_set ns k n lt next class in
@@ -223,21 +223,21 @@ chains_over ns hs k n are lt next class =
 
 -- How many places have a name.
 
-pub count_set : (ns : List Node) (i : ℕ) (n : Node) → i < length ns → count_used (slice_set ns i n) + one_used (home_at ns i) ≡ count_used ns + one_used n.home
+pub count_set : (ns : List NoticeNode) (i : ℕ) (n : NoticeNode) → i < length ns → count_used (slice_set ns i n) + one_used (home_at ns i) ≡ count_used ns + one_used n.home
 count_set [] i n lt = absurd (omega (arith, lt))
 count_set (m ∷ ns) zero n lt = omega arith
 count_set (m ∷ ns) (suc i) n lt = let rest = count_set ns i n (omega (arith, lt)) in omega (arith, rest)
 
-pub count_push : (ns : List Node) (n : Node) → count_used (ns ++ n ∷ []) ≡ count_used ns + one_used n.home
+pub count_push : (ns : List NoticeNode) (n : NoticeNode) → count_used (ns ++ n ∷ []) ≡ count_used ns + one_used n.home
 count_push [] n = omega arith
 count_push (m ∷ ns) n = let rest = count_push ns n in omega (arith, rest)
 
-pub record IsFree (ns : List Node) : Type 0 where
+pub record IsFree (ns : List NoticeNode) : Type 0 where
   pub at : ℕ
   pub within : at < length ns
   pub home : home_at ns at ≡ None
 
-pub free_one : (ns : List Node) → count_used ns < length ns → IsFree ns
+pub free_one : (ns : List NoticeNode) → count_used ns < length ns → IsFree ns
 free_one [] lt = absurd (omega (arith, lt))
 free_one (n ∷ ns) lt = by n.home refl (free_one ns) where
   by : (h : Option ℕ) → n.home ≡ h → (count_used ns < length ns → IsFree ns) → IsFree (n ∷ ns)
@@ -249,7 +249,7 @@ free_one (n ∷ ns) lt = by n.home refl (free_one ns) where
       record { at = suc r.at; within = omega (arith, less); home = r.home }
 
 -- a place is free where room is left
-pub never_full : (ns : List Node) (hs : List (Option ℕ)) (used spare : ℕ) → IsBook ns hs used spare → 0 < spare → get_or hs 8 None ≡ None → ⊥
+pub never_full : (ns : List NoticeNode) (hs : List (Option ℕ)) (used spare : ℕ) → IsBook ns hs used spare → 0 < spare → get_or hs 8 None ≡ None → ⊥
 never_full ns hs used spare is some none =
     let count = is.count in
     let room = is.room in
@@ -276,7 +276,7 @@ for_home (Some g) home is = ap Some (eqb-true g home is)
 
 pub lacks_noted : (b : Book) (home : ℕ) (n : EntryName) → LacksHome home b.nodes → Noted b home n → ⊥
 lacks_noted b home n lacks noted = by b.nodes noted.at lacks noted.within noted.home_is where
-  by : (ns : List Node) (i : ℕ) → LacksHome home ns → i < length ns → home_at ns i ≡ Some home → ⊥
+  by : (ns : List NoticeNode) (i : ℕ) → LacksHome home ns → i < length ns → home_at ns i ≡ Some home → ⊥
   by [] i all lt is = omega (arith, lt)
   by (m ∷ ns) zero all lt is = let a = sym all.0 ∙ ap (is_for home) is ∙ eq-eqb home home refl in cc a
   by (m ∷ ns) (suc i) all lt is = by ns i all.1 (omega (arith, lt)) is
@@ -285,50 +285,50 @@ pub grown_noted : (b c : Book) → Grows b.nodes c.nodes → (h : ℕ) (n : Entr
 grown_noted b c g h n noted = record {
   at = noted.at;
   within = let lt = noted.within in let le = g.longer in omega (arith, lt, le);
-  home_is = ap (λ (m : Node). m.home) (g.same noted.at bare noted.within) ∙ noted.home_is;
-  name_is = ap (λ (m : Node). m.name) (g.same noted.at bare noted.within) ∙ noted.name_is;
+  home_is = ap (λ (m : NoticeNode). m.home) (g.same noted.at bare noted.within) ∙ noted.home_is;
+  name_is = ap (λ (m : NoticeNode). m.name) (g.same noted.at bare noted.within) ∙ noted.name_is;
 }
 
-pub grows_push : (ns : List Node) (n : Node) → n.home ≡ None → Grows ns (ns ++ n ∷ [])
+pub grows_push : (ns : List NoticeNode) (n : NoticeNode) → n.home ≡ None → Grows ns (ns ++ n ∷ [])
 grows_push ns n free = record {
   longer = let l = length-append ns (n ∷ []) in omega (arith, l);
   same = λ i d lt. get_or_append_left ns (n ∷ []) d i lt;
   count = let c = count_push ns n in let none = ap one_used free in omega (arith, c, none);
 }
 
-pub grows_same : (ns ms : List Node) → ms ≡ ns → Grows ns ms
+pub grows_same : (ns ms : List NoticeNode) → ms ≡ ns → Grows ns ms
 grows_same ns ms is = subst (Grows ns) (sym is) (record { longer = omega arith; same = λ i d lt. refl; count = refl })
 
-pub grows_more : (ns ms ls : List Node) → Grows ns ms → Grows ms ls → Grows ns ls
+pub grows_more : (ns ms ls : List NoticeNode) → Grows ns ms → Grows ms ls → Grows ns ls
 grows_more ns ms ls a b = record {
   longer = let p = a.longer in let q = b.longer in omega (arith, p, q);
   same = λ i d lt. b.same i d (let p = a.longer in omega (arith, p, lt)) ∙ a.same i d lt;
   count = b.count ∙ a.count;
 }
 
-pub put_noted : (ns ms : List Node) (i used more spare less : ℕ) (n : Node) → i < length ns → home_at ns i ≡ None → ms ≡ slice_set ns i n → (h : ℕ) (m : EntryName) → Noted (record { nodes = ns; used = used; spare = spare }) h m → Noted (record { nodes = ms; used = more; spare = less }) h m
+pub put_noted : (ns ms : List NoticeNode) (i used more spare less : ℕ) (n : NoticeNode) → i < length ns → home_at ns i ≡ None → ms ≡ slice_set ns i n → (h : ℕ) (m : EntryName) → Noted (record { nodes = ns; used = used; spare = spare }) h m → Noted (record { nodes = ms; used = more; spare = less }) h m
 put_noted ns ms i used more spare less n lt free is h m noted =
     let apart : noted.at ≢ i = λ e. let home = sym noted.home_is ∙ ap (home_at ns) e ∙ free in cc home in
-    let same : get_or ms noted.at bare ≡ get_or ns noted.at bare = ap (λ (xs : List Node). get_or xs noted.at bare) is ∙ get_or-set_other ns i noted.at n bare apart in
+    let same : get_or ms noted.at bare ≡ get_or ns noted.at bare = ap (λ (xs : List NoticeNode). get_or xs noted.at bare) is ∙ get_or-set_other ns i noted.at n bare apart in
     record {
       at = noted.at;
       within = let l = ap length is ∙ length-set ns i n in let w = noted.within in omega (arith, l, w);
-      home_is = ap (λ (x : Node). x.home) same ∙ noted.home_is;
-      name_is = ap (λ (x : Node). x.name) same ∙ noted.name_is;
+      home_is = ap (λ (x : NoticeNode). x.home) same ∙ noted.home_is;
+      name_is = ap (λ (x : NoticeNode). x.name) same ∙ noted.name_is;
     }
 
-pub noted_here : (ns ms : List Node) (i used spare home : ℕ) (n : EntryName) (next : Option ℕ) → i < length ns → ms ≡ slice_set ns i (node_with n (Some home) next) → Noted (record { nodes = ms; used = used; spare = spare }) home n
+pub noted_here : (ns ms : List NoticeNode) (i used spare home : ℕ) (n : EntryName) (next : Option ℕ) → i < length ns → ms ≡ slice_set ns i (node_with n (Some home) next) → Noted (record { nodes = ms; used = used; spare = spare }) home n
 noted_here ns ms i used spare home n next lt is =
-    let here : get_or ms i bare ≡ node_with n (Some home) next = ap (λ (xs : List Node). get_or xs i bare) is ∙ get_or-set_same ns i (node_with n (Some home) next) bare lt in
+    let here : get_or ms i bare ≡ node_with n (Some home) next = ap (λ (xs : List NoticeNode). get_or xs i bare) is ∙ get_or-set_same ns i (node_with n (Some home) next) bare lt in
     record {
       at = i;
       within = let l = ap length is ∙ length-set ns i (node_with n (Some home) next) in omega (arith, l, lt);
-      home_is = ap (λ (x : Node). x.home) here;
-      name_is = ap (λ (x : Node). x.name) here;
+      home_is = ap (λ (x : NoticeNode). x.home) here;
+      name_is = ap (λ (x : NoticeNode). x.name) here;
     }
 
 -- A name is taken out of place k, into which that of place f goes; then f is free.
-pub taken_noted : (ns ms ls : List Node) (k f home used less spare : ℕ) (next more : Option ℕ) (name : EntryName) → k < length ns → f < length ns → home_at ns k ≡ Some home
+pub taken_noted : (ns ms ls : List NoticeNode) (k f home used less spare : ℕ) (next more : Option ℕ) (name : EntryName) → k < length ns → f < length ns → home_at ns k ≡ Some home
     → ms ≡ slice_set ns k (node_with (name_at ns f) (home_at ns f) next) → ls ≡ slice_set ms f (node_with name None more)
     → (h : ℕ) (n : EntryName) → Noted (record { nodes = ns; used = used; spare = spare }) h n → ((h ≡ home) × (n ≡ name_at ns k)) ⊎ Noted (record { nodes = ls; used = less; spare = spare }) h n
 taken_noted ns ms ls k f home used less spare next more name in_k in_f at_k over free h n noted = ⊎_elim
@@ -338,12 +338,12 @@ taken_noted ns ms ls k f home used less spare next more name in_k in_f at_k over
     (λ (ne : noted.at ≢ k). ⊎_elim
     (λ (e : noted.at ≡ f).
     let apart : k ≢ f = λ q. ne (e ∙ sym q) in
-    let here : get_or ls k bare ≡ node_with (name_at ns f) (home_at ns f) next = ap (λ (xs : List Node). get_or xs k bare) free ∙ get_or-set_other ms f k (node_with name None more) bare apart ∙ ap (λ (xs : List Node). get_or xs k bare) over ∙ get_or-set_same ns k (node_with (name_at ns f) (home_at ns f) next) bare in_k in
-    inr (record { at = k; within = omega (arith, long_l, long_m, in_k); home_is = ap (λ (x : Node). x.home) here ∙ ap (home_at ns) (sym e) ∙ noted.home_is; name_is = ap (λ (x : Node). x.name) here ∙ ap (name_at ns) (sym e) ∙ noted.name_is }))
+    let here : get_or ls k bare ≡ node_with (name_at ns f) (home_at ns f) next = ap (λ (xs : List NoticeNode). get_or xs k bare) free ∙ get_or-set_other ms f k (node_with name None more) bare apart ∙ ap (λ (xs : List NoticeNode). get_or xs k bare) over ∙ get_or-set_same ns k (node_with (name_at ns f) (home_at ns f) next) bare in_k in
+    inr (record { at = k; within = omega (arith, long_l, long_m, in_k); home_is = ap (λ (x : NoticeNode). x.home) here ∙ ap (home_at ns) (sym e) ∙ noted.home_is; name_is = ap (λ (x : NoticeNode). x.name) here ∙ ap (name_at ns) (sym e) ∙ noted.name_is }))
     (λ (other : noted.at ≢ f).
-    let same : get_or ls noted.at bare ≡ get_or ns noted.at bare = ap (λ (xs : List Node). get_or xs noted.at bare) free ∙ get_or-set_other ms f noted.at (node_with name None more) bare other ∙ ap (λ (xs : List Node). get_or xs noted.at bare) over ∙ get_or-set_other ns k noted.at (node_with (name_at ns f) (home_at ns f) next) bare ne in
+    let same : get_or ls noted.at bare ≡ get_or ns noted.at bare = ap (λ (xs : List NoticeNode). get_or xs noted.at bare) free ∙ get_or-set_other ms f noted.at (node_with name None more) bare other ∙ ap (λ (xs : List NoticeNode). get_or xs noted.at bare) over ∙ get_or-set_other ns k noted.at (node_with (name_at ns f) (home_at ns f) next) bare ne in
     let w = noted.within in
-    inr (record { at = noted.at; within = omega (arith, long_l, long_m, w); home_is = ap (λ (x : Node). x.home) same ∙ noted.home_is; name_is = ap (λ (x : Node). x.name) same ∙ noted.name_is }))
+    inr (record { at = noted.at; within = omega (arith, long_l, long_m, w); home_is = ap (λ (x : NoticeNode). x.home) same ∙ noted.home_is; name_is = ap (λ (x : NoticeNode). x.name) same ∙ noted.name_is }))
     (cases_eq noted.at f))
     (cases_eq noted.at k)
   where
@@ -353,11 +353,11 @@ taken_noted ns ms ls k f home used less spare next more name in_k in_f at_k over
     long_l : length ls ≡ length ms
     long_l = ap length free ∙ length-set ms f (node_with name None more)
 
-pub grown_book : (ns ms : List Node) (hs gs : List (Option ℕ)) (used spare more : ℕ) → IsBook ns hs used spare → AreChains ms gs → Grows ns ms → more + used ≤ length ms → IsBook ms gs used more
+pub grown_book : (ns ms : List NoticeNode) (hs gs : List (Option ℕ)) (used spare more : ℕ) → IsBook ns hs used spare → AreChains ms gs → Grows ns ms → more + used ≤ length ms → IsBook ms gs used more
 grown_book ns ms hs gs used spare more is chains grows room = record { chains = chains; count = is.count ∙ sym grows.count; room = room }
 
 -- a name goes to a free place
-pub put_book : (ns ms : List Node) (hs gs : List (Option ℕ)) (i used spare : ℕ) (n : Node) → IsBook ns hs used spare → 0 < spare → AreChains ms gs → i < length ns → home_at ns i ≡ None → ms ≡ slice_set ns i n → one_used n.home ≡ 1 → IsBook ms gs (used + 1) (spare - 1)
+pub put_book : (ns ms : List NoticeNode) (hs gs : List (Option ℕ)) (i used spare : ℕ) (n : NoticeNode) → IsBook ns hs used spare → 0 < spare → AreChains ms gs → i < length ns → home_at ns i ≡ None → ms ≡ slice_set ns i n → one_used n.home ≡ 1 → IsBook ms gs (used + 1) (spare - 1)
 put_book ns ms hs gs i used spare n is some chains lt free put one = record {
   chains = chains;
   count = let a = count_set ns i n lt in let b = ap count_used put in let c = ap one_used free in let d = is.count in omega (arith, a, b, c, d, one);
@@ -365,7 +365,7 @@ put_book ns ms hs gs i used spare n is some chains lt free put one = record {
 }
 
 -- and one leaves its place
-pub taken_count : (ns ms ls : List Node) (k f home : ℕ) (n m : Node) → k < length ns → f < length ns → home_at ns k ≡ Some home → one_used n.home ≡ 1 → n.home ≡ home_at ns f → m.home ≡ None → ms ≡ slice_set ns k n → ls ≡ slice_set ms f m → count_used ls + 1 ≡ count_used ns
+pub taken_count : (ns ms ls : List NoticeNode) (k f home : ℕ) (n m : NoticeNode) → k < length ns → f < length ns → home_at ns k ≡ Some home → one_used n.home ≡ 1 → n.home ≡ home_at ns f → m.home ≡ None → ms ≡ slice_set ns k n → ls ≡ slice_set ms f m → count_used ls + 1 ≡ count_used ns
 taken_count ns ms ls k f home n m in_k in_f at_k one same none over free =
     let long : length ms ≡ length ns = ap length over ∙ length-set ns k n in
     let a = count_set ns k n in_k in
@@ -375,12 +375,12 @@ taken_count ns ms ls k f home n m in_k in_f at_k one same none over free =
     let e = ap count_used free in
     let g = ap one_used none in
     let h : one_used (home_at ms f) ≡ 1 = ⊎_elim
-    (λ (q : f ≡ k). ap (λ (xs : List Node). one_used (home_at xs f)) over ∙ ap (λ (j : ℕ). one_used (home_at (slice_set ns k n) j)) q ∙ ap (λ (x : Node). one_used x.home) (get_or-set_same ns k n bare in_k) ∙ one)
-    (λ (ne : f ≢ k). ap (λ (xs : List Node). one_used (home_at xs f)) over ∙ ap (λ (x : Node). one_used x.home) (get_or-set_other ns k f n bare ne) ∙ ap one_used (sym same) ∙ one)
+    (λ (q : f ≡ k). ap (λ (xs : List NoticeNode). one_used (home_at xs f)) over ∙ ap (λ (j : ℕ). one_used (home_at (slice_set ns k n) j)) q ∙ ap (λ (x : NoticeNode). one_used x.home) (get_or-set_same ns k n bare in_k) ∙ one)
+    (λ (ne : f ≢ k). ap (λ (xs : List NoticeNode). one_used (home_at xs f)) over ∙ ap (λ (x : NoticeNode). one_used x.home) (get_or-set_other ns k f n bare ne) ∙ ap one_used (sym same) ∙ one)
     (cases_eq f k) in
     omega (arith, a, b, c, d, e, g, h, one)
 
-pub taken_book : (ns ls : List Node) (hs gs : List (Option ℕ)) (used spare : ℕ) → IsBook ns hs used spare → AreChains ls gs → length ls ≡ length ns → count_used ls + 1 ≡ count_used ns → IsBook ls gs (used - 1) spare
+pub taken_book : (ns ls : List NoticeNode) (hs gs : List (Option ℕ)) (used spare : ℕ) → IsBook ns hs used spare → AreChains ls gs → length ls ≡ length ns → count_used ls + 1 ≡ count_used ns → IsBook ls gs (used - 1) spare
 taken_book ns ls hs gs used spare is chains long count = record {
   chains = chains;
   count = let d = is.count in omega (arith, count, d);

@@ -3,19 +3,19 @@ use Rattle.std.proofs.Common.{◌≡◌, ◌≢◌, inl, inr, ⊎_elim, ℕ, ◌
 use Rattle.std.specs.List.{AllByRecursion}
 use Rattle.std.proofs.lemmas.Bool.{ne_eqb, cond-false}
 use Rattle.log_entry.specs.declared.entry.Body.{Body}
-use Rattle.core_index.specs.declared.types.Head.{Head}
-use Rattle.core_index.specs.declared.types.Standing.{Standing}
+use Rattle.core_index.specs.declared.types.LastChange.{LastChange}
+use Rattle.core_index.specs.declared.types.StandingEntry.{StandingEntry}
 use Rattle.core_index.specs.Records.{KeyRecord, standing_with, standing_at, is_tombstone, stands_alone, is_dead, Awaits, last_of, with_told, told_in, others}
 use Rattle.core_index.specs.Slots.{record_with, known_with, AreBelow, home_in, home_alive, alive_at, count_of, standee_with, count_dead, dead_by, died, OnlyDead, TellsOne, IsSlot}
 use Rattle.core_index.specs.Marks.{Marks, Keeps}
 use Rattle.core_index.proofs.StandingLaws.{found_version, at_told, at_told_other, alone_told, below_told, none_above, at_added, below_more, at_without, at_without_other, alone_without, below_without}
 use Rattle.core_index.proofs.DeadLaws.{dead_last, dead_alone, alive_is, alive_none, awaits_or_alive, settled_dead}
 
-same_standing : (s : Standing) (v home : ℕ) → s.version ≡ v → s.home ≡ home → s.told ≡ false → s ≡ standing_with v home false
+same_standing : (s : StandingEntry) (v home : ℕ) → s.version ≡ v → s.home ≡ home → s.told ≡ false → s ≡ standing_with v home false
 same_standing s v home a b c = λ i. standing_with (a i) (b i) (c i)
 
-pub awaits_here : (r : KeyRecord) (v home : ℕ) (s : Standing) → standing_at r.standing v ≡ Some s → s.home ≡ home → s.told ≡ false → is_dead r v ≡ true → Awaits (Some r) home v
-awaits_here r v home s at same new dies = record { found = r; has = refl; stands = at ∙ ap (λ (x : Standing). Some x) (same_standing s v home (found_version r.standing v s at) same new); dead = dies }
+pub awaits_here : (r : KeyRecord) (v home : ℕ) (s : StandingEntry) → standing_at r.standing v ≡ Some s → s.home ≡ home → s.told ≡ false → is_dead r v ≡ true → Awaits (Some r) home v
+awaits_here r v home s at same new dies = record { found = r; has = refl; stands = at ∙ ap (λ (x : StandingEntry). Some x) (same_standing s v home (found_version r.standing v s at) same new); dead = dies }
 
 -- the same of the record itself
 pub record Needs (r : KeyRecord) (v home : ℕ) : Type 0 where
@@ -47,7 +47,7 @@ tells_one r room v home waits = record {
       (apart, record { found = r; has = refl; stands = sym (at_told_other r.standing v w apart) ∙ now.stands; dead = sym (dead_told r v w) ∙ now.dead });
 }
   where
-    told_flag : Option Standing → Option Bool
+    told_flag : Option StandingEntry → Option Bool
     told_flag None = None
     told_flag (Some s) = Some s.told
 
@@ -56,7 +56,7 @@ alive_told r v =
     ap (λ (b : Bool). cond b None (home_in (standing_at (with_told r.standing v) r.version))) (dead_told r v r.version)
     ∙ ap (λ (o : Option ℕ). cond (is_dead r r.version) None o) (homes r.standing v r.version)
   where
-    homes : (ss : List Standing) (v w : ℕ) → home_in (standing_at (with_told ss v) w) ≡ home_in (standing_at ss w)
+    homes : (ss : List StandingEntry) (v w : ℕ) → home_in (standing_at (with_told ss v) w) ≡ home_in (standing_at ss w)
     homes [] v w = refl
     homes (s ∷ ss) v w = by (homes ss v w) (s.version == v)
       where
@@ -66,7 +66,7 @@ alive_told r v =
 
 -- A version that is gone.
 
-pub gone_dead : (h : Head) (ss : List Standing) (v : ℕ) → AreBelow (Some h) ss → OnlyDead (Some (record_with h ss)) (Some (record_with h (others v ss))) (died v h.version (home_alive (record_with h ss)) (home_alive (record_with h (others v ss))))
+pub gone_dead : (h : LastChange) (ss : List StandingEntry) (v : ℕ) → AreBelow (Some h) ss → OnlyDead (Some (record_with h ss)) (Some (record_with h (others v ss))) (died v h.version (home_alive (record_with h ss)) (home_alive (record_with h (others v ss))))
 gone_dead h ss v below = λ w home after.
     let old = record_with h ss in
     let new = record_with h (others v ss) in
@@ -82,14 +82,14 @@ gone_dead h ss v below = λ w home after.
     (awaits_or_alive h ss w home below was)
 
 -- who is alive then was alive before
-pub alive_without : (h : Head) (ss : List Standing) (v home : ℕ) → home_alive (record_with h (others v ss)) ≡ Some home → home_alive (record_with h ss) ≡ Some home
+pub alive_without : (h : LastChange) (ss : List StandingEntry) (v home : ℕ) → home_alive (record_with h (others v ss)) ≡ Some home → home_alive (record_with h ss) ≡ Some home
 alive_without h ss v home is = by (is_dead (record_with h (others v ss)) h.version) refl
   where
     by : (b : Bool) → is_dead (record_with h (others v ss)) h.version ≡ b → home_alive (record_with h ss) ≡ Some home
     by true dies = let none = alive_none (record_with h (others v ss)) dies in absurd (cc (none, is))
     by false lives = stood (standing_at (others v ss) h.version) refl
       where
-        stood : (o : Option Standing) → standing_at (others v ss) h.version ≡ o → home_alive (record_with h ss) ≡ Some home
+        stood : (o : Option StandingEntry) → standing_at (others v ss) h.version ≡ o → home_alive (record_with h ss) ≡ Some home
         stood None at =
             let none : home_alive (record_with h (others v ss)) ≡ None = cond-false (is_dead (record_with h (others v ss)) h.version) None (home_in (standing_at (others v ss) h.version)) lives ∙ ap home_in at in
             absurd (cc (none, is))
@@ -111,7 +111,7 @@ alive_without h ss v home is = by (is_dead (record_with h (others v ss)) h.versi
                 front true b is = refl
                 front false b is = absurd (cc is)
 
-pub gone_mortal : (h : Head) (ss : List Standing) (v : ℕ) → count_of (home_alive (record_with h (others v ss))) + count_dead (died v h.version (home_alive (record_with h ss)) (home_alive (record_with h (others v ss)))) ≤ count_of (home_alive (record_with h ss))
+pub gone_mortal : (h : LastChange) (ss : List StandingEntry) (v : ℕ) → count_of (home_alive (record_with h (others v ss))) + count_dead (died v h.version (home_alive (record_with h ss)) (home_alive (record_with h (others v ss)))) ≤ count_of (home_alive (record_with h ss))
 gone_mortal h ss v = by (home_alive (record_with h (others v ss))) refl (home_alive (record_with h ss)) refl
   where
     by : (new : Option ℕ) → home_alive (record_with h (others v ss)) ≡ new → (old : Option ℕ) → home_alive (record_with h ss) ≡ old → count_of new + count_dead (died v h.version old new) ≤ count_of old
@@ -125,48 +125,48 @@ gone_mortal h ss v = by (home_alive (record_with h (others v ss))) refl (home_al
 none_waits : (home v : ℕ) → Awaits None home v → ⊥
 none_waits home v w = let has = w.has in cc has
 
-pub gone_only : (o : Option Head) (ss : List Standing) (v : ℕ) → AreBelow o ss → OnlyDead (known_with o ss) (known_with o (others v ss)) (died v (last_of (known_with o ss)) (alive_at (known_with o ss)) (alive_at (known_with o (others v ss))))
+pub gone_only : (o : Option LastChange) (ss : List StandingEntry) (v : ℕ) → AreBelow o ss → OnlyDead (known_with o ss) (known_with o (others v ss)) (died v (last_of (known_with o ss)) (alive_at (known_with o ss)) (alive_at (known_with o (others v ss))))
 gone_only None ss v below = λ w home after. absurd (none_waits home w after)
 gone_only (Some h) ss v below = gone_dead h ss v below
 
-pub gone_count : (o : Option Head) (ss : List Standing) (v : ℕ) → count_of (alive_at (known_with o (others v ss))) + count_dead (died v (last_of (known_with o ss)) (alive_at (known_with o ss)) (alive_at (known_with o (others v ss)))) ≤ count_of (alive_at (known_with o ss))
+pub gone_count : (o : Option LastChange) (ss : List StandingEntry) (v : ℕ) → count_of (alive_at (known_with o (others v ss))) + count_dead (died v (last_of (known_with o ss)) (alive_at (known_with o ss)) (alive_at (known_with o (others v ss)))) ≤ count_of (alive_at (known_with o ss))
 gone_count None ss v = omega arith
 gone_count (Some h) ss v = gone_mortal h ss v
 
-last_same : (o : Option Head) (xs ys : List Standing) → last_of (known_with o xs) ≡ last_of (known_with o ys)
+last_same : (o : Option LastChange) (xs ys : List StandingEntry) → last_of (known_with o xs) ≡ last_of (known_with o ys)
 last_same None xs ys = refl
 last_same (Some h) xs ys = refl
 
 -- the fields of a slot whose entries are others by now
-pub kept_slot : (o : Option Head) (m n : Marks) (room more : ℕ) (alive now : Option ℕ) → IsSlot o m room alive → AreBelow o n.items → n.top ≡ m.top → more ≤ n.room → now ≡ alive_at (known_with o n.items) → IsSlot o n more now
+pub kept_slot : (o : Option LastChange) (m n : Marks) (room more : ℕ) (alive now : Option ℕ) → IsSlot o m room alive → AreBelow o n.items → n.top ≡ m.top → more ≤ n.room → now ≡ alive_at (known_with o n.items) → IsSlot o n more now
 kept_slot o m n room more alive now is below top fits lives = record { below = below; top = let t = is.top in let same = last_same o m.items n.items in omega (arith, t, top, same); fits = fits; alive_is = lives }
 
-pub gone_slot : (o : Option Head) (m n : Marks) (v room : ℕ) (alive now : Option ℕ) → IsSlot o m room alive → n.items ≡ others v m.items → n.top ≡ m.top → n.room ≡ m.room → now ≡ alive_at (known_with o n.items) → IsSlot o n room now
+pub gone_slot : (o : Option LastChange) (m n : Marks) (v room : ℕ) (alive now : Option ℕ) → IsSlot o m room alive → n.items ≡ others v m.items → n.top ≡ m.top → n.room ≡ m.room → now ≡ alive_at (known_with o n.items) → IsSlot o n room now
 gone_slot o m n v room alive now is gone top same lives = kept_slot o m n room room alive now is (subst (AreBelow o) (sym gone) (by o is.below)) top (let f = is.fits in omega (arith, f, same)) lives
   where
-    by : (o : Option Head) → AreBelow o m.items → AreBelow o (others v m.items)
+    by : (o : Option LastChange) → AreBelow o m.items → AreBelow o (others v m.items)
     by None none = ap (others v) none
     by (Some h) all = below_without m.items v h.version all
 
-pub told_slot : (o : Option Head) (m n : Marks) (v room : ℕ) (alive : Option ℕ) → IsSlot o m room alive → n.items ≡ with_told m.items v → n.top ≡ m.top → n.room ≡ m.room → alive_at (known_with o n.items) ≡ alive_at (known_with o m.items) → IsSlot o n room alive
+pub told_slot : (o : Option LastChange) (m n : Marks) (v room : ℕ) (alive : Option ℕ) → IsSlot o m room alive → n.items ≡ with_told m.items v → n.top ≡ m.top → n.room ≡ m.room → alive_at (known_with o n.items) ≡ alive_at (known_with o m.items) → IsSlot o n room alive
 told_slot o m n v room alive is now top same lives = kept_slot o m n room room alive alive is (subst (AreBelow o) (sym now) (by o is.below)) top (let f = is.fits in omega (arith, f, same)) (is.alive_is ∙ sym lives)
   where
-    by : (o : Option Head) → AreBelow o m.items → AreBelow o (with_told m.items v)
-    by None none = ap (λ (xs : List Standing). with_told xs v) none
+    by : (o : Option LastChange) → AreBelow o m.items → AreBelow o (with_told m.items v)
+    by None none = ap (λ (xs : List StandingEntry). with_told xs v) none
     by (Some h) all = below_told m.items v h.version all
 
-pub reserved_slot : (o : Option Head) (m n : Marks) (room more : ℕ) (alive : Option ℕ) → IsSlot o m room alive → Keeps m n → more ≤ n.room → IsSlot o n more alive
-reserved_slot o m n room more alive is keeps fits = kept_slot o m n room more alive alive is (subst (AreBelow o) (sym keeps.items) is.below) keeps.top fits (is.alive_is ∙ ap (λ (xs : List Standing). alive_at (known_with o xs)) (sym keeps.items))
+pub reserved_slot : (o : Option LastChange) (m n : Marks) (room more : ℕ) (alive : Option ℕ) → IsSlot o m room alive → Keeps m n → more ≤ n.room → IsSlot o n more alive
+reserved_slot o m n room more alive is keeps fits = kept_slot o m n room more alive alive is (subst (AreBelow o) (sym keeps.items) is.below) keeps.top fits (is.alive_is ∙ ap (λ (xs : List StandingEntry). alive_at (known_with o xs)) (sym keeps.items))
 
-pub told_one : (o : Option Head) (ss ts : List Standing) (room v home : ℕ) → ts ≡ with_told ss v → Awaits (known_with o ss) home v → TellsOne (record { known = known_with o ss; room = room }) (record { known = known_with o ts; room = room }) home v
+pub told_one : (o : Option LastChange) (ss ts : List StandingEntry) (room v home : ℕ) → ts ≡ with_told ss v → Awaits (known_with o ss) home v → TellsOne (record { known = known_with o ss; room = room }) (record { known = known_with o ts; room = room }) home v
 told_one None ss ts room v home now waits = absurd (none_waits home v waits)
-told_one (Some h) ss ts room v home now waits = subst (λ (xs : List Standing). TellsOne (record { known = Some (record_with h ss); room = room }) (record { known = Some (record_with h xs); room = room }) home v) (sym now) (tells_one (record_with h ss) room v home waits)
+told_one (Some h) ss ts room v home now waits = subst (λ (xs : List StandingEntry). TellsOne (record { known = Some (record_with h ss); room = room }) (record { known = Some (record_with h xs); room = room }) home v) (sym now) (tells_one (record_with h ss) room v home waits)
 
-pub told_alive : (o : Option Head) (ss ts : List Standing) (v : ℕ) → ts ≡ with_told ss v → alive_at (known_with o ts) ≡ alive_at (known_with o ss)
+pub told_alive : (o : Option LastChange) (ss ts : List StandingEntry) (v : ℕ) → ts ≡ with_told ss v → alive_at (known_with o ts) ≡ alive_at (known_with o ss)
 told_alive None ss ts v now = refl
-told_alive (Some h) ss ts v now = ap (λ (xs : List Standing). home_alive (record_with h xs)) now ∙ alive_told (record_with h ss) v
+told_alive (Some h) ss ts v now = ap (λ (xs : List StandingEntry). home_alive (record_with h xs)) now ∙ alive_told (record_with h ss) v
 
-pub settled_only : (o : Option Head) (ss : List Standing) (b : Body) (n home : ℕ) → AreBelow o ss → n ≡ last_of (known_with o ss) + 1
+pub settled_only : (o : Option LastChange) (ss : List StandingEntry) (b : Body) (n home : ℕ) → AreBelow o ss → n ≡ last_of (known_with o ss) + 1
     → OnlyDead (known_with o ss) (Some (record { version = n; body = b; standing = ss ++ standing_with n home false ∷ [] }))
     (dead_by n home (last_of (known_with o ss)) (alive_at (known_with o ss)) (alive_at (Some (record { version = n; body = b; standing = ss ++ standing_with n home false ∷ [] }))))
 settled_only o ss b n home below next =
@@ -176,16 +176,16 @@ settled_only o ss b n home below next =
     (λ now was is had. ap (dead_by n home (last_of (known_with o ss)) (alive_at (known_with o ss))) is ∙ ap (λ (p : Option ℕ). dead_by n home (last_of (known_with o ss)) p (Some now)) had)
 
 -- Who is alive once a change is settled: its own entry, but where it is dead at once.
-pub settled_alive : (o : Option Head) (ss : List Standing) (b : Body) (n home : ℕ) (alive : Option ℕ) → AreBelow o ss → n ≡ last_of (known_with o ss) + 1
+pub settled_alive : (o : Option LastChange) (ss : List StandingEntry) (b : Body) (n home : ℕ) (alive : Option ℕ) → AreBelow o ss → n ≡ last_of (known_with o ss) + 1
     → alive ≡ cond (is_dead (record { version = n; body = b; standing = ss ++ standing_with n home false ∷ [] }) n) None (Some home)
     → alive ≡ home_alive (record { version = n; body = b; standing = ss ++ standing_with n home false ∷ [] })
 settled_alive o ss b n home alive below next is =
     is ∙ ap (λ x. cond (is_dead (record { version = n; body = b; standing = ss ++ standing_with n home false ∷ [] }) n) None (home_in x)) (sym (at_added ss (standing_with n home false) (none_yet o below next))) where
-      none_yet : (o : Option Head) → AreBelow o ss → n ≡ last_of (known_with o ss) + 1 → standing_at ss n ≡ None
+      none_yet : (o : Option LastChange) → AreBelow o ss → n ≡ last_of (known_with o ss) + 1 → standing_at ss n ≡ None
       none_yet None empty next = ap (λ xs. standing_at xs n) empty
       none_yet (Some h) all next = none_above ss n h.version all (omega (arith, next))
 
 -- and no entry stands above the new version
-pub settled_below : (o : Option Head) (ss : List Standing) (b : Body) (n home : ℕ) → AreBelow o ss → n ≡ last_of (known_with o ss) + 1 → AreBelow (Some (record { version = n; body = b })) (ss ++ standing_with n home false ∷ [])
-settled_below None ss b n home empty next = subst (λ xs. AllByRecursion (λ (s : Standing). s.version ≤ n) (xs ++ standing_with n home false ∷ [])) (sym empty) (omega arith, tt)
+pub settled_below : (o : Option LastChange) (ss : List StandingEntry) (b : Body) (n home : ℕ) → AreBelow o ss → n ≡ last_of (known_with o ss) + 1 → AreBelow (Some (record { version = n; body = b })) (ss ++ standing_with n home false ∷ [])
+settled_below None ss b n home empty next = subst (λ xs. AllByRecursion (λ (s : StandingEntry). s.version ≤ n) (xs ++ standing_with n home false ∷ [])) (sym empty) (omega arith, tt)
 settled_below (Some h) ss b n home all next = below_more ss (standing_with n home false) h.version n (omega (arith, next)) (omega arith) all

@@ -4,11 +4,11 @@ use Rattle.std.specs.Prelude.{is_some}
 use Rattle.std.proofs.lemmas.Bool.{eqb-true, eq-eqb}
 use Rattle.log_entry.specs.declared.entry.EntryName.{EntryName}
 use Rattle.core_index.specs.declared.start_keys.StartKeys.{StartKeys}
-use Rattle.core_index.specs.declared.types.Holding.{Holding}
+use Rattle.core_index.specs.declared.types.ValuePlace.{ValuePlace}
 use Rattle.core_index.specs.declared.types.LiveFate.{LiveFate}
 use Rattle.core_index.specs.declared.types.LiveFate.TheVariants.{Stands, Gone, Moved}
 use Rattle.core_index.specs.declared.types.LiveKey.{LiveKey}
-use Rattle.core_index.specs.declared.types.Standing.{Standing}
+use Rattle.core_index.specs.declared.types.StandingEntry.{StandingEntry}
 use Rattle.core_index.specs.declared.types.Tombstone.{Tombstone}
 use Rattle.core_index.specs.declared.types.Fate.{Fate}
 use Rattle.core_index.specs.declared.types.Fate.TheVariants as fates
@@ -45,13 +45,13 @@ start_no_room a k = ap room_in (place_both (placed_lives a.live) (tomb_places a.
     by None = no_room a.deleted.items k
     by (Some x) = refl
 
-pub never_forgettable : (bytes : List ℕ) (h : Holding) (f : LiveFate) (v home : ℕ) → is_forgettable (valued_by f v home (body_in bytes h)) ≡ false
+pub never_forgettable : (bytes : List ℕ) (h : ValuePlace) (f : LiveFate) (v home : ℕ) → is_forgettable (valued_by f v home (body_in bytes h)) ≡ false
 never_forgettable bytes h Stands v home = ap (λ (b : Bool). b && is_empty (standing_with v home false ∷ [])) (no_tombstone bytes h)
 never_forgettable bytes h Gone v home = ap (λ (b : Bool). b && is_empty []) (no_tombstone bytes h)
 never_forgettable bytes h Moved v home = refl
 
 -- no entry of a key with a value is dead
-pub value_waits : (bytes : List ℕ) (h : Holding) (f : LiveFate) (v own home w : ℕ) → Awaits (valued_by f v own (body_in bytes h)) home w → ⊥
+pub value_waits : (bytes : List ℕ) (h : ValuePlace) (f : LiveFate) (v own home w : ℕ) → Awaits (valued_by f v own (body_in bytes h)) home w → ⊥
 value_waits bytes h Stands v own home w waits =
     let e : record { version = v; body = body_in bytes h; standing = standing_with v own false ∷ [] } ≡ waits.found = let has = waits.has in cc has in
     let stands = ap (λ (r : KeyRecord). standing_at r.standing w) e ∙ waits.stands in
@@ -117,7 +117,7 @@ start_cleared a b k live deleted = record {
 
 -- no deleted key has an entry that may still die
 
-dead_now : (v : ℕ) (ss : List Standing) → stands_alone ss v ≡ true → is_dead (deleted v ss) v ≡ true
+dead_now : (v : ℕ) (ss : List StandingEntry) → stands_alone ss v ≡ true → is_dead (deleted v ss) v ≡ true
 dead_now v ss alone = ap (λ (b : Bool). nat_lt v v || ((v == v) && b)) alone ∙ ap (λ (b : Bool). nat_lt v v || (b && true)) (eq-eqb v v refl) ∙ by (nat_lt v v)
   where
     by : (b : Bool) → (b || (true && true)) ≡ true
@@ -144,7 +144,7 @@ added_live a l k p turns = record {
   others = λ j ne. both_kept (placed_lives a.live) (placed_lives l) (tomb_places a.deleted.items) (tomb_places a.deleted.items) j (turns.others j ne) refl;
 }
 
-pub never_dead : (bytes : List ℕ) (h : Holding) (f : LiveFate) (v home w : ℕ) → is_dead_in (valued_by f v home (body_in bytes h)) w ≡ false
+pub never_dead : (bytes : List ℕ) (h : ValuePlace) (f : LiveFate) (v home w : ℕ) → is_dead_in (valued_by f v home (body_in bytes h)) w ≡ false
 never_dead bytes h Stands v home w = by (v == w) refl
   where
     by : (b : Bool) → (v == w) ≡ b → is_some (cond b (Some (standing_with v home false)) None) && is_dead (record { version = v; body = body_in bytes h; standing = standing_with v home false ∷ [] }) w ≡ false

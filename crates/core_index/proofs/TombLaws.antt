@@ -13,7 +13,7 @@ use Rattle.log_entry.specs.declared.entry.EntryName.{EntryName}
 use Rattle.core_index.specs.declared.types.Fate.{Fate}
 use Rattle.core_index.specs.declared.types.Fate.TheVariants.{Untold, Told, Gone, Moved}
 use Rattle.core_index.specs.declared.types.Look.TheVariants as looks
-use Rattle.core_index.specs.declared.types.Standing.{Standing}
+use Rattle.core_index.specs.declared.types.StandingEntry.{StandingEntry}
 use Rattle.core_index.specs.declared.types.Tombstone.{Tombstone}
 use Rattle.core_index.specs.Records.{KeyRecord, Awaits, Shows, standing_at, standing_with, told_in, without, live_version, count_untold, standing_of}
 use Rattle.core_index.specs.Slots.{Place}
@@ -453,7 +453,7 @@ waits_own Untold v h home w waits =
     by (v == w) refl stands
   where
     by : (b : Bool) → (v == w) ≡ b → cond b (Some (standing_with v h false)) None ≡ Some (standing_with w home false) → OwnName Untold v h home w
-    by true same at = record { untold = refl; version = eqb-true v w same; home_is = let one : standing_with v h false ≡ standing_with w home false = cc at in ap (λ (s : Standing). s.home) one }
+    by true same at = record { untold = refl; version = eqb-true v w same; home_is = let one : standing_with v h false ≡ standing_with w home false = cc at in ap (λ (s : StandingEntry). s.home) one }
     by false same at = absurd (cc at)
 waits_own Told v h home w waits =
     let e : deleted v (standing_with v h true ∷ []) ≡ waits.found = let has = waits.has in cc has in
@@ -461,7 +461,7 @@ waits_own Told v h home w waits =
     absurd (by (v == w) stands)
   where
     by : (b : Bool) → cond b (Some (standing_with v h true)) None ≡ Some (standing_with w home false) → ⊥
-    by true at = let one : standing_with v h true ≡ standing_with w home false = cc at in let flag : true ≡ false = ap (λ (s : Standing). s.told) one in cc flag
+    by true at = let one : standing_with v h true ≡ standing_with w home false = cc at in let flag : true ≡ false = ap (λ (s : StandingEntry). s.told) one in cc flag
     by false at = cc at
 waits_own Gone v h home w waits = absurd (none_stands v home w waits)
 waits_own Moved v h home w waits = let has = waits.has in absurd (cc has)

@@ -3,8 +3,8 @@ use Rattle.std.specs.Prelude.{◌≡◌, ◌≢◌, ℕ, ◌+◌, ◌*◌, ◌<�
 use Rattle.std.specs.List.{AllByRecursion}
 use Rattle.log_entry.specs.declared.entry.Body.{Body}
 use Rattle.log_entry.specs.declared.entry.Body.TheVariants as bodies
-use Rattle.core_index.specs.declared.types.Holding.{Holding}
-use Rattle.core_index.specs.declared.types.Holding.TheVariants.{InBlock, Beside}
+use Rattle.core_index.specs.declared.types.ValuePlace.{ValuePlace}
+use Rattle.core_index.specs.declared.types.ValuePlace.TheVariants.{InBlock, Beside}
 use Rattle.core_index.specs.declared.types.LiveFate.{LiveFate}
 use Rattle.core_index.specs.declared.types.LiveFate.TheVariants.{Stands, Gone, Moved}
 use Rattle.core_index.specs.declared.types.LiveKey.{LiveKey}
@@ -29,12 +29,12 @@ bytes_in (bodies.Embedded v) = v
 bytes_in bodies.Tombstone = []
 
 -- what is held, where all values stand in these bytes
-abbrev pub body_in : List ℕ → Holding → Body
+abbrev pub body_in : List ℕ → ValuePlace → Body
 body_in bytes (InBlock p) = bodies.Pointer p
 body_in bytes (Beside start size) = bodies.Embedded (take size (drop start bytes))
 
 -- the value is in these bytes
-abbrev pub IsWithin : List ℕ → Holding → Type 0
+abbrev pub IsWithin : List ℕ → ValuePlace → Type 0
 IsWithin bytes (InBlock p) = Unit {0}
 IsWithin bytes (Beside start size) = start + size ≤ length bytes
 

@@ -3,17 +3,17 @@ use Rattle.std.specs.Prelude.{◌≡◌, ◌≢◌, ℕ, ◌<◌, ◌≤◌, fal
 use Rattle.std.specs.List.{AllByRecursion}
 use Rattle.core_index.specs.declared.types.Marked.{Marked}
 use Rattle.core_index.specs.declared.types.Standee.{Standee}
-use Rattle.core_index.specs.declared.types.Standing.{Standing}
+use Rattle.core_index.specs.declared.types.StandingEntry.{StandingEntry}
 use Rattle.core_index.specs.Records.{standing_with, homes_of}
 
 -- the entries that stand, room for more, and a version that none is above
 pub record Marks : Type 0 where
-  pub items : List Standing
+  pub items : List StandingEntry
   pub room : ℕ
   pub top : ℕ
 
 -- what stands
-abbrev pub kept : List Marked → List Standing
+abbrev pub kept : List Marked → List StandingEntry
 kept [] = []
 kept (m ∷ ms) = if m.gone then kept ms else m.entry ∷ kept ms
 

@@ -2,31 +2,31 @@
 use Rattle.std.specs.Prelude.{◌≡◌, ◌≢◌, ◌⊎◌, ℕ, ◌+◌, ◌<◌, ◌==◌, ◌%◌, ◌≤◌, List, [], ◌∷◌, length, slice_index_or, Option, Some, None, Bool, true, false, if◌then◌else◌}
 use Rattle.std.specs.List.{AllByRecursion}
 use Rattle.log_entry.specs.declared.entry.EntryName.{EntryName}
-use Rattle.core_index.specs.declared.notices.Node.{Node}
-use Rattle.core_index.specs.declared.types.Standing.{Standing}
+use Rattle.core_index.specs.declared.notices.NoticeNode.{NoticeNode}
+use Rattle.core_index.specs.declared.types.StandingEntry.{StandingEntry}
 use Rattle.core_index.specs.Records.{KeyRecord, is_dead}
 
 abbrev pub name_with : ℕ → ℕ → EntryName
 name_with k v = record { key = k; version = v }
 
-abbrev pub node_with : EntryName → Option ℕ → Option ℕ → Node
+abbrev pub node_with : EntryName → Option ℕ → Option ℕ → NoticeNode
 node_with n home next = record { name = n; home = home; next = next }
 
-abbrev pub bare : Node
+abbrev pub bare : NoticeNode
 bare = node_with (name_with 0 0) None None
 
-abbrev pub home_at : List Node → ℕ → Option ℕ
+abbrev pub home_at : List NoticeNode → ℕ → Option ℕ
 home_at ns i = (slice_index_or ns i bare).home
 
-abbrev pub name_at : List Node → ℕ → EntryName
+abbrev pub name_at : List NoticeNode → ℕ → EntryName
 name_at ns i = (slice_index_or ns i bare).name
 
-abbrev pub next_at : List Node → ℕ → Option ℕ
+abbrev pub next_at : List NoticeNode → ℕ → Option ℕ
 next_at ns i = (slice_index_or ns i bare).next
 
 -- the places, how many of them have a name, and for how many more there is room
 pub record Book : Type 0 where
-  pub nodes : List Node
+  pub nodes : List NoticeNode
   pub used : ℕ
   pub spare : ℕ
 
@@ -42,12 +42,12 @@ is_for home None = false
 is_for home (Some h) = h == home
 
 -- the place has a name for this home
-pub record IsFor (ns : List Node) (home i : ℕ) : Type 0 where
+pub record IsFor (ns : List NoticeNode) (home i : ℕ) : Type 0 where
   pub within : i < length ns
-  pub here : (d : Node) → is_for home (slice_index_or ns i d).home ≡ true
+  pub here : (d : NoticeNode) → is_for home (slice_index_or ns i d).home ≡ true
 
 -- no place has a name for this home
-abbrev pub LacksHome : ℕ → List Node → Type 0
+abbrev pub LacksHome : ℕ → List NoticeNode → Type 0
 LacksHome home ns = AllByRecursion (λ n. is_for home n.home ≡ false) ns
 
 -- Names are linked in eight chains by their homes, and free places in one behind these.
@@ -56,7 +56,7 @@ chain_of None = 8
 chain_of (Some home) = home % 8
 
 -- The places of these numbers are met from one on, and no others.
-abbrev pub Follows : List Node → Option ℕ → List ℕ → Type 0
+abbrev pub Follows : List NoticeNode → Option ℕ → List ℕ → Type 0
 Follows ns at [] = at ≡ None
 Follows ns at (x ∷ xs) = (at ≡ Some x) × (x < length ns) × Follows ns (next_at ns x) xs
 
@@ -72,14 +72,14 @@ Once [] = Unit {0}
 Once (x ∷ xs) = Lacks x xs × Once xs
 
 -- The chain that begins at a place has exactly the places of its homes, each once.
-pub record IsChain (ns : List Node) (at : Option ℕ) (c : ℕ) : Type 0 where
+pub record IsChain (ns : List NoticeNode) (at : Option ℕ) (c : ℕ) : Type 0 where
   pub numbers : List ℕ
   pub follows : Follows ns at numbers
   pub once : Once numbers
   pub own : AllByRecursion (λ x. chain_of (home_at ns x) ≡ c) numbers
   pub all : (j : ℕ) → j < length ns → chain_of (home_at ns j) ≡ c → In j numbers
 
-pub record AreChains (ns : List Node) (hs : List (Option ℕ)) : Type 0 where
+pub record AreChains (ns : List NoticeNode) (hs : List (Option ℕ)) : Type 0 where
   pub nine : length hs ≡ 9
   pub each : (c : ℕ) (d : Option ℕ) → c < 9 → IsChain ns (slice_index_or hs c d) c
 
@@ -87,26 +87,27 @@ abbrev pub one_used : Option ℕ → ℕ
 one_used None = 0
 one_used (Some h) = 1
 
-abbrev pub count_used : List Node → ℕ
+abbrev pub count_used : List NoticeNode → ℕ
 count_used [] = 0
 count_used (n ∷ ns) = one_used n.home + count_used ns
 
 -- What is true of the fields of such a book.
-pub record IsBook (ns : List Node) (hs : List (Option ℕ)) (used spare : ℕ) : Type 0 where
+pub record IsBook (ns : List NoticeNode) (hs : List (Option ℕ)) (used spare : ℕ) : Type 0 where
   pub chains : AreChains ns hs
   pub count : used ≡ count_used ns
   pub room : spare + used ≤ length ns
 
 -- free places were added
-pub record Grows (old new : List Node) : Type 0 where
+pub record Grows (old new : List NoticeNode) : Type 0 where
   pub longer : length old ≤ length new
-  pub same : (i : ℕ) (d : Node) → i < length old → slice_index_or new i d ≡ slice_index_or old i d
+  pub same : (i : ℕ) (d : NoticeNode) → i < length old
+      → slice_index_or new i d ≡ slice_index_or old i d
   pub count : count_used new ≡ count_used old
 
-abbrev pub NotedIfDead : Book → ℕ → KeyRecord → Standing → Type 0
+abbrev pub NotedIfDead : Book → ℕ → KeyRecord → StandingEntry → Type 0
 NotedIfDead b k r s = is_dead r s.version ≡ true → Noted b s.home (name_with k s.version)
 
 -- how many entries of the list are not dead
-abbrev pub count_lively : KeyRecord → List Standing → ℕ
+abbrev pub count_lively : KeyRecord → List StandingEntry → ℕ
 count_lively r [] = 0
 count_lively r (s ∷ ss) = (if is_dead r s.version then 0 else 1) + count_lively r ss

@@ -9,19 +9,19 @@ use Rattle.core_index.specs.declared.types.Look.{Look}
 use Rattle.core_index.specs.declared.types.Look.TheVariants as looks
 use Rattle.core_index.specs.declared.types.Record.{Record}
 use Rattle.core_index.specs.declared.types.Standee.{Standee}
-use Rattle.core_index.specs.declared.types.Standing.{Standing}
+use Rattle.core_index.specs.declared.types.StandingEntry.{StandingEntry}
 
 -- the last version, what it left, and the entries that stand in a log
 pub record KeyRecord : Type 0 where
   pub version : ℕ
   pub body : Body
-  pub standing : List Standing
+  pub standing : List StandingEntry
 
-abbrev pub standing_with : ℕ → ℕ → Bool → Standing
+abbrev pub standing_with : ℕ → ℕ → Bool → StandingEntry
 standing_with v home told = record { version = v; home = home; told = told }
 
 -- The entries that stand are a map from versions.
-abbrev pub standing_at : List Standing → ℕ → Option Standing
+abbrev pub standing_at : List StandingEntry → ℕ → Option StandingEntry
 standing_at [] v = None
 standing_at (s ∷ ss) v = if s.version == v then Some s else standing_at ss v
 
@@ -31,7 +31,7 @@ is_tombstone (bodies.Embedded b) = false
 is_tombstone bodies.Tombstone = true
 
 -- no other version stands
-abbrev pub stands_alone : List Standing → ℕ → Bool
+abbrev pub stands_alone : List StandingEntry → ℕ → Bool
 stands_alone ss v = list_all (λ s. s.version == v) ss
 
 -- A version is dead where a later one is finished. A delete that is the last version is dead once no other version stands.
@@ -51,7 +51,7 @@ abbrev pub last_of : Option KeyRecord → ℕ
 last_of None = 0
 last_of (Some r) = r.version
 
-abbrev pub standing_of : Option KeyRecord → List Standing
+abbrev pub standing_of : Option KeyRecord → List StandingEntry
 standing_of None = []
 standing_of (Some r) = r.standing
 
@@ -73,13 +73,13 @@ settled o v body home = record {
   standing = standing_of o ++ standing_with v home false ∷ [];
 }
 
-abbrev pub with_told : List Standing → ℕ → List Standing
+abbrev pub with_told : List StandingEntry → ℕ → List StandingEntry
 with_told [] v = []
 with_told (s ∷ ss) v = if s.version == v then (standing_with s.version s.home true) ∷ ss
     else s ∷ with_told ss v
 
 -- how many entries were not told
-abbrev pub count_untold : List Standing → ℕ
+abbrev pub count_untold : List StandingEntry → ℕ
 count_untold [] = 0
 count_untold (s ∷ ss) = (if s.told then 0 else 1) + count_untold ss
 
@@ -87,14 +87,14 @@ count_untold (s ∷ ss) = (if s.told then 0 else 1) + count_untold ss
 abbrev pub told_in : ℕ → KeyRecord → KeyRecord
 told_in v r = record { version = r.version; body = r.body; standing = with_told r.standing v }
 
-abbrev pub others : ℕ → List Standing → List Standing
+abbrev pub others : ℕ → List StandingEntry → List StandingEntry
 others v ss = filter (λ s. not (s.version == v)) ss
 
 -- the record once a version stands in no log
 abbrev pub without : ℕ → KeyRecord → KeyRecord
 without v r = record { version = r.version; body = r.body; standing = others v r.standing }
 
-abbrev pub is_empty : List Standing → Bool
+abbrev pub is_empty : List StandingEntry → Bool
 is_empty [] = true
 is_empty (s ∷ ss) = false
 
@@ -124,7 +124,7 @@ abbrev pub Shows : Option KeyRecord → Look → Type 0
 Shows None l = l ≡ looks.Unknown
 Shows (Some r) l = ShowsBody r.body l
 
-abbrev pub untold : Standee → Standing
+abbrev pub untold : Standee → StandingEntry
 untold s = standing_with s.version s.home false
 
 -- the homes of entries as a map from versions; the first entry of a version counts
@@ -132,11 +132,11 @@ abbrev pub homes_of : List Standee → List (ℕ × ℕ)
 homes_of [] = []
 homes_of (s ∷ ss) = insert_entry nat_cmp (homes_of ss) s.version s.home
 
-abbrev pub untold_at : (ℕ × ℕ) → Standing
+abbrev pub untold_at : (ℕ × ℕ) → StandingEntry
 untold_at e = standing_with e.0 e.1 false
 
 -- the entries by rising version
-abbrev pub by_version : List Standee → List Standing
+abbrev pub by_version : List Standee → List StandingEntry
 by_version ss = map untold_at (homes_of ss)
 
 -- what is known of a key at the start: no death was told yet

@@ -1,9 +1,9 @@
 -- What the index keeps of a key: its record, where it has one, and room for changes to come.
 use Rattle.std.specs.Prelude.{◌≡◌, ◌≢◌, ◌&&◌, Bool, is_none, ℕ, ◌+◌, ◌≤◌, ◌==◌, List, [], Option, Some, None, option_map, if◌then◌else◌, ◌⊎◌}
 use Rattle.std.specs.List.{AllByRecursion}
-use Rattle.core_index.specs.declared.types.Head.{Head}
+use Rattle.core_index.specs.declared.types.LastChange.{LastChange}
 use Rattle.core_index.specs.declared.types.Standee.{Standee}
-use Rattle.core_index.specs.declared.types.Standing.{Standing}
+use Rattle.core_index.specs.declared.types.StandingEntry.{StandingEntry}
 use Rattle.core_index.specs.Marks.{Marks}
 use Rattle.core_index.specs.Records.{KeyRecord, standing_at, is_dead, last_of, told_in, Awaits}
 
@@ -15,19 +15,19 @@ pub record Place : Type 0 where
 abbrev pub is_bare : Place → Bool
 is_bare p = is_none p.known && (p.room == 0)
 
-abbrev pub record_with : Head → List Standing → KeyRecord
+abbrev pub record_with : LastChange → List StandingEntry → KeyRecord
 record_with h ss = record { version = h.version; body = h.body; standing = ss }
 
-abbrev pub known_with : Option Head → List Standing → Option KeyRecord
+abbrev pub known_with : Option LastChange → List StandingEntry → Option KeyRecord
 known_with None ss = None
 known_with (Some h) ss = Some (record_with h ss)
 
 -- no entry stands above the last version, and none at all without a record
-abbrev pub AreBelow : Option Head → List Standing → Type 0
+abbrev pub AreBelow : Option LastChange → List StandingEntry → Type 0
 AreBelow None ss = ss ≡ []
 AreBelow (Some h) ss = AllByRecursion (λ s. s.version ≤ h.version) ss
 
-abbrev pub home_in : Option Standing → Option ℕ
+abbrev pub home_in : Option StandingEntry → Option ℕ
 home_in None = None
 home_in (Some s) = Some s.home
 
@@ -40,7 +40,7 @@ alive_at None = None
 alive_at (Some r) = home_alive r
 
 -- What is true of a slot's fields: `alive` is the home of the last version's entry, so that no change looks for it among the entries.
-pub record IsSlot (h : Option Head) (m : Marks) (room : ℕ) (alive : Option ℕ) : Type 0 where
+pub record IsSlot (h : Option LastChange) (m : Marks) (room : ℕ) (alive : Option ℕ) : Type 0 where
   pub below : AreBelow h m.items
   pub top : m.top ≤ last_of (known_with h m.items)
   pub fits : room ≤ m.room

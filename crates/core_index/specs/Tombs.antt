@@ -5,8 +5,8 @@ use Rattle.log_entry.specs.declared.entry.Body.TheVariants as bodies
 use Rattle.log_entry.specs.declared.entry.EntryName.{EntryName}
 use Rattle.core_index.specs.declared.types.Fate.{Fate}
 use Rattle.core_index.specs.declared.types.Fate.TheVariants.{Untold, Told, Gone, Moved}
-use Rattle.core_index.specs.declared.types.Head.{Head}
-use Rattle.core_index.specs.declared.types.Standing.{Standing}
+use Rattle.core_index.specs.declared.types.LastChange.{LastChange}
+use Rattle.core_index.specs.declared.types.StandingEntry.{StandingEntry}
 use Rattle.core_index.specs.declared.types.Tombstone.{Tombstone}
 use Rattle.core_index.specs.Records.{KeyRecord, standing_with}
 use Rattle.core_index.specs.Slots.{Place}
@@ -25,7 +25,7 @@ tomb_home t = home_of t.version_and_home
 abbrev pub name_of : Tombstone → EntryName
 name_of t = record { key = key_of t; version = tomb_version t }
 
-abbrev pub deleted : ℕ → List Standing → KeyRecord
+abbrev pub deleted : ℕ → List StandingEntry → KeyRecord
 deleted v ss = record { version = v; body = bodies.Tombstone; standing = ss }
 
 abbrev pub left_by : Fate → ℕ → ℕ → Option KeyRecord
@@ -45,21 +45,21 @@ IsThere Moved = ⊥
 abbrev pub StandsAs : ℕ → Tombstone → Type 0
 StandsAs v t = ((tomb_version t) ≡ v) × IsThere t.fate
 
-abbrev pub list_of : Option Standing → List Standing
+abbrev pub list_of : Option StandingEntry → List StandingEntry
 list_of None = []
 list_of (Some s) = s ∷ []
 
-abbrev pub standing_by : Fate → ℕ → ℕ → Option Standing
+abbrev pub standing_by : Fate → ℕ → ℕ → Option StandingEntry
 standing_by Untold v home = Some (standing_with v home false)
 standing_by Told v home = Some (standing_with v home true)
 standing_by Gone v home = None
 standing_by Moved v home = None
 
 -- the entry, where it stands
-abbrev pub standing_left : Tombstone → Option Standing
+abbrev pub standing_left : Tombstone → Option StandingEntry
 standing_left t = standing_by t.fate (tomb_version t) (tomb_home t)
 
-abbrev pub delete_at : ℕ → Head
+abbrev pub delete_at : ℕ → LastChange
 delete_at v = record { version = v; body = bodies.Tombstone }
 
 -- the record of the key, where it is not elsewhere

@@ -7,7 +7,7 @@ ghost use Rattle.core_index.specs.Starts.{IsAhead};
 ghost use Rattle.core_index.specs.Index.{Admits, Changes, LessRoom, SameRoom, room_at, IsCompact, IsCompactLive, ToldAt, all_places, all_mortal, all_untold, known_at};
 
 use crate::map::{enter_at, forget_there, give_back_at, gone_at, has, reserve_at, tell_at};
-use crate::slot::Slot;
+use crate::slot::KeySlot;
 use crate::start_keys::StartKeys;
 use crate::tombstones::tombstone_of;
 use crate::types::{LiveKey, Standee, Tombstone};
@@ -29,7 +29,7 @@ pub fn copy_of(alloc: Global, body: &Body) -> Result<Body, Memory>
 
 /// What is known of a key at the start, where it fits into the list of deleted keys.
 pub fn compact(
-    slots: &BTreeMap<Key, Slot>,
+    slots: &BTreeMap<Key, KeySlot>,
     start: &StartKeys,
     key: Key,
     version: Version,
@@ -52,7 +52,7 @@ pub fn compact(
 
 /// The same, where it fits into the list of keys with a value.
 pub fn compact_live(
-    slots: &BTreeMap<Key, Slot>,
+    slots: &BTreeMap<Key, KeySlot>,
     start: &StartKeys,
     key: Key,
     version: Version,
@@ -72,7 +72,7 @@ pub fn compact_live(
 /// Makes room for one more change of a key. It is in the map then.
 pub fn admit_at(
     alloc: Global,
-    slots: &mut BTreeMap<Key, Slot>,
+    slots: &mut BTreeMap<Key, KeySlot>,
     start: &mut StartKeys,
     key: Key,
 ) -> Result<(), Memory>
@@ -94,7 +94,7 @@ pub fn admit_at(
 
 /// Tells a home of a dead entry, where it waits to be told.
 pub fn tell_in(
-    slots: &mut BTreeMap<Key, Slot>,
+    slots: &mut BTreeMap<Key, KeySlot>,
     start: &mut StartKeys,
     name: EntryName,
     home: u32,
@@ -117,7 +117,7 @@ pub fn tell_in(
 
 /// Takes an entry out of those that stand. Gives the entry that died by it.
 pub fn gone_in(
-    slots: &mut BTreeMap<Key, Slot>,
+    slots: &mut BTreeMap<Key, KeySlot>,
     start: &mut StartKeys,
     name: EntryName,
 ) -> Option<Standee>
@@ -143,7 +143,7 @@ pub fn gone_in(
 }
 
 /// Takes out the record of a key that is deleted and of which nothing stands.
-pub fn forget_in(slots: &mut BTreeMap<Key, Slot>, start: &mut StartKeys, key: Key)
+pub fn forget_in(slots: &mut BTreeMap<Key, KeySlot>, start: &mut StartKeys, key: Key)
     requires { IsTrue (is_forgettable (known_at (all_places slots.old.entries start.old)
         key)) }
     ensures change { Changes (all_places slots.old.entries start.old)
@@ -160,7 +160,7 @@ pub fn forget_in(slots: &mut BTreeMap<Key, Slot>, start: &mut StartKeys, key: Ke
 }
 
 /// Gives back the room for one change of a key of the map. Nothing is kept of a key that has neither room nor a record.
-pub fn give_back_in(slots: &mut BTreeMap<Key, Slot>, start: &mut StartKeys, key: Key)
+pub fn give_back_in(slots: &mut BTreeMap<Key, KeySlot>, start: &mut StartKeys, key: Key)
     requires { 0 < room_at slots.old.entries key }
     ensures less { LessRoom (all_places slots.old.entries start.old)
         (all_places slots.new.entries start.new) key }

@@ -5,7 +5,7 @@ ghost use Rattle.core_index.specs.Records.{is_dead, is_tombstone, Awaits};
 ghost use Rattle.core_index.specs.Slots.{record_with};
 
 use crate::entries::Entries;
-use crate::types::Head;
+use crate::types::LastChange;
 use fs_model::Version;
 use log_entry::Body;
 
@@ -17,7 +17,7 @@ pub fn is_tombstone(body: &Body) -> bool
 }
 
 /// Whether a version is dead.
-pub fn is_dead(head: &Head, standing: &Entries, version: Version) -> bool
+pub fn is_dead(head: &LastChange, standing: &Entries, version: Version) -> bool
     ensures { result ≡ is_dead (record_with head.now standing.now.items) version }
 {
     let newest = head.version;
@@ -26,7 +26,7 @@ pub fn is_dead(head: &Head, standing: &Entries, version: Version) -> bool
 }
 
 /// Whether a version stands at this home, is dead, and was not told.
-pub fn awaits(head: &Head, standing: &Entries, version: Version, home: u32) -> bool
+pub fn awaits(head: &LastChange, standing: &Entries, version: Version, home: u32) -> bool
     ensures { Decides result (Awaits (Some (record_with head.now standing.now.items)) home
         version) }
 {

@@ -9,8 +9,8 @@ ghost use Rattle.core_index.specs.Starts.{IsAhead};
 ghost use Rattle.core_index.specs.Index.{IsIndex, Tells, ToldAt, all_places, all_mortal, all_untold, known_at};
 
 use crate::compact::tell_in;
-use crate::notices::Notices;
-use crate::slot::Slot;
+use crate::notices::DeathNotices;
+use crate::slot::KeySlot;
 use crate::start_keys::StartKeys;
 use crate::tombstones::{home_of, name_of};
 use crate::types::{Standee, Tombstone};
@@ -19,7 +19,7 @@ use log_entry::EntryName;
 use std::collections::BTreeMap;
 
 /// Notes an entry that died, where one did.
-pub fn note_dead(notices: &mut Notices, key: Key, dead: Option<Standee>)
+pub fn note_dead(notices: &mut DeathNotices, key: Key, dead: Option<Standee>)
     requires { count_dead dead ≤ notices.old.spare }
     ensures added { (v h : ℕ) → dead ≡ Some (standee_with v h)
         → Noted notices.new h (name_with key v) }
@@ -37,9 +37,9 @@ pub fn note_dead(notices: &mut Notices, key: Key, dead: Option<Standee>)
 
 /// Tells a home of a dead entry. A name that is noted and does not wait any more is passed over.
 pub fn next_dead(
-    slots: &mut BTreeMap<Key, Slot>,
+    slots: &mut BTreeMap<Key, KeySlot>,
     start: &mut StartKeys,
-    notices: &mut Notices,
+    notices: &mut DeathNotices,
     home: u32,
 ) -> Option<EntryName>
     requires { IsIndex slots.old.entries start.old notices.old }
@@ -63,9 +63,9 @@ pub fn next_dead(
 
 // The same where no name is noted for the home: of the keys that were deleted before the start.
 fn next_deleted(
-    slots: &mut BTreeMap<Key, Slot>,
+    slots: &mut BTreeMap<Key, KeySlot>,
     start: &mut StartKeys,
-    notices: &Notices,
+    notices: &DeathNotices,
     home: u32,
 ) -> Option<EntryName>
     requires index { IsIndex slots.old.entries start.old notices.now }
@@ -90,7 +90,7 @@ fn next_deleted(
 
 // Tells a home of such a key's entry, where it waits to be told to this home.
 fn tell_passed(
-    slots: &mut BTreeMap<Key, Slot>,
+    slots: &mut BTreeMap<Key, KeySlot>,
     start: &mut StartKeys,
     tombstone: &Tombstone,
     home: u32,

@@ -8,7 +8,7 @@ ghost use Rattle.core_index.specs.Records.{standing_at, standing_with, stands_al
 ghost use Rattle.core_index.specs.Tombs.{list_of};
 ghost use Rattle.core_index.specs.Marks.{kept, mark_of, Rises, IsPlace, IsAbsent, AreMarks, marked, Keeps};
 
-use crate::types::{Marked, Standee, Standing};
+use crate::types::{Marked, Standee, StandingEntry};
 use fs_model::{Memory, Version};
 use std::alloc::Global;
 use std::collections::BTreeMap;
@@ -85,7 +85,7 @@ fn marked(version: Version, home: u32) -> Marked
     ensures { result ≡ marked version home }
 {
     Marked {
-        entry: Standing {
+        entry: StandingEntry {
             version,
             home,
             told: false,
@@ -136,7 +136,7 @@ impl Entries {
     }
 
     /// The one entry of a start, where it stands, and room for one more.
-    pub fn of_one(alloc: Global, only: Option<Standing>, top: Version) -> Result<Entries, Memory>
+    pub fn of_one(alloc: Global, only: Option<StandingEntry>, top: Version) -> Result<Entries, Memory>
         requires { AllByRecursion (λ s. s.version ≤ top) (list_of only) }
         ensures items { IfOk result (λ entries. entries.items ≡ list_of only) }
         ensures room { IfOk result (λ entries. 1 ≤ entries.room) }
@@ -176,7 +176,7 @@ impl Entries {
     }
 
     /// The entry of a version, where it stands.
-    pub fn find(&self, version: Version) -> Option<Standing>
+    pub fn find(&self, version: Version) -> Option<StandingEntry>
         ensures { result ≡ standing_at self.now.items version }
     {
         let Some(place) = place_of(&self.marks, version) else {

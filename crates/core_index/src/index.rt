@@ -11,8 +11,8 @@ use crate::compact::{admit_at, compact, compact_live, copy_of, forget_in, give_b
 use crate::death_notes::{next_dead, note_dead};
 use crate::live_keys::live_in;
 use crate::map::{enter_at, settle_at};
-use crate::notices::Notices;
-use crate::slot::Slot;
+use crate::notices::DeathNotices;
+use crate::slot::KeySlot;
 use crate::start_keys::StartKeys;
 use crate::types::{Look, Record, Spent, Standee};
 use fs_model::{Key, Memory, Version};
@@ -26,9 +26,9 @@ use std::marker::Model;
 /// its last version, takes twelve bytes until it is changed where it was deleted, and 24 beside its value else.
 #[derive(Drop)]
 pub struct CoreIndex {
-    slots: BTreeMap<Key, Slot>,
+    slots: BTreeMap<Key, KeySlot>,
     start: StartKeys,
-    notices: Notices,
+    notices: DeathNotices,
 }
 
 impl Model for CoreIndex {
@@ -69,7 +69,7 @@ impl CoreIndex {
         Ok(CoreIndex {
             slots: BTreeMap::new(alloc),
             start: StartKeys::empty(alloc),
-            notices: Notices::open(alloc)?,
+            notices: DeathNotices::open(alloc)?,
         })
     }
 
@@ -109,7 +109,7 @@ impl CoreIndex {
         ensures { OnOk result (EntersAs self.old self.new start.key (opened start)) }
     {
         let key = start.key;
-        let slot = Slot::of(alloc, start)?;
+        let slot = KeySlot::of(alloc, start)?;
         self.notices.reserve(slot.len())?;
         slot.note_dead(key, &mut self.notices);
         enter_at(&mut self.slots, key, slot)?;

@@ -13,7 +13,7 @@ ghost use Rattle.core_index.specs.Starts.{started};
 
 use crate::live_list::{LiveList, key_of, version_of};
 use crate::map::has;
-use crate::slot::Slot;
+use crate::slot::KeySlot;
 use crate::start_keys::StartKeys;
 use crate::types::{LiveFate, LiveKey};
 use fs_model::{Key, Memory, Version};
@@ -22,7 +22,7 @@ use std::alloc::Global;
 use std::collections::BTreeMap;
 
 // The live keys of the map with their versions, in its order.
-fn live_slots(alloc: Global, slots: &BTreeMap<Key, Slot>) -> Result<Vec<EntryName>, Memory>
+fn live_slots(alloc: Global, slots: &BTreeMap<Key, KeySlot>) -> Result<Vec<EntryName>, Memory>
     ensures names { IfOk result (λ names. names.items ≡ live_names slots.now.entries) }
     ensures ordered { IfOk result (λ _. IsOrdered nat_cmp slots.now) }
 {
@@ -36,7 +36,7 @@ fn live_slots(alloc: Global, slots: &BTreeMap<Key, Slot>) -> Result<Vec<EntryNam
 }
 
 // The version of a live key that the map has no place for.
-fn version_left(slots: &BTreeMap<Key, Slot>, live: &LiveKey) -> Option<Version>
+fn version_left(slots: &BTreeMap<Key, KeySlot>, live: &LiveKey) -> Option<Version>
     ensures { result ≡ version_left slots.now.entries live.now }
 {
     if has(slots, key_of(live)) {
@@ -51,7 +51,7 @@ fn version_left(slots: &BTreeMap<Key, Slot>, live: &LiveKey) -> Option<Version>
 // Adds the name of such a key.
 fn add_left(
     names: &mut Vec<EntryName>,
-    slots: &BTreeMap<Key, Slot>,
+    slots: &BTreeMap<Key, KeySlot>,
     live: &LiveKey,
 ) -> Result<(), Memory>
     ensures { OnOk result (names.new.items ≡ names.old.items
@@ -69,7 +69,7 @@ fn add_left(
 // Adds those of the start that the map has no place for.
 fn add_started(
     names: &mut Vec<EntryName>,
-    slots: &BTreeMap<Key, Slot>,
+    slots: &BTreeMap<Key, KeySlot>,
     items: &[LiveKey],
 ) -> Result<(), Memory>
     ensures { OnOk result (names.new.items
@@ -84,7 +84,7 @@ fn add_started(
 // All live keys, those of the map first.
 fn live_unsorted(
     alloc: Global,
-    slots: &BTreeMap<Key, Slot>,
+    slots: &BTreeMap<Key, KeySlot>,
     live: &LiveList,
 ) -> Result<Vec<EntryName>, Memory>
     ensures names { IfOk result (λ names. names.items ≡ live_names slots.now.entries
@@ -100,7 +100,7 @@ fn live_unsorted(
 /// The live keys with their versions, by rising key.
 pub fn live_in(
     alloc: Global,
-    slots: &BTreeMap<Key, Slot>,
+    slots: &BTreeMap<Key, KeySlot>,
     start: &StartKeys,
 ) -> Result<Vec<EntryName>, Memory>
     ensures rising { IfOk result (λ names. IsStrictlyIncreasing (map (λ n. n.key) names.items)) }

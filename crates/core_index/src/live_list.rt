@@ -9,8 +9,8 @@ ghost use Rattle.core_index.specs.Slots.{alive_at, count_of};
 ghost use Rattle.core_index.specs.Lives.{entry_home, entry_version, live_key, bytes_in, body_in, IsWithin, valued, IsStanding, live_place, live_at, turned, AllLess, KeysRise, IsLiveSpot, IsNotThere, placed_lives, FitsLive};
 
 use crate::short_names::{self, short_of};
-use crate::slot::Slot;
-use crate::types::{Holding, LiveFate, LiveKey, Look, Record, SHARE, Standee};
+use crate::slot::KeySlot;
+use crate::types::{ValuePlace, LiveFate, LiveKey, Look, Record, SHARE, Standee};
 use fs_model::{Key, Memory, Value, Version};
 use log_entry::{Body, EntryName};
 use std::alloc::Global;
@@ -59,7 +59,7 @@ fn home_of(live: &LiveKey) -> u32
 }
 
 // Where the value will be, once its bytes are behind so many others.
-fn held_of(body: &Body, start: usize) -> Option<Holding>
+fn held_of(body: &Body, start: usize) -> Option<ValuePlace>
     ensures body { IfSome result (λ held. (bytes : List ℕ) → length bytes ≡ start
         → body_in (bytes ++ bytes_in body.now) held ≡ body.now) }
     ensures within { IfSome result (λ held. (bytes : List ℕ) → length bytes ≡ start
@@ -71,14 +71,14 @@ fn held_of(body: &Body, start: usize) -> Option<Holding>
             if *pointer >= SHARE {
                 return None;
             }
-            Some(Holding::InBlock(*pointer as u32))
+            Some(ValuePlace::InBlock(*pointer as u32))
         }
         Body::Embedded(value) => {
             let size = value.bytes().len();
             if size >= BYTES as usize || start as u64 >= SHARE {
                 return None;
             }
-            Some(Holding::Beside(start as u32, size as u8))
+            Some(ValuePlace::Beside(start as u32, size as u8))
         }
     }
 }
@@ -153,23 +153,23 @@ fn part(bytes: &[u8], start: u32, size: u8) -> &[u8]
     &bytes[start..start + usize::from(size)]
 }
 
-fn show(bytes: &[u8], held: Holding) -> Look<'_>
+fn show(bytes: &[u8], held: ValuePlace) -> Look<'_>
     requires { IsWithin bytes.now held }
     ensures { ShowsBody (body_in bytes.now held) result }
 {
     match held {
-        Holding::InBlock(pointer) => Look::Block(u64::from(pointer)),
-        Holding::Beside(start, size) => Look::Embedded(part(bytes, start, size)),
+        ValuePlace::InBlock(pointer) => Look::Block(u64::from(pointer)),
+        ValuePlace::Beside(start, size) => Look::Embedded(part(bytes, start, size)),
     }
 }
 
-fn body_of(alloc: Global, bytes: &[u8], held: Holding) -> Result<Body, Memory>
+fn body_of(alloc: Global, bytes: &[u8], held: ValuePlace) -> Result<Body, Memory>
     requires { IsWithin bytes.now held }
     ensures { IfOk result (λ body. body ≡ body_in bytes.now held) }
 {
     match held {
-        Holding::InBlock(pointer) => Ok(Body::Pointer(u64::from(pointer))),
-        Holding::Beside(start, size) => {
+        ValuePlace::InBlock(pointer) => Ok(Body::Pointer(u64::from(pointer))),
+        ValuePlace::Beside(start, size) => {
             let own = Vec::from_slice(alloc, part(bytes, start, size))?;
             Ok(Body::Embedded(Value::of(own)))
         }
@@ -194,7 +194,7 @@ fn slot_with(
     version: Version,
     body: Body,
     standing: &[Standee],
-) -> Result<Slot, Memory>
+) -> Result<KeySlot, Memory>
     requires { AllByRecursion (λ s. s.version ≤ version) standing.now }
     ensures { IfOk result (λ slot. slot ≡ record {
       known = Some (opened_with version body standing.now);
@@ -207,20 +207,20 @@ fn slot_with(
         body,
         standing: Vec::from_slice(alloc, standing)?,
     };
-    let mut slot = Slot::of(alloc, start)?;
+    let mut slot = KeySlot::of(alloc, start)?;
     slot.reserve()?;
     Ok(slot)
 }
 
 // What there is of a key, where it is not elsewhere, and room for one change.
-fn slot_of(alloc: Global, bytes: &[u8], live: &LiveKey) -> Result<Slot, Memory>
+fn slot_of(alloc: Global, bytes: &[u8], live: &LiveKey) -> Result<KeySlot, Memory>
     requires { IsWithin bytes.now live.now.held }
     ensures { IfOk result (λ slot. slot ≡ record { known = valued bytes.now live.now; room = 1 }) }
 {
     let key = key_of(live);
     let version = version_of(live);
     match live.fate {
-        LiveFate::Moved => Slot::with_room(alloc),
+        LiveFate::Moved => KeySlot::with_room(alloc),
         LiveFate::Gone => slot_with(alloc, key, version, body_of(alloc, bytes, live.held)?, &[]),
         LiveFate::Stands => {
             let only = Standee {
@@ -340,7 +340,7 @@ impl LiveList {
     }
 
     /// What there is of such a key, with room for one change.
-    pub fn slot(&self, alloc: Global, live: &LiveKey) -> Result<Slot, Memory>
+    pub fn slot(&self, alloc: Global, live: &LiveKey) -> Result<KeySlot, Memory>
         requires { IsWithin self.now.bytes live.now.held }
         ensures { IfOk result (λ slot. slot ≡ record {
           known = valued self.now.bytes live.now;

@@ -4,15 +4,15 @@ ghost use Rattle.core_index.specs.Records.{Awaits, settled, last_of, block_of, i
 ghost use Rattle.core_index.specs.Slots.{mortal, count_dead, is_bare, OnlyDead};
 ghost use Rattle.core_index.specs.Index.{Step, ToldAt, known_at, room_at, mortal_in, all_mortal, place_at, gone_place, Forgets, GivesBack};
 
-use crate::slot::Slot;
-use crate::types::{Settled, Standee};
+use crate::slot::KeySlot;
+use crate::types::{ChangeEffect, Standee};
 use fs_model::{Key, Memory, Version};
 use log_entry::{Body, EntryName};
 use std::alloc::Global;
 use std::collections::BTreeMap;
 
 /// Whether the map has a place for a key.
-pub fn has(slots: &BTreeMap<Key, Slot>, key: Key) -> bool
+pub fn has(slots: &BTreeMap<Key, KeySlot>, key: Key) -> bool
     ensures { result ≡ is_some (place_at slots.now.entries key) }
 {
     slots.get(&key).is_some()
@@ -20,12 +20,12 @@ pub fn has(slots: &BTreeMap<Key, Slot>, key: Key) -> bool
 
 /// Records a finished change of a key that has room for it.
 pub fn settle_at(
-    slots: &mut BTreeMap<Key, Slot>,
+    slots: &mut BTreeMap<Key, KeySlot>,
     key: Key,
     version: Version,
     body: Body,
     home: u32,
-) -> Settled
+) -> ChangeEffect
     requires room { 0 < room_at slots.old.entries key }
     requires next { version ≡ last_of (known_at slots.old.entries key) + 1 }
     ensures step { Step slots.old.entries slots.new.entries key
@@ -41,7 +41,7 @@ pub fn settle_at(
 {
     match slots.get_mut(&key) {
         Some(slot) => slot.settle(version, body, home),
-        None => Settled {
+        None => ChangeEffect {
             replaced: None,
             dead: None,
         },
@@ -49,7 +49,7 @@ pub fn settle_at(
 }
 
 /// Makes room for one more change of a key, as it is in the map.
-pub fn reserve_at(alloc: Global, slots: &mut BTreeMap<Key, Slot>, key: Key) -> Result<(), Memory>
+pub fn reserve_at(alloc: Global, slots: &mut BTreeMap<Key, KeySlot>, key: Key) -> Result<(), Memory>
     ensures ok { OnOk result (Step slots.old.entries slots.new.entries key
         (Some (record {
           known = known_at slots.old.entries key;
@@ -59,12 +59,12 @@ pub fn reserve_at(alloc: Global, slots: &mut BTreeMap<Key, Slot>, key: Key) -> R
 {
     match slots.get_mut(&key) {
         Some(slot) => slot.reserve(),
-        None => enter_at(slots, key, Slot::with_room(alloc)?),
+        None => enter_at(slots, key, KeySlot::with_room(alloc)?),
     }
 }
 
 /// Gives a key this slot.
-pub fn enter_at(slots: &mut BTreeMap<Key, Slot>, key: Key, slot: Slot) -> Result<(), Memory>
+pub fn enter_at(slots: &mut BTreeMap<Key, KeySlot>, key: Key, slot: KeySlot) -> Result<(), Memory>
     ensures ok { OnOk result (Step slots.old.entries slots.new.entries key (Some slot)) }
     ensures err { OnErr result (slots.new.entries ≡ slots.old.entries) }
 {
@@ -73,7 +73,7 @@ pub fn enter_at(slots: &mut BTreeMap<Key, Slot>, key: Key, slot: Slot) -> Result
 }
 
 /// Tells a home of a dead entry, where it waits to be told.
-pub fn tell_at(slots: &mut BTreeMap<Key, Slot>, name: EntryName, home: u32) -> bool
+pub fn tell_at(slots: &mut BTreeMap<Key, KeySlot>, name: EntryName, home: u32) -> bool
     ensures told { result ≡ true → ToldAt slots.old.entries slots.new.entries home name }
     ensures mortal { result ≡ true → all_mortal slots.new.entries ≤ all_mortal slots.old.entries }
     ensures none { result ≡ false → ¬ Awaits (known_at slots.old.entries name.key) home
@@ -87,7 +87,7 @@ pub fn tell_at(slots: &mut BTreeMap<Key, Slot>, name: EntryName, home: u32) -> b
 }
 
 /// Takes an entry out of those that stand. Gives the entry that died by it.
-pub fn gone_at(slots: &mut BTreeMap<Key, Slot>, name: EntryName) -> Option<Standee>
+pub fn gone_at(slots: &mut BTreeMap<Key, KeySlot>, name: EntryName) -> Option<Standee>
     ensures step { Step slots.old.entries slots.new.entries name.key
         (option_map (gone_place name.version) (place_at slots.old.entries name.key)) }
     ensures dead { OnlyDead (known_at slots.old.entries name.key)
@@ -102,7 +102,7 @@ pub fn gone_at(slots: &mut BTreeMap<Key, Slot>, name: EntryName) -> Option<Stand
 }
 
 // Takes a record out, and gives the room that stays.
-fn clear_at(slots: &mut BTreeMap<Key, Slot>, key: Key) -> u64
+fn clear_at(slots: &mut BTreeMap<Key, KeySlot>, key: Key) -> u64
     requires { IsTrue (is_forgettable (known_at slots.old.entries key)) }
     ensures step { Step slots.old.entries slots.new.entries key
         (Some (record { known = None; room = room_at slots.old.entries key })) }
@@ -118,7 +118,7 @@ fn clear_at(slots: &mut BTreeMap<Key, Slot>, key: Key) -> u64
 }
 
 // Takes a record out. Its place goes too, where there is no room to keep.
-fn forget_at(slots: &mut BTreeMap<Key, Slot>, key: Key)
+fn forget_at(slots: &mut BTreeMap<Key, KeySlot>, key: Key)
     requires { IsTrue (is_forgettable (known_at slots.old.entries key)) }
     ensures { Forgets slots.old.entries slots.new.entries key }
 {
@@ -129,7 +129,7 @@ fn forget_at(slots: &mut BTreeMap<Key, Slot>, key: Key)
 }
 
 // Takes the room for one change of a key. Gives whether nothing is left of the key.
-fn lower_at(slots: &mut BTreeMap<Key, Slot>, key: Key) -> bool
+fn lower_at(slots: &mut BTreeMap<Key, KeySlot>, key: Key) -> bool
     requires { 0 < room_at slots.old.entries key }
     ensures step { Step slots.old.entries slots.new.entries key
         (Some (record {
@@ -151,7 +151,7 @@ fn lower_at(slots: &mut BTreeMap<Key, Slot>, key: Key) -> bool
 }
 
 /// Gives back the room for one change of a key. Its place goes too, where nothing is left of it.
-pub fn give_back_at(slots: &mut BTreeMap<Key, Slot>, key: Key)
+pub fn give_back_at(slots: &mut BTreeMap<Key, KeySlot>, key: Key)
     requires { 0 < room_at slots.old.entries key }
     ensures gives { GivesBack slots.old.entries slots.new.entries key }
     ensures nothing { known_at slots.old.entries key ≡ None → room_at slots.old.entries key ≡ 1
@@ -164,7 +164,7 @@ pub fn give_back_at(slots: &mut BTreeMap<Key, Slot>, key: Key)
 }
 
 /// The same where the map may have no place for the key.
-pub fn forget_there(slots: &mut BTreeMap<Key, Slot>, key: Key)
+pub fn forget_there(slots: &mut BTreeMap<Key, KeySlot>, key: Key)
     requires { is_some (place_at slots.old.entries key) ≡ true
         → IsTrue (is_forgettable (known_at slots.old.entries key)) }
     ensures { Forgets slots.old.entries slots.new.entries key }

@@ -20,7 +20,7 @@ const MOST: usize = 4_294_967_295;
 
 /// A place for a name, linked to the next one of its chain. The name is for `home`; a free place has none.
 #[derive(Clone, Copy)]
-pub struct Node {
+pub struct NoticeNode {
     /// What it says in a free place means nothing.
     pub name: EntryName,
     /// The number of a core in the region.
@@ -32,14 +32,14 @@ pub struct Node {
 /// Names for homes, in places that are linked in chains by home. `used` counts the places with a name, and there is
 /// room for `spare` more names. Only `open` and `reserve` take memory.
 #[derive(Drop)]
-pub struct Notices {
-    nodes: Vec<Node>,
+pub struct DeathNotices {
+    nodes: Vec<NoticeNode>,
     heads: Vec<Option<u32>>,
     used: u64,
     spare: u64,
 }
 
-impl Model for Notices {
+impl Model for DeathNotices {
     ghost use Rattle.core_index.specs.Noted.{Book, IsBook};
 
     ghost Value = { Book };
@@ -59,7 +59,7 @@ fn chain_of(home: Option<u32>) -> usize
     }
 }
 
-fn is_for(node: &Node, home: u32) -> bool
+fn is_for(node: &NoticeNode, home: u32) -> bool
     ensures { result ≡ is_for home node.now.home }
 {
     match node.home {
@@ -69,7 +69,7 @@ fn is_for(node: &Node, home: u32) -> bool
 }
 
 // A place with a name for this home. The first of its chain has one, where no two homes share a chain.
-fn place_for(nodes: &[Node], first: u32, home: u32) -> Option<usize>
+fn place_for(nodes: &[NoticeNode], first: u32, home: u32) -> Option<usize>
     requires { first < length nodes.now }
     ensures found { IfSome result (IsFor nodes.now home) }
     ensures none { IfNone result (LacksHome home nodes.now) }
@@ -81,7 +81,7 @@ fn place_for(nodes: &[Node], first: u32, home: u32) -> Option<usize>
     any_for(nodes, home)
 }
 
-fn any_for(nodes: &[Node], home: u32) -> Option<usize>
+fn any_for(nodes: &[NoticeNode], home: u32) -> Option<usize>
     ensures found { IfSome result (IsFor nodes.now home) }
     ensures none { IfNone result (LacksHome home nodes.now) }
 {
@@ -95,7 +95,7 @@ fn any_for(nodes: &[Node], home: u32) -> Option<usize>
 
 // Gives the first place of a chain another name and home, and makes it the first one of the chain of that home.
 fn move_first(
-    nodes: &mut Vec<Node>,
+    nodes: &mut Vec<NoticeNode>,
     heads: &mut Vec<Option<u32>>,
     from: usize,
     first: u32,
@@ -113,7 +113,7 @@ fn move_first(
 {
     let to = chain_of(home);
     let next = nodes[first as usize].next;
-    nodes[first as usize] = Node {
+    nodes[first as usize] = NoticeNode {
         name,
         home,
         next: heads[to],
@@ -123,7 +123,7 @@ fn move_first(
 }
 
 // Writes the name of the first place of a chain over that of another place of it.
-fn write_over(nodes: &mut Vec<Node>, place: usize, first: u32) -> EntryName
+fn write_over(nodes: &mut Vec<NoticeNode>, place: usize, first: u32) -> EntryName
     requires place { place < vec_len nodes.old }
     requires first { first < vec_len nodes.old }
     ensures name { result ≡ (slice_index_or nodes.old.items place bare).name }
@@ -132,9 +132,9 @@ fn write_over(nodes: &mut Vec<Node>, place: usize, first: u32) -> EntryName
         (slice_index_or nodes.old.items first bare).home
         (slice_index_or nodes.old.items place bare).next) }
 {
-    let Node { name, home, .. } = nodes[first as usize];
+    let NoticeNode { name, home, .. } = nodes[first as usize];
     let over = nodes[place];
-    nodes[place] = Node {
+    nodes[place] = NoticeNode {
         name,
         home,
         next: over.next,
@@ -143,7 +143,7 @@ fn write_over(nodes: &mut Vec<Node>, place: usize, first: u32) -> EntryName
 }
 
 // Adds a free place.
-fn grow(nodes: &mut Vec<Node>, heads: &mut Vec<Option<u32>>) -> Result<(), Memory>
+fn grow(nodes: &mut Vec<NoticeNode>, heads: &mut Vec<Option<u32>>) -> Result<(), Memory>
     requires { AreChains nodes.old.items heads.old.items }
     ensures chains { AreChains nodes.new.items heads.new.items }
     ensures grows { Grows nodes.old.items nodes.new.items }
@@ -154,7 +154,7 @@ fn grow(nodes: &mut Vec<Node>, heads: &mut Vec<Option<u32>>) -> Result<(), Memor
         return Err(Memory);
     }
     let at = nodes.len() as u32;
-    nodes.push(Node {
+    nodes.push(NoticeNode {
         name: EntryName { key: 0, version: 0 },
         home: None,
         next: heads[FREE],
@@ -164,7 +164,7 @@ fn grow(nodes: &mut Vec<Node>, heads: &mut Vec<Option<u32>>) -> Result<(), Memor
 }
 
 // Adds so many free places.
-fn grow_by(nodes: &mut Vec<Node>, heads: &mut Vec<Option<u32>>, more: u64) -> Result<(), Memory>
+fn grow_by(nodes: &mut Vec<NoticeNode>, heads: &mut Vec<Option<u32>>, more: u64) -> Result<(), Memory>
     requires { AreChains nodes.old.items heads.old.items }
     ensures chains { AreChains nodes.new.items heads.new.items }
     ensures grows { Grows nodes.old.items nodes.new.items }
@@ -187,12 +187,12 @@ fn no_heads(alloc: Global) -> Result<Vec<Option<u32>>, Memory>
     Ok(heads)
 }
 
-impl Notices {
+impl DeathNotices {
     /// No names, and no room.
-    pub fn open(alloc: Global) -> Result<Notices, Memory>
+    pub fn open(alloc: Global) -> Result<DeathNotices, Memory>
         ensures { IfOk result (λ notices. notices.spare ≡ 0) }
     {
-        Ok(Notices {
+        Ok(DeathNotices {
             nodes: Vec::new(alloc),
             heads: no_heads(alloc)?,
             used: 0,

@@ -11,9 +11,9 @@ ghost use Rattle.core_index.specs.Slots.{alive_at, home_alive, record_with, know
 
 use crate::dead_entries::{awaits, is_dead, is_tombstone};
 use crate::entries::Entries;
-use crate::notices::Notices;
+use crate::notices::DeathNotices;
 use crate::tombstones::{home_of, version_of};
-use crate::types::{Fate, Head, Look, Marked, Record, Settled, Standee, Standing, Tombstone};
+use crate::types::{Fate, LastChange, Look, Marked, Record, ChangeEffect, Standee, StandingEntry, Tombstone};
 use fs_model::{Key, Memory, Version};
 use log_entry::{Body, EntryName};
 use std::alloc::Global;
@@ -23,15 +23,15 @@ use std::mem::replace;
 /// A key's record, where it has one, and room for so many changes to come. No call but `with_room`, `of` and
 /// `reserve` takes memory.
 #[derive(Drop)]
-pub struct Slot {
-    head: Option<Head>,
+pub struct KeySlot {
+    head: Option<LastChange>,
     standing: Entries,
     room: u64,
     // The home of the last version's entry, where it stands and is not dead.
     alive: Option<u32>,
 }
 
-impl Model for Slot {
+impl Model for KeySlot {
     ghost use Rattle.core_index.specs.Slots.{Place, known_with, IsSlot};
 
     ghost Value = { Place };
@@ -41,12 +41,12 @@ impl Model for Slot {
     ghost invariant = { λ a. IsSlot a.head a.standing a.room a.alive };
 }
 
-impl Slot {
+impl KeySlot {
     /// No record, and room for one change.
-    pub fn with_room(alloc: Global) -> Result<Slot, Memory>
+    pub fn with_room(alloc: Global) -> Result<KeySlot, Memory>
         ensures { IfOk result (λ slot. slot ≡ record { known = None; room = 1 }) }
     {
-        Ok(Slot {
+        Ok(KeySlot {
             head: None,
             standing: Entries::with_room(alloc)?,
             room: 1,
@@ -55,17 +55,17 @@ impl Slot {
     }
 
     /// A record at the start, with no room.
-    pub fn of(alloc: Global, start: Record) -> Result<Slot, Memory>
+    pub fn of(alloc: Global, start: Record) -> Result<KeySlot, Memory>
         requires { AllByRecursion (λ s. s.version ≤ start.version) start.standing.items }
         ensures { IfOk result (λ slot. slot ≡ record { known = Some (opened start); room = 0 }) }
     {
         let standing = Entries::of(alloc, start.standing, start.version)?;
-        let head = Head {
+        let head = LastChange {
             version: start.version,
             body: start.body,
         };
         let alive = alive_in(&head, &standing);
-        Ok(Slot {
+        Ok(KeySlot {
             head: Some(head),
             standing,
             room: 0,
@@ -74,13 +74,13 @@ impl Slot {
     }
 
     /// What there is of a key that was deleted before the start, and room for one change.
-    pub fn of_tombstone(alloc: Global, tombstone: &Tombstone) -> Result<Slot, Memory>
+    pub fn of_tombstone(alloc: Global, tombstone: &Tombstone) -> Result<KeySlot, Memory>
         ensures { IfOk result (λ slot. slot ≡ record { known = left_of tombstone.now; room = 1 }) }
     {
         let Some(head) = head_of(tombstone) else {
-            return Slot::with_room(alloc);
+            return KeySlot::with_room(alloc);
         };
-        Ok(Slot {
+        Ok(KeySlot {
             head: Some(head),
             standing: Entries::of_one(alloc, standing_of(tombstone), version_of(tombstone))?,
             room: 1,
@@ -142,7 +142,7 @@ impl Slot {
     }
 
     /// Records a finished change.
-    pub fn settle(&mut self, version: Version, body: Body, home: u32) -> Settled
+    pub fn settle(&mut self, version: Version, body: Body, home: u32) -> ChangeEffect
         requires room { 0 < self.old.room }
         requires next { version ≡ last_of self.old.known + 1 }
         ensures settled { self.new ≡ record {
@@ -158,11 +158,11 @@ impl Slot {
         let before = self.alive;
         self.standing.push(version, home);
         self.room -= 1;
-        let head = Head { version, body };
+        let head = LastChange { version, body };
         self.alive = alive_at_end(&head, &self.standing, home);
         let dead = dead_by(Standee { version, home }, last, before, self.alive);
         let old = replace(&mut self.head, Some(head));
-        Settled {
+        ChangeEffect {
             replaced: block_in(old),
             dead,
         }
@@ -209,7 +209,7 @@ impl Slot {
     }
 
     /// Notes each entry that is dead and was not told.
-    pub fn note_dead(&self, key: Key, notices: &mut Notices)
+    pub fn note_dead(&self, key: Key, notices: &mut DeathNotices)
         requires { length (standing_of self.now.known) ≤ notices.old.spare }
         ensures noted { (v h : ℕ) → Awaits self.now.known h v
             → Noted notices.new h (name_with key v) }
@@ -293,14 +293,14 @@ impl Slot {
 }
 
 // The last change of such a key, where its record is not elsewhere.
-fn head_of(tombstone: &Tombstone) -> Option<Head>
+fn head_of(tombstone: &Tombstone) -> Option<LastChange>
     ensures known { known_with result (list_of (standing_left tombstone.now))
         ≡ left_of tombstone.now }
     ensures head { IfSome result (λ h. h ≡ delete_at (tomb_version tombstone.now)) }
 {
     match tombstone.fate {
         Fate::Moved => None,
-        _ => Some(Head {
+        _ => Some(LastChange {
             version: version_of(tombstone),
             body: Body::Tombstone,
         }),
@@ -308,7 +308,7 @@ fn head_of(tombstone: &Tombstone) -> Option<Head>
 }
 
 // The entry of such a key, where it stands.
-fn standing_of(tombstone: &Tombstone) -> Option<Standing>
+fn standing_of(tombstone: &Tombstone) -> Option<StandingEntry>
     ensures { result ≡ standing_left tombstone.now }
 {
     let told = match tombstone.fate {
@@ -316,7 +316,7 @@ fn standing_of(tombstone: &Tombstone) -> Option<Standing>
         Fate::Told => true,
         _ => return None,
     };
-    Some(Standing {
+    Some(StandingEntry {
         version: version_of(tombstone),
         home: home_of(tombstone),
         told,
@@ -351,7 +351,7 @@ fn died(version: Version, last: Version, before: Option<u32>, after: Option<u32>
 }
 
 // Notes an entry, where it stands and is dead.
-fn note_mark(head: &Head, standing: &Entries, mark: Marked, key: Key, notices: &mut Notices)
+fn note_mark(head: &LastChange, standing: &Entries, mark: Marked, key: Key, notices: &mut DeathNotices)
     requires { length (kept (mark ∷ [])) ≤ notices.old.spare }
     ensures noted { AllByRecursion (NotedIfDead notices.new key
         (record_with head.now standing.now.items)) (kept (mark ∷ [])) }
@@ -373,7 +373,7 @@ fn note_mark(head: &Head, standing: &Entries, mark: Marked, key: Key, notices: &
 }
 
 // Notes each of these entries that is dead.
-fn note_all(head: &Head, standing: &Entries, marks: &[Marked], key: Key, notices: &mut Notices)
+fn note_all(head: &LastChange, standing: &Entries, marks: &[Marked], key: Key, notices: &mut DeathNotices)
     requires { length (kept marks.now) ≤ notices.old.spare }
     ensures noted { AllByRecursion (NotedIfDead notices.new key
         (record_with head.now standing.now.items)) (kept marks.now) }
@@ -387,7 +387,7 @@ fn note_all(head: &Head, standing: &Entries, marks: &[Marked], key: Key, notices
 }
 
 // The home of the last version's entry, which is the last of these and stands there, where it is not dead.
-fn alive_at_end(head: &Head, standing: &Entries, home: u32) -> Option<u32>
+fn alive_at_end(head: &LastChange, standing: &Entries, home: u32) -> Option<u32>
     ensures { result ≡ (if is_dead (record_with head.now standing.now.items) head.now.version then
         None else Some home) }
 {
@@ -399,7 +399,7 @@ fn alive_at_end(head: &Head, standing: &Entries, home: u32) -> Option<u32>
 }
 
 // The home of the last version's entry, looked for among the entries.
-fn alive_of(head: &Option<Head>, standing: &Entries) -> Option<u32>
+fn alive_of(head: &Option<LastChange>, standing: &Entries) -> Option<u32>
     ensures { result ≡ alive_at (known_with head.now standing.now.items) }
 {
     match head {
@@ -408,7 +408,7 @@ fn alive_of(head: &Option<Head>, standing: &Entries) -> Option<u32>
     }
 }
 
-fn alive_in(head: &Head, standing: &Entries) -> Option<u32>
+fn alive_in(head: &LastChange, standing: &Entries) -> Option<u32>
     ensures { result ≡ home_alive (record_with head.now standing.now.items) }
 {
     if is_dead(head, standing, head.version) {
@@ -420,12 +420,12 @@ fn alive_in(head: &Head, standing: &Entries) -> Option<u32>
     }
 }
 
-fn block_in(head: Option<Head>) -> Option<u64>
+fn block_in(head: Option<LastChange>) -> Option<u64>
     ensures { result ≡ block_of (known_with head []) }
 {
     match head {
         Some(
-            Head {
+            LastChange {
                 body: Body::Pointer(pointer),
                 ..
             },

@@ -9,7 +9,7 @@ ghost use Rattle.core_index.specs.Tombs.{tomb_home, key_of, name_of, AreLess, pa
 ghost use Rattle.core_index.specs.Lives.{live_key, live_place, bytes_in, AllLess, IsWithin};
 
 use crate::live_list::{LiveList, count_alive, last_of};
-use crate::slot::Slot;
+use crate::slot::KeySlot;
 use crate::tombstones::Tombstones;
 use crate::types::{LiveKey, Look, Tombstone};
 use fs_model::{Key, Memory, Version};
@@ -121,7 +121,7 @@ impl StartKeys {
     }
 
     /// What there is of a key, with room for one change; nothing where it is not among these.
-    pub fn slot(&self, alloc: Global, key: Key) -> Result<Option<Slot>, Memory>
+    pub fn slot(&self, alloc: Global, key: Key) -> Result<Option<KeySlot>, Memory>
         ensures slot { IfOk result (λ found. IfSome found (λ slot. slot ≡ record {
           known = known_at (started self.now) key;
           room = 1;
@@ -135,7 +135,7 @@ impl StartKeys {
         let Some(tombstone) = self.deleted.find(key) else {
             return Ok(None);
         };
-        Ok(Some(Slot::of_tombstone(alloc, &tombstone)?))
+        Ok(Some(KeySlot::of_tombstone(alloc, &tombstone)?))
     }
 
     /// Tells a home of a dead entry, where it waits to be told.

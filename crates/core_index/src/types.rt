@@ -46,7 +46,7 @@ pub struct Spent {
 
 /// An entry that stands in a log, and whether its death was told to its home.
 #[derive(Clone, Copy)]
-pub struct Standing {
+pub struct StandingEntry {
     /// Which change of its key it is, counted from 1.
     pub version: Version,
     /// The core in whose log it stands, by its number in the region.
@@ -59,14 +59,14 @@ pub struct Standing {
 #[derive(Clone, Copy)]
 pub struct Marked {
     /// What it was, also where it is gone.
-    pub entry: Standing,
+    pub entry: StandingEntry,
     /// It stands in no log.
     pub gone: bool,
 }
 
 /// The last change of a key.
 #[derive(Drop)]
-pub struct Head {
+pub struct LastChange {
     /// The key's last.
     pub version: Version,
     /// What it left.
@@ -75,7 +75,7 @@ pub struct Head {
 
 /// What a finished change did: the block of the value before it, and the entry that died by it.
 #[derive(Clone, Copy)]
-pub struct Settled {
+pub struct ChangeEffect {
     /// The block's first byte in the region divided by 256.
     pub replaced: Option<u64>,
     /// None where none died.
@@ -116,7 +116,7 @@ pub struct Tombstone {
 
 /// Where the value of a key is: in a block, or so many bytes from a start on among the bytes of all values.
 #[derive(Clone, Copy)]
-pub enum Holding {
+pub enum ValuePlace {
     /// The block's first byte in the region divided by 256.
     InBlock(u32),
     /// The place of the first byte among those of all values, and how many bytes.
@@ -148,5 +148,5 @@ pub struct LiveKey {
     /// What became of the entry since.
     pub fate: LiveFate,
     /// Where the value is.
-    pub held: Holding,
+    pub held: ValuePlace,
 }

@@ -12,7 +12,7 @@ use Rattle.core_log.specs.Log.{LogState, tail_of, without}
 use Rattle.core_log.proofs.Clients.{without_other}
 use Rattle.core_index.specs.Index.{known_at, room_at}
 use Rattle.core_index.specs.Records.{KeyRecord, standing_of, standing_at}
-use Rattle.core_index.specs.declared.types.Standing.{Standing}
+use Rattle.core_index.specs.declared.types.StandingEntry.{StandingEntry}
 use Rattle.lazy_alloc.specs.Sets.{chunk_is_free}
 use Rattle.lazy_alloc.proofs.Clients.{class_same}
 use Rattle.log_cleaner.specs.Clearing.{ClearingState}
@@ -159,14 +159,14 @@ module _ (p : Place) (m : ℕ) (v u : View) (w x : Worker) (c : ClearingState) (
 
     stood : (n : ℕ) → v.told k n ≡ true → n ≤ v.last k
     stood n told = present (v.present k n) refl where
-      stands : (o : Option Standing) → standing_at (standing_of (known_at w.index k)) n ≡ o → is_some o ≡ true → n ≤ v.last k
+      stands : (o : Option StandingEntry) → standing_at (standing_of (known_at w.index k)) n ≡ o → is_some o ≡ true → n ≤ v.last k
       stands None at some = absurd (cc some)
       stands (Some s) at some = let low = O.versions k n s at in let last = K.last in omega (arith, low, last)
 
       present : (o : Option ℕ) → v.present k n ≡ o → n ≤ v.last k
       present None none = absurd (let both : true ≡ false = sym told ∙ O.told k n none in cc both)
       present (Some h) is = stands (standing_at (standing_of (known_at w.index k)) n) refl (some_of (standing_at (standing_of (known_at w.index k)) n) (sym (K.present n) ∙ ap (option_map (core_of p)) is)) where
-        some_of : (o : Option Standing) → option_map (λ (s : Standing). s.home) o ≡ Some (core_of p h) → is_some o ≡ true
+        some_of : (o : Option StandingEntry) → option_map (λ (s : StandingEntry). s.home) o ≡ Some (core_of p h) → is_some o ≡ true
         some_of None e = absurd (cc e)
         some_of (Some s) e = refl
 

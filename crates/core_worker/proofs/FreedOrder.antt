@@ -6,7 +6,7 @@ use Rattle.log_entry.specs.Spelling.{HasSpelling}
 use Rattle.conflict_queue.specs.declared.types.Held.{Held}
 use Rattle.core_index.specs.Index.{known_at}
 use Rattle.core_index.specs.Records.{Awaits, last_of, standing_of, standing_at, block_of, is_forgettable}
-use Rattle.core_index.specs.declared.types.Standing.{Standing}
+use Rattle.core_index.specs.declared.types.StandingEntry.{StandingEntry}
 use Rattle.group_laws.specs.declared.types.Block.{Block}
 use Rattle.group_laws.specs.declared.types.Pending.{Pending}
 use Rattle.group_laws.specs.Places.{Place, core_of, owner}
@@ -30,8 +30,8 @@ pub record FreesInOrder (p : Place) (m key : ℕ) (v u : View) (w x : Worker) : 
   pub last : (k : ℕ) (q : Pending) → k ≢ key → v.pending k ≡ Some q → u.last k ≡ v.last k
   pub heard : (k n : ℕ) → Awaits (known_at x.index k) (core_of p m) n → ⊥
   pub told : (k n : ℕ) → u.present k n ≡ None → u.told k n ≡ false
-  pub versions : (k n : ℕ) (s : Standing) → standing_at (standing_of (known_at x.index k)) n ≡ Some s → n ≤ last_of (known_at x.index k)
-  pub mine : (k n : ℕ) (s : Standing) → standing_at (standing_of (known_at x.index k)) n ≡ Some s → owner p k ≡ m
+  pub versions : (k n : ℕ) (s : StandingEntry) → standing_at (standing_of (known_at x.index k)) n ≡ Some s → n ≤ last_of (known_at x.index k)
+  pub mine : (k n : ℕ) (s : StandingEntry) → standing_at (standing_of (known_at x.index k)) n ≡ Some s → owner p k ≡ m
   pub single : (q : ℕ) (b : Block) → u.blocks q ≡ Some b → b.key ≡ key → (block_of (known_at x.index key) ≡ Some q) ⊎ PointsAt (u.pending key) q
   pub distinct : (q : ℕ) → PointsAt (u.pending key) q → block_of (known_at x.index key) ≡ Some q → ⊥
   pub next : (q : Pending) → u.pending key ≡ Some q → (q.entry.version ≡ u.last key + 1) × HasSpelling q.entry

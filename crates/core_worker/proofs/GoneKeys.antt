@@ -3,7 +3,7 @@ use Rattle.std.proofs.Common.{◌≡◌, ◌≢◌, inl, inr, ⊎_elim, ℕ, suc
 use Rattle.std.specs.List.{filter}
 use Rattle.std.proofs.lemmas.Bool.{eqb-true, eq-eqb, and_parts, and_from, or_cases, or_right}
 use Rattle.log_entry.specs.declared.entry.EntryName.{EntryName}
-use Rattle.core_index.specs.declared.types.Standing.{Standing}
+use Rattle.core_index.specs.declared.types.StandingEntry.{StandingEntry}
 use Rattle.core_index.specs.Index.{known_at}
 use Rattle.core_index.specs.Records.{KeyRecord, is_tombstone, is_empty, is_forgettable, last_of, standing_at, standing_of}
 use Rattle.core_index.specs.Slots as slots
@@ -29,13 +29,13 @@ use Rattle.core_worker.proofs.Settling.{forget_by}
 use Rattle.core_worker.proofs.Tidied.{left_none, present_of, spent_last, tidied_knows}
 
 -- whether a name stands among some
-abbrev gone : List EntryName → ℕ → Standing → Bool
+abbrev gone : List EntryName → ℕ → StandingEntry → Bool
 gone ns k s = not (has ns k s.version)
 
-abbrev rest_then : List EntryName → ℕ → ℕ → Standing → List Standing → Bool → Option Standing
+abbrev rest_then : List EntryName → ℕ → ℕ → StandingEntry → List StandingEntry → Bool → Option StandingEntry
 rest_then ns k n s ss b = standing_at (cond (not b) (s ∷ filter (gone ns k) ss) (filter (gone ns k) ss)) n
 
-lacking_step : (ns : List EntryName) (k n : ℕ) (s : Standing) (ss : List Standing) (b : Bool) → has ns k s.version ≡ b → (c : Bool) → (s.version == n) ≡ c → standing_at (filter (gone ns k) ss) n ≡ cond (has ns k n) None (standing_at ss n)
+lacking_step : (ns : List EntryName) (k n : ℕ) (s : StandingEntry) (ss : List StandingEntry) (b : Bool) → has ns k s.version ≡ b → (c : Bool) → (s.version == n) ≡ c → standing_at (filter (gone ns k) ss) n ≡ cond (has ns k n) None (standing_at ss n)
     → standing_at (filter (gone ns k) (s ∷ ss)) n ≡ cond (has ns k n) None (standing_at (s ∷ ss) n)
 lacking_step ns k n s ss true e true f rest =
     let same : has ns k n ≡ true = ap (has ns k) (sym (eqb-true s.version n f)) ∙ e in
@@ -47,9 +47,9 @@ lacking_step ns k n s ss false e true f rest =
 lacking_step ns k n s ss false e false f rest = ap (rest_then ns k n s ss) e ∙ ap (λ (c : Bool). cond c (Some s) (standing_at (filter (gone ns k) ss) n)) f ∙ rest ∙ sym (ap (λ (c : Bool). cond (has ns k n) None (cond c (Some s) (standing_at ss n))) f)
 
 -- what stands at a version, without these names
-pub at_lacking : (ns : List EntryName) (k n : ℕ) (ss : List Standing) → standing_at (filter (gone ns k) ss) n ≡ cond (has ns k n) None (standing_at ss n)
+pub at_lacking : (ns : List EntryName) (k n : ℕ) (ss : List StandingEntry) → standing_at (filter (gone ns k) ss) n ≡ cond (has ns k n) None (standing_at ss n)
 at_lacking ns k n [] = by (has ns k n) where
-  by : (b : Bool) → ◌≡◌ {A = Option Standing} None (cond b None None)
+  by : (b : Bool) → ◌≡◌ {A = Option StandingEntry} None (cond b None None)
   by true = refl
   by false = refl
 at_lacking ns k n (s ∷ ss) = lacking_step ns k n s ss (has ns k s.version) refl (s.version == n) refl (at_lacking ns k n ss)
@@ -69,13 +69,13 @@ key_has (x ∷ xs) k e = ⊎_elim
     (λ more. let rest = key_has xs k more in (rest.0, or_right (eqb x.key k && eqb x.version rest.0) (has xs k rest.0) rest.1))
     (or_cases (x.key == k) (names_key xs k) e)
 
-filter_all : (q : Standing → Bool) (ss : List Standing) → ((s : Standing) → q s ≡ true) → filter q ss ≡ ss
+filter_all : (q : StandingEntry → Bool) (ss : List StandingEntry) → ((s : StandingEntry) → q s ≡ true) → filter q ss ≡ ss
 filter_all q [] e = refl
-filter_all q (s ∷ ss) e = ap (λ (b : Bool). cond b (s ∷ filter q ss) (filter q ss)) (e s) ∙ ap (λ (ts : List Standing). s ∷ ts) (filter_all q ss e)
+filter_all q (s ∷ ss) e = ap (λ (b : Bool). cond b (s ∷ filter q ss) (filter q ss)) (e s) ∙ ap (λ (ts : List StandingEntry). s ∷ ts) (filter_all q ss e)
 
 lacking_other : (ns : List EntryName) (k : ℕ) → names_key ns k ≡ false → (o : Option KeyRecord) → option_map (lacking ns k) o ≡ o
 lacking_other ns k e None = refl
-lacking_other ns k e (Some r) = ap (λ (ss : List Standing). Some (record { version = r.version; body = r.body; standing = ss })) (filter_all (gone ns k) r.standing (λ s. ap not (has_key ns k s.version e)))
+lacking_other ns k e (Some r) = ap (λ (ss : List StandingEntry). Some (record { version = r.version; body = r.body; standing = ss })) (filter_all (gone ns k) r.standing (λ s. ap not (has_key ns k s.version e)))
 
 pub lacking_last : (ns : List EntryName) (k : ℕ) (o : Option KeyRecord) → last_of (option_map (lacking ns k) o) ≡ last_of o
 lacking_last ns k None = refl
@@ -83,7 +83,7 @@ lacking_last ns k (Some r) = refl
 
 pub lacking_at : (ns : List EntryName) (k n : ℕ) (o : Option KeyRecord) → standing_at (standing_of (option_map (lacking ns k) o)) n ≡ cond (has ns k n) None (standing_at (standing_of o) n)
 lacking_at ns k n None = by (has ns k n) where
-  by : (b : Bool) → ◌≡◌ {A = Option Standing} None (cond b None None)
+  by : (b : Bool) → ◌≡◌ {A = Option StandingEntry} None (cond b None None)
   by true = refl
   by false = refl
 lacking_at ns k n (Some r) = at_lacking ns k n r.standing
@@ -103,7 +103,7 @@ module _ (p : Place) (m : ℕ) (v : View) (k : ℕ) (o : Option KeyRecord) (K : 
   none_at : (x : Option KeyRecord) → is_forgettable x ≡ true → (n : ℕ) → standing_at (standing_of x) n ≡ None
   none_at None g n = refl
   none_at (Some r) g n = by r.standing (and_parts (is_tombstone r.body) (is_empty r.standing) g).1 where
-    by : (ss : List Standing) → is_empty ss ≡ true → standing_at ss n ≡ None
+    by : (ss : List StandingEntry) → is_empty ss ≡ true → standing_at ss n ≡ None
     by [] e = refl
     by (s ∷ ss) e = absurd (cc e)
 
@@ -133,14 +133,14 @@ module _ (p : Place) (m : ℕ) (v v' : View) (ns : List EntryName) (L : LosesIn 
   knows_mid k own = let K = knows k own in subst (KnowsKey p v' k) (sym (X.known k)) (record {
     last = L.last k ∙ K.last ∙ sym (lacking_last ns k (known_at es k));
     cell = subst (LeftIn v' k (option_map (lacking ns k) (known_at es k))) (sym (L.cell k)) (lacking_left ns v v' k (known_at es k) (v.cell k) L.blocks K.cell);
-    present = λ n. ap (option_map (core_of p)) (L.present k n own) ∙ by (v.present k n) (standing_at (standing_of (known_at es k)) n) (has ns k n) (K.present n) ∙ sym (ap (option_map (λ (s : Standing). s.home)) (lacking_at ns k n (known_at es k)));
+    present = λ n. ap (option_map (core_of p)) (L.present k n own) ∙ by (v.present k n) (standing_at (standing_of (known_at es k)) n) (has ns k n) (K.present n) ∙ sym (ap (option_map (λ (s : StandingEntry). s.home)) (lacking_at ns k n (known_at es k)));
     told = λ n s is. L.told k n own ∙ told_by n s (has ns k n) (sym (lacking_at ns k n (known_at es k)) ∙ is);
   }) where
-    by : (x : Option ℕ) (y : Option Standing) (b : Bool) → option_map (core_of p) x ≡ option_map (λ (s : Standing). s.home) y → option_map (core_of p) (cond b None x) ≡ option_map (λ (s : Standing). s.home) (cond b None y)
+    by : (x : Option ℕ) (y : Option StandingEntry) (b : Bool) → option_map (core_of p) x ≡ option_map (λ (s : StandingEntry). s.home) y → option_map (core_of p) (cond b None x) ≡ option_map (λ (s : StandingEntry). s.home) (cond b None y)
     by x y true e = refl
     by x y false e = e
 
-    told_by : (n : ℕ) (s : Standing) (b : Bool) → cond b None (standing_at (standing_of (known_at es k)) n) ≡ Some s → cond b false (v.told k n) ≡ s.told
+    told_by : (n : ℕ) (s : StandingEntry) (b : Bool) → cond b None (standing_at (standing_of (known_at es k)) n) ≡ Some s → cond b false (v.told k n) ≡ s.told
     told_by n s true is = absurd (cc is)
     told_by n s false is = (knows k own).told n s is
 

@@ -4,7 +4,7 @@ use Rattle.std.specs.List.{filter}
 use Rattle.std.proofs.lemmas.Bool.{cases_eq, eq-eqb, ne_eqb, and_parts}
 use Rattle.log_entry.specs.declared.entry.Entry.{Entry}
 use Rattle.log_entry.specs.declared.entry.EntryName.{EntryName}
-use Rattle.core_index.specs.declared.types.Standing.{Standing}
+use Rattle.core_index.specs.declared.types.StandingEntry.{StandingEntry}
 use Rattle.core_index.specs.Index.{all_untold, known_at, SameRoom, Changes}
 use Rattle.core_index.specs.Records.{KeyRecord, is_forgettable, without}
 use Rattle.core_index.specs.Slots as slots
@@ -42,25 +42,25 @@ key_more (x ∷ xs) (suc i) lt k =
     ap (λ (b : Bool). (x.key == k) || b) rest ∙ or_group (x.key == k) (names_key (take i xs) k) ((get_or xs i none).key == k)
 
 -- filters of standing entries
-filter_same : (p q : Standing → Bool) (ss : List Standing) → ((s : Standing) → p s ≡ q s) → filter p ss ≡ filter q ss
+filter_same : (p q : StandingEntry → Bool) (ss : List StandingEntry) → ((s : StandingEntry) → p s ≡ q s) → filter p ss ≡ filter q ss
 filter_same p q [] e = refl
 filter_same p q (s ∷ ss) e = (λ i. cond (e s i) (s ∷ filter_same p q ss e i) (filter_same p q ss e i))
 
-filter_all : (p : Standing → Bool) (ss : List Standing) → ((s : Standing) → p s ≡ true) → filter p ss ≡ ss
+filter_all : (p : StandingEntry → Bool) (ss : List StandingEntry) → ((s : StandingEntry) → p s ≡ true) → filter p ss ≡ ss
 filter_all p [] e = refl
-filter_all p (s ∷ ss) e = ap (λ (b : Bool). cond b (s ∷ filter p ss) (filter p ss)) (e s) ∙ ap (λ (ts : List Standing). s ∷ ts) (filter_all p ss e)
+filter_all p (s ∷ ss) e = ap (λ (b : Bool). cond b (s ∷ filter p ss) (filter p ss)) (e s) ∙ ap (λ (ts : List StandingEntry). s ∷ ts) (filter_all p ss e)
 
-filter_both : (p q r : Standing → Bool) (ss : List Standing) → ((s : Standing) → r s ≡ (q s && p s)) → filter p (filter q ss) ≡ filter r ss
+filter_both : (p q r : StandingEntry → Bool) (ss : List StandingEntry) → ((s : StandingEntry) → r s ≡ (q s && p s)) → filter p (filter q ss) ≡ filter r ss
 filter_both p q r [] e = refl
 filter_both p q r (s ∷ ss) e = by (q s) (p s) (r s) (filter_both p q r ss e) refl refl (e s) where
   by : (a b c : Bool) → filter p (filter q ss) ≡ filter r ss → q s ≡ a → p s ≡ b → r s ≡ (q s && p s) → filter p (cond (q s) (s ∷ filter q ss) (filter q ss)) ≡ cond (r s) (s ∷ filter r ss) (filter r ss)
-  by true true c rest x y z = ap (λ (t : Bool). filter p (cond t (s ∷ filter q ss) (filter q ss))) x ∙ ap (λ (t : Bool). cond t (s ∷ filter p (filter q ss)) (filter p (filter q ss))) y ∙ ap (λ (ts : List Standing). s ∷ ts) rest ∙ sym (ap (λ (t : Bool). cond t (s ∷ filter r ss) (filter r ss)) (z ∙ (λ i. x i && y i)))
+  by true true c rest x y z = ap (λ (t : Bool). filter p (cond t (s ∷ filter q ss) (filter q ss))) x ∙ ap (λ (t : Bool). cond t (s ∷ filter p (filter q ss)) (filter p (filter q ss))) y ∙ ap (λ (ts : List StandingEntry). s ∷ ts) rest ∙ sym (ap (λ (t : Bool). cond t (s ∷ filter r ss) (filter r ss)) (z ∙ (λ i. x i && y i)))
   by true false c rest x y z = ap (λ (t : Bool). filter p (cond t (s ∷ filter q ss) (filter q ss))) x ∙ ap (λ (t : Bool). cond t (s ∷ filter p (filter q ss)) (filter p (filter q ss))) y ∙ rest ∙ sym (ap (λ (t : Bool). cond t (s ∷ filter r ss) (filter r ss)) (z ∙ (λ i. x i && y i)))
   by false b c rest x y z = ap (λ (t : Bool). filter p (cond t (s ∷ filter q ss) (filter q ss))) x ∙ rest ∙ sym (ap (λ (t : Bool). cond t (s ∷ filter r ss) (filter r ss)) (z ∙ ap (λ (t : Bool). t && p s) x))
 
 lacking_none : (k : ℕ) (o : Option KeyRecord) → o ≡ option_map (lacking [] k) o
 lacking_none k None = refl
-lacking_none k (Some r) = ap (λ (ss : List Standing). Some (record { version = r.version; body = r.body; standing = ss })) (sym (filter_all (λ s. true) r.standing (λ s. refl)))
+lacking_none k (Some r) = ap (λ (ss : List StandingEntry). Some (record { version = r.version; body = r.body; standing = ss })) (sym (filter_all (λ s. true) r.standing (λ s. refl)))
 
 pub lacks_first : (es : List (ℕ × slots.Place)) → Lacks [] es es
 lacks_first es = record { known = λ k. lacking_none k (known_at es k); room = λ k. refl; untold = omega arith }
@@ -78,14 +78,14 @@ module _ (ns : List EntryName) (i : ℕ) (lt : i < length ns) where
 
   here : (o : Option KeyRecord) → option_map (without name.version) (option_map (lacking (take i ns) name.key) o) ≡ option_map (lacking (take (suc i) ns) name.key) o
   here None = refl
-  here (Some r) = ap (λ (ss : List Standing). Some (record { version = r.version; body = r.body; standing = ss }))
+  here (Some r) = ap (λ (ss : List StandingEntry). Some (record { version = r.version; body = r.body; standing = ss }))
       (filter_both (λ s. not (s.version == name.version)) (λ s. not (has (take i ns) name.key s.version)) (λ s. not (has (take (suc i) ns) name.key s.version)) r.standing
       (λ s. ap not (has_more ns i lt name.key s.version ∙ ap (λ (b : Bool). has (take i ns) name.key s.version || (b && eqb name.version s.version)) (eq-eqb name.key name.key refl) ∙ ap (λ (b : Bool). has (take i ns) name.key s.version || b) (same_way name.version s.version))
       ∙ not_or (has (take i ns) name.key s.version) (s.version == name.version)))
 
   other : (k : ℕ) → k ≢ name.key → (o : Option KeyRecord) → option_map (lacking (take i ns) k) o ≡ option_map (lacking (take (suc i) ns) k) o
   other k ne None = refl
-  other k ne (Some r) = ap (λ (ss : List Standing). Some (record { version = r.version; body = r.body; standing = ss }))
+  other k ne (Some r) = ap (λ (ss : List StandingEntry). Some (record { version = r.version; body = r.body; standing = ss }))
       (filter_same (λ s. not (has (take i ns) k s.version)) (λ s. not (has (take (suc i) ns) k s.version)) r.standing
       (λ s. ap not (sym (has_more ns i lt k s.version ∙ ap (λ (b : Bool). has (take i ns) k s.version || (b && eqb name.version s.version)) (ne_eqb name.key k (λ e. ne (sym e))) ∙ or_none (has (take i ns) k s.version)))))
 

@@ -3,7 +3,7 @@ use Rattle.std.proofs.Common.{◌≡◌, ◌⊎◌, inl, inr, ℕ, ◌==◌, ◌
 use Rattle.std.specs.Prelude.{is_some, IfSome, IfNone}
 use Rattle.std.proofs.lemmas.Bool.{eqb-true, eq-eqb, and_parts, and_from, cases_eq}
 use Rattle.log_entry.specs.declared.entry.EntryName.{EntryName}
-use Rattle.core_index.specs.declared.types.Standing.{Standing}
+use Rattle.core_index.specs.declared.types.StandingEntry.{StandingEntry}
 use Rattle.core_index.specs.Index.{known_at, SameRoom, Tells}
 use Rattle.core_index.specs.Records.{KeyRecord, Awaits, is_tombstone, is_dead, standing_at, standing_of, standing_with, with_told, told_in}
 use Rattle.core_index.specs.Slots.{Place}
@@ -34,14 +34,14 @@ standing_told None v = refl
 standing_told (Some r) v = refl
 
 -- an entry as it was, or one that was told since
-abbrev Was : ℕ → Option Standing → Bool → ℕ → Option Standing → Type 0
+abbrev Was : ℕ → Option StandingEntry → Bool → ℕ → Option StandingEntry → Type 0
 Was home before dead n now = (now ≡ before) ⊎ ((before ≡ Some (standing_with n home false)) × (dead ≡ true) × (now ≡ Some (standing_with n home true)))
 
-abbrev flag : Option Standing → Option Bool
+abbrev flag : Option StandingEntry → Option Bool
 flag None = None
 flag (Some s) = Some s.told
 
-was_told : (home n : ℕ) (before mid now : Option Standing) (dead : Bool) → Was home before dead n mid → mid ≡ Some (standing_with n home false) → dead ≡ true → now ≡ Some (standing_with n home true) → Was home before dead n now
+was_told : (home n : ℕ) (before mid now : Option StandingEntry) (dead : Bool) → Was home before dead n mid → mid ≡ Some (standing_with n home false) → dead ≡ true → now ≡ Some (standing_with n home true) → Was home before dead n now
 was_told home n before mid now dead (inl same) is dies after = inr (sym same ∙ is, dies, after)
 was_told home n before mid now dead (inr other) is dies after = absurd (let two : Some true ≡ Some false = ap flag (sym other.2 ∙ is) in cc two)
 
@@ -69,13 +69,13 @@ module _ (home : ℕ) (old mid new : List (ℕ × Place)) (name : EntryName) (h 
     | inl f ↦
         let there = was_there k n e f in
         let here : standing_at (standing_of (option_map (told_in name.version) (known_at mid k))) n ≡ Some (standing_with n home true) =
-        ap (λ (ss : List Standing). standing_at ss n) (standing_told (known_at mid k) name.version)
+        ap (λ (ss : List StandingEntry). standing_at ss n) (standing_told (known_at mid k) name.version)
         ∙ ap (λ (v : ℕ). standing_at (with_told (standing_of (known_at mid k)) v) n) (sym f)
         ∙ at_told (standing_of (known_at mid k)) n (standing_with n home false) there.0 in
         was_told home n (standing_at (standing_of (known_at old k)) n) (standing_at (standing_of (known_at mid k)) n) _ (is_dead_by (known_at old k) n) (h.each k n) there.0 (sym (h.dead k n) ∙ there.1) here
     | inr ne ↦
         let same : standing_at (standing_of (option_map (told_in name.version) (known_at mid k))) n ≡ standing_at (standing_of (known_at mid k)) n =
-        ap (λ (ss : List Standing). standing_at ss n) (standing_told (known_at mid k) name.version) ∙ at_told_other (standing_of (known_at mid k)) name.version n ne in
+        ap (λ (ss : List StandingEntry). standing_at ss n) (standing_told (known_at mid k) name.version) ∙ at_told_other (standing_of (known_at mid k)) name.version n ne in
         subst (Was home (standing_at (standing_of (known_at old k)) n) (is_dead_by (known_at old k) n) n) (sym same) (h.each k n)
   ]
 
@@ -93,14 +93,14 @@ module _ (home : ℕ) (old new : List (ℕ × Place)) (h : Hears home old new) (
   no_wait k n None is at dies = let e : None ≡ Some (standing_with n home false) = at in cc e
   no_wait k n (Some r) is at dies = none (record { key = k; version = n }) (record { found = r; has = is; stands = at; dead = dies })
 
-  same_standing : (s : Standing) (v home : ℕ) (b : Bool) → s.version ≡ v → s.home ≡ home → s.told ≡ b → s ≡ standing_with v home b
+  same_standing : (s : StandingEntry) (v home : ℕ) (b : Bool) → s.version ≡ v → s.home ≡ home → s.told ≡ b → s ≡ standing_with v home b
   same_standing s v home b x y z = λ i. standing_with (x i) (y i) (z i)
 
-  abbrev heard : ℕ → ℕ → Standing → Standing
+  abbrev heard : ℕ → ℕ → StandingEntry → StandingEntry
   heard k n = heard_at home (known_at old k) n
 
   -- an entry that is as it was
-  kept : (k n : ℕ) (s : Standing) → standing_at (standing_of (known_at old k)) n ≡ Some s → standing_at (standing_of (known_at new k)) n ≡ Some s → s ≡ heard k n s
+  kept : (k n : ℕ) (s : StandingEntry) → standing_at (standing_of (known_at old k)) n ≡ Some s → standing_at (standing_of (known_at new k)) n ≡ Some s → s ≡ heard k n s
   kept k n s before now = by (s.home == home && is_dead_by (known_at old k) n) refl where
     by : (b : Bool) → (s.home == home && is_dead_by (known_at old k) n) ≡ b → s ≡ cond b (standing_with s.version s.home true) s
     by false e = refl
@@ -110,18 +110,18 @@ module _ (home : ℕ) (old new : List (ℕ × Place)) (h : Hears home old new) (
       flagged false is =
           let both = and_parts (s.home == home) (is_dead_by (known_at old k) n) e in
           let whose : s ≡ standing_with n home false = same_standing s n home false (found_version (standing_of (known_at old k)) n s before) (eqb-true s.home home both.0) is in
-          absurd (no_wait k n (known_at new k) refl (now ∙ ap (λ (x : Standing). Some x) whose) (h.dead k n ∙ both.1))
+          absurd (no_wait k n (known_at new k) refl (now ∙ ap (λ (x : StandingEntry). Some x) whose) (h.dead k n ∙ both.1))
 
-  by_old : (k n : ℕ) (o : Option Standing) → standing_at (standing_of (known_at old k)) n ≡ o
+  by_old : (k n : ℕ) (o : Option StandingEntry) → standing_at (standing_of (known_at old k)) n ≡ o
       → Was home o (is_dead_by (known_at old k) n) n (standing_at (standing_of (known_at new k)) n) → standing_at (standing_of (known_at new k)) n ≡ option_map (heard k n) o
   by_old k n None is (inl same) = same
   by_old k n None is (inr other) = absurd (let no = other.0 in cc no)
-  by_old k n (Some s) is (inl same) = same ∙ ap (λ (x : Standing). Some x) (kept k n s is same)
+  by_old k n (Some s) is (inl same) = same ∙ ap (λ (x : StandingEntry). Some x) (kept k n s is same)
   by_old k n (Some s) is (inr other) =
       let whose : s ≡ standing_with n home false = let e = other.0 in cc e in
-      let test : (s.home == home && is_dead_by (known_at old k) n) ≡ true = and_from (s.home == home) (is_dead_by (known_at old k) n) (eq-eqb s.home home (ap (λ (x : Standing). x.home) whose)) other.1 in
-      let now : heard k n s ≡ standing_with n home true = ap (λ (b : Bool). cond b (standing_with s.version s.home true) s) test ∙ ap (λ (x : Standing). standing_with x.version x.home true) whose in
-      other.2 ∙ ap (λ (x : Standing). Some x) (sym now)
+      let test : (s.home == home && is_dead_by (known_at old k) n) ≡ true = and_from (s.home == home) (is_dead_by (known_at old k) n) (eq-eqb s.home home (ap (λ (x : StandingEntry). x.home) whose)) other.1 in
+      let now : heard k n s ≡ standing_with n home true = ap (λ (b : Bool). cond b (standing_with s.version s.home true) s) test ∙ ap (λ (x : StandingEntry). standing_with x.version x.home true) whose in
+      other.2 ∙ ap (λ (x : StandingEntry). Some x) (sym now)
 
   pub hears_all : HearsAll home old new
   hears_all = record {

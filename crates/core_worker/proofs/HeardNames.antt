@@ -2,7 +2,7 @@
 use Rattle.std.proofs.Common.{◌≡◌, ◌⊎◌, inl, inr, ⊎_elim, ℕ, ◌<◌, Bool, true, false, cond, List, Option, Some, None, option_map, refl, sym, ◌∙◌, ap, subst, arith}
 use Rattle.std.proofs.lemmas.Bool.{cases_eq}
 use Rattle.log_entry.specs.declared.entry.EntryName.{EntryName}
-use Rattle.core_index.specs.declared.types.Standing.{Standing}
+use Rattle.core_index.specs.declared.types.StandingEntry.{StandingEntry}
 use Rattle.core_index.specs.Index.{known_at, Tells}
 use Rattle.core_index.specs.Records.{KeyRecord, Awaits, standing_at, standing_of, standing_with, with_told, told_in}
 use Rattle.core_index.specs.Slots.{Place}
@@ -18,7 +18,7 @@ use Rattle.log_cleaner.proofs.TallyLaws.{keeps_both, keeps_itself}
 use Rattle.core_worker.specs.StandingTies.{HearsOwn}
 use Rattle.core_worker.proofs.Heard.{Hears, hears_none, hears_more, dead_told, standing_told}
 
-flag : Option Standing → Option Bool
+flag : Option StandingEntry → Option Bool
 flag None = None
 flag (Some s) = Some s.told
 
@@ -89,7 +89,7 @@ module _ (home : ℕ) (first es next : List (ℕ × Place)) (old st now : Standi
       let was : standing_at (standing_of (known_at es name.key)) name.version ≡ Some (standing_with name.version home false) = stands_by (known_at es name.key) home name.version t.waited in
       let now_told : standing_at (standing_of (known_at next k)) n ≡ Some (standing_with name.version home true) =
       ap (λ (o : Option KeyRecord). standing_at (standing_of o) n) here
-      ∙ ap (λ (ss : List Standing). standing_at ss n) (standing_told (known_at es name.key) name.version)
+      ∙ ap (λ (ss : List StandingEntry). standing_at ss n) (standing_told (known_at es name.key) name.version)
       ∙ ap (standing_at (with_told (standing_of (known_at es name.key)) name.version)) (sym version)
       ∙ at_told (standing_of (known_at es name.key)) name.version (standing_with name.version home false) was in
       let two : Some true ≡ Some false = ap flag (sym now_told ∙ stands_by (known_at next k) home n a) in cc two
@@ -101,7 +101,7 @@ module _ (home : ℕ) (first es next : List (ℕ × Place)) (old st now : Standi
       let here : known_at next k ≡ option_map (told_in name.version) (known_at es k) = ap (known_at next) same ∙ t.change.here ∙ ap (λ (j : ℕ). option_map (told_in name.version) (known_at es j)) (sym same) in
       awaits_by (known_at next k) home n
       (ap (λ (o : Option KeyRecord). standing_at (standing_of o) n) here
-      ∙ ap (λ (ss : List Standing). standing_at ss n) (standing_told (known_at es k) name.version)
+      ∙ ap (λ (ss : List StandingEntry). standing_at ss n) (standing_told (known_at es k) name.version)
       ∙ at_told_other (standing_of (known_at es k)) name.version n ne ∙ stands_by (known_at es k) home n a)
       (ap (λ (o : Option KeyRecord). is_dead_by o n) here ∙ dead_told (known_at es k) name.version n ∙ dies_by (known_at es k) home n a))
       (λ ne. subst (λ (o : Option KeyRecord). Awaits o home n) (sym (t.change.others k ne)) a)

@@ -8,7 +8,7 @@ use Rattle.log_entry.specs.declared.entry.EntryName.{EntryName}
 use Rattle.core_index.specs.Index.{known_at}
 use Rattle.core_index.specs.Records.{KeyRecord, block_of, pointer_of, is_forgettable, is_tombstone, is_empty, last_of, standing_at, standing_of}
 use Rattle.core_index.specs.Slots as slots
-use Rattle.core_index.specs.declared.types.Standing.{Standing}
+use Rattle.core_index.specs.declared.types.StandingEntry.{StandingEntry}
 use Rattle.log_entry.specs.declared.entry.Body.{Body}
 use Rattle.log_entry.specs.declared.entry.Body.TheVariants as bodies
 use Rattle.log_standing.specs.NameCounts.{StandingState}
@@ -61,7 +61,7 @@ last_lacking ns k (Some r) = refl
 
 standing_lacking : (ns : List EntryName) (k i : ℕ) (o : Option KeyRecord) → standing_at (standing_of (option_map (lacking ns k) o)) i ≡ cond (has ns k i) None (standing_at (standing_of o) i)
 standing_lacking ns k i None = by (has ns k i) where
-  by : (b : Bool) → ◌≡◌ {A = Option Standing} None (cond b None None)
+  by : (b : Bool) → ◌≡◌ {A = Option StandingEntry} None (cond b None None)
   by true = refl
   by false = refl
 standing_lacking ns k i (Some r) = at_lacking ns k i r.standing
@@ -79,16 +79,16 @@ module _ (home : ℕ) (ns : List EntryName) (ps qs : List places.Place) (es mid 
     by false t e = ap block_of e ∙ was
 
   -- no entry stands above the last version of its key
-  pub low_lost : ((k i : ℕ) (s : Standing) → standing_at (standing_of (known_at es k)) i ≡ Some s → i ≤ last_of (known_at es k)) → (k i : ℕ) (s : Standing) → standing_at (standing_of (known_at ix k)) i ≡ Some s → i ≤ last_of (known_at ix k)
+  pub low_lost : ((k i : ℕ) (s : StandingEntry) → standing_at (standing_of (known_at es k)) i ≡ Some s → i ≤ last_of (known_at es k)) → (k i : ℕ) (s : StandingEntry) → standing_at (standing_of (known_at ix k)) i ≡ Some s → i ≤ last_of (known_at ix k)
   low_lost low k i s is = by_mid (standing_at (standing_of (known_at mid k)) i) refl where
     last_is : last_of (known_at ix k) ≡ last_of (known_at mid k)
     last_is = change_last (known_at mid k) (known_at ix k) (A.changes k)
 
-    by_has : (b : Bool) → has ns k i ≡ b → (t : Standing) → cond (has ns k i) None (standing_at (standing_of (known_at es k)) i) ≡ Some t → i ≤ last_of (known_at es k)
+    by_has : (b : Bool) → has ns k i ≡ b → (t : StandingEntry) → cond (has ns k i) None (standing_at (standing_of (known_at es k)) i) ≡ Some t → i ≤ last_of (known_at es k)
     by_has true e t at = absurd (let both : None ≡ Some t = sym (ap (λ (b : Bool). cond b None (standing_at (standing_of (known_at es k)) i)) e) ∙ at in cc both)
     by_has false e t at = low k i t (sym (ap (λ (b : Bool). cond b None (standing_at (standing_of (known_at es k)) i)) e) ∙ at)
 
-    by_test : (b : Bool) → known_at mid k ≡ cond b None (known_at L.mid k) → (t : Standing) → standing_at (standing_of (known_at mid k)) i ≡ Some t → i ≤ last_of (known_at mid k)
+    by_test : (b : Bool) → known_at mid k ≡ cond b None (known_at L.mid k) → (t : StandingEntry) → standing_at (standing_of (known_at mid k)) i ≡ Some t → i ≤ last_of (known_at mid k)
     by_test true e t at = absurd (let both : None ≡ Some t = sym (ap (λ (o : Option KeyRecord). standing_at (standing_of o) i) e) ∙ at in cc both)
     by_test false e t at =
         let same : known_at mid k ≡ option_map (lacking ns k) (known_at es k) = e ∙ L.lacks.known k in
@@ -97,22 +97,22 @@ module _ (home : ℕ) (ns : List EntryName) (ps qs : List places.Place) (es mid 
         let last = ap last_of same ∙ last_lacking ns k (known_at es k) in
         omega (arith, le, last)
 
-    by_mid : (o : Option Standing) → standing_at (standing_of (known_at mid k)) i ≡ o → i ≤ last_of (known_at ix k)
+    by_mid : (o : Option StandingEntry) → standing_at (standing_of (known_at mid k)) i ≡ o → i ≤ last_of (known_at ix k)
     by_mid None at = absurd (let eq = A.standing k i in let both : Some s ≡ None = sym is ∙ eq ∙ ap (option_map (heard_at home (known_at mid k) i)) at in cc both)
     by_mid (Some t) at = (let le = by_test (is_forgotten ns ps L.mid k) (L.forgets.known k) t at in let eq = last_is in omega (arith, le, eq))
 
   -- what stands stood
-  pub stood_lost : (k i : ℕ) (s : Standing) → standing_at (standing_of (known_at ix k)) i ≡ Some s → (t : Standing) × (standing_at (standing_of (known_at es k)) i ≡ Some t)
+  pub stood_lost : (k i : ℕ) (s : StandingEntry) → standing_at (standing_of (known_at ix k)) i ≡ Some s → (t : StandingEntry) × (standing_at (standing_of (known_at es k)) i ≡ Some t)
   stood_lost k i s is = by_mid (standing_at (standing_of (known_at mid k)) i) refl where
-    by_has : (b : Bool) → has ns k i ≡ b → (t : Standing) → cond (has ns k i) None (standing_at (standing_of (known_at es k)) i) ≡ Some t → (u : Standing) × (standing_at (standing_of (known_at es k)) i ≡ Some u)
+    by_has : (b : Bool) → has ns k i ≡ b → (t : StandingEntry) → cond (has ns k i) None (standing_at (standing_of (known_at es k)) i) ≡ Some t → (u : StandingEntry) × (standing_at (standing_of (known_at es k)) i ≡ Some u)
     by_has true e t at = absurd (let both : None ≡ Some t = sym (ap (λ (b : Bool). cond b None (standing_at (standing_of (known_at es k)) i)) e) ∙ at in cc both)
     by_has false e t at = (t, sym (ap (λ (b : Bool). cond b None (standing_at (standing_of (known_at es k)) i)) e) ∙ at)
 
-    by_test : (b : Bool) → known_at mid k ≡ cond b None (known_at L.mid k) → (t : Standing) → standing_at (standing_of (known_at mid k)) i ≡ Some t → (u : Standing) × (standing_at (standing_of (known_at es k)) i ≡ Some u)
+    by_test : (b : Bool) → known_at mid k ≡ cond b None (known_at L.mid k) → (t : StandingEntry) → standing_at (standing_of (known_at mid k)) i ≡ Some t → (u : StandingEntry) × (standing_at (standing_of (known_at es k)) i ≡ Some u)
     by_test true e t at = absurd (let both : None ≡ Some t = sym (ap (λ (o : Option KeyRecord). standing_at (standing_of o) i) e) ∙ at in cc both)
     by_test false e t at = by_has (has ns k i) refl t (sym (standing_lacking ns k i (known_at es k)) ∙ sym (ap (λ (o : Option KeyRecord). standing_at (standing_of o) i) (e ∙ L.lacks.known k)) ∙ at)
 
-    by_mid : (o : Option Standing) → standing_at (standing_of (known_at mid k)) i ≡ o → (u : Standing) × (standing_at (standing_of (known_at es k)) i ≡ Some u)
+    by_mid : (o : Option StandingEntry) → standing_at (standing_of (known_at mid k)) i ≡ o → (u : StandingEntry) × (standing_at (standing_of (known_at es k)) i ≡ Some u)
     by_mid None at = absurd (let eq = A.standing k i in let both : Some s ≡ None = sym is ∙ eq ∙ ap (option_map (heard_at home (known_at mid k) i)) at in cc both)
     by_mid (Some t) at = by_test (is_forgotten ns ps L.mid k) (L.forgets.known k) t at
 

@@ -4,7 +4,7 @@ use Rattle.std.proofs.lemmas.Bool.{cases_eq, eqb-true, eq-eqb, ne_eqb, and_parts
 use Rattle.std.proofs.lemmas.List.Sums.{sum_by-cons}
 use Rattle.log_entry.specs.declared.entry.Entry.{Entry}
 use Rattle.log_entry.specs.declared.entry.EntryName.{EntryName}
-use Rattle.core_index.specs.declared.types.Standing.{Standing}
+use Rattle.core_index.specs.declared.types.StandingEntry.{StandingEntry}
 use Rattle.core_index.specs.Index.{known_at}
 use Rattle.core_index.specs.Records.{KeyRecord, Awaits, standing_at, standing_of, standing_with}
 use Rattle.core_index.specs.Slots as slots
@@ -123,7 +123,7 @@ module _ (p : Place) (m : ℕ) (x : View) (last : ℕ → ℕ) (told dead : ℕ 
 
     by_itself : (k n : ℕ) → TellsItselfIn p m x k n → (is_told st k n ≡ true) ⊎ Awaits (known_at mid k) (core_of p m) n
     by_itself k n y = by s.0.told refl where
-      s : (z : Standing) × (standing_at (standing_of (known_at mid k)) n ≡ Some z) × (z.home ≡ core_of p m)
+      s : (z : StandingEntry) × (standing_at (standing_of (known_at mid k)) n ≡ Some z) × (z.home ≡ core_of p m)
       s = present_of p m x k (known_at mid k) (K k y.0) n m y.1
 
       by : (b : Bool) → (present_of p m x k (known_at mid k) (K k y.0) n m y.1).0.told ≡ b → (is_told st k n ≡ true) ⊎ Awaits (known_at mid k) (core_of p m) n
@@ -133,7 +133,7 @@ module _ (p : Place) (m : ℕ) (x : View) (last : ℕ → ℕ) (told dead : ℕ 
           let dies = dead_by p x k (known_at mid k) (K k y.0) n z.0 z.1 y.2 in
           let version = found_version (standing_of (known_at mid k)) n z.0 z.1 in
           let same : z.0 ≡ standing_with n (core_of p m) false = (λ i. standing_with (version i) (z.2 i) (t i)) in
-          inr (awaits_by (known_at mid k) (core_of p m) n (z.1 ∙ ap (λ (w : Standing). Some w) same) dies)
+          inr (awaits_by (known_at mid k) (core_of p m) n (z.1 ∙ ap (λ (w : StandingEntry). Some w) same) dies)
 
     dies_told : (k n : ℕ) → dead k n ≡ true → is_told st1 k n ≡ true
     dies_told k n dies = ⊎_elim

@@ -2,7 +2,7 @@
 use Rattle.std.proofs.Common.{◌≡◌, ◌≢◌, ◌⊎◌, inl, inr, ⊎_elim, ℕ, ◌<◌, ◌||◌, ◌&&◌, eqb, Bool, true, false, cond, List, ◌∷◌, Option, Some, None, option_map, refl, sym, ◌∙◌, ap, subst}
 use Rattle.std.proofs.lemmas.Bool.{cases_eq, eqb-true, eq-eqb, ne_eqb, and_parts, and_from, or_cases, or_left}
 use Rattle.log_entry.specs.declared.entry.EntryName.{EntryName}
-use Rattle.core_index.specs.declared.types.Standing.{Standing}
+use Rattle.core_index.specs.declared.types.StandingEntry.{StandingEntry}
 use Rattle.core_index.specs.Index.{known_at, Tells}
 use Rattle.core_index.specs.Records.{KeyRecord, last_of, standing_at, standing_of, standing_with, told_in}
 use Rattle.core_index.specs.Slots as slots
@@ -57,12 +57,12 @@ module _ (p : Place) (m to : ℕ) (v : View) (all : List EntryName) (es ix : Lis
 
   now : standing_at (standing_of (known_at ix name.key)) name.version ≡ Some (standing_with name.version home true)
   now = ap (λ (o : Option KeyRecord). standing_at (standing_of o) name.version) t.change.here
-      ∙ ap (λ (ss : List Standing). standing_at ss name.version) (standing_told (known_at es name.key) name.version)
+      ∙ ap (λ (ss : List StandingEntry). standing_at ss name.version) (standing_told (known_at es name.key) name.version)
       ∙ at_told (standing_of (known_at es name.key)) name.version (standing_with name.version home false) before
 
   same_at : (n : ℕ) → n ≢ name.version → standing_at (standing_of (known_at ix name.key)) n ≡ standing_at (standing_of (known_at es name.key)) n
   same_at n ne = ap (λ (o : Option KeyRecord). standing_at (standing_of o) n) t.change.here
-      ∙ ap (λ (ss : List Standing). standing_at ss n) (standing_told (known_at es name.key) name.version)
+      ∙ ap (λ (ss : List StandingEntry). standing_at ss n) (standing_told (known_at es name.key) name.version)
       ∙ at_told_other (standing_of (known_at es name.key)) name.version n ne
 
   here : KnowsKey p (mailing all v) name.key (known_at es name.key) → KnowsKey p (mailing (name ∷ all) v) name.key (known_at ix name.key)
@@ -70,16 +70,16 @@ module _ (p : Place) (m to : ℕ) (v : View) (all : List EntryName) (es ix : Lis
     last = K.last ∙ sym (last_told (known_at es name.key) name.version) ∙ ap last_of (sym t.change.here);
     cell = subst (λ (o : Option KeyRecord). LeftIn v name.key o (v.cell name.key)) (sym t.change.here) (left_told v name.key (known_at es name.key) name.version (v.cell name.key) K.cell);
     present = λ n. elim (cases_eq n name.version) [
-      | inl e ↦ K.present n ∙ ap (λ (i : ℕ). option_map (λ (s : Standing). s.home) (standing_at (standing_of (known_at es name.key)) i)) e
-          ∙ ap (option_map (λ (s : Standing). s.home)) before ∙ sym (ap (option_map (λ (s : Standing). s.home)) now)
-          ∙ ap (λ (i : ℕ). option_map (λ (s : Standing). s.home) (standing_at (standing_of (known_at ix name.key)) i)) (sym e)
-      | inr ne ↦ K.present n ∙ ap (option_map (λ (s : Standing). s.home)) (sym (same_at n ne))
+      | inl e ↦ K.present n ∙ ap (λ (i : ℕ). option_map (λ (s : StandingEntry). s.home) (standing_at (standing_of (known_at es name.key)) i)) e
+          ∙ ap (option_map (λ (s : StandingEntry). s.home)) before ∙ sym (ap (option_map (λ (s : StandingEntry). s.home)) now)
+          ∙ ap (λ (i : ℕ). option_map (λ (s : StandingEntry). s.home) (standing_at (standing_of (known_at ix name.key)) i)) (sym e)
+      | inr ne ↦ K.present n ∙ ap (option_map (λ (s : StandingEntry). s.home)) (sym (same_at n ne))
     ];
     told = λ n s is. elim (cases_eq n name.version) [
       | inl e ↦
           let at : Some s ≡ Some (standing_with name.version home true) = sym is ∙ ap (standing_at (standing_of (known_at ix name.key))) e ∙ now in
           let flag : s ≡ standing_with name.version home true = cc at in
-          ap (λ (b : Bool). cond b true (v.told name.key n)) (has_here name all name.key n refl e) ∙ sym (ap (λ (x : Standing). x.told) flag)
+          ap (λ (b : Bool). cond b true (v.told name.key n)) (has_here name all name.key n refl e) ∙ sym (ap (λ (x : StandingEntry). x.told) flag)
       | inr ne ↦ ap (λ (b : Bool). cond b true (v.told name.key n)) (other_version name all name.key n (λ e. ne (sym e))) ∙ K.told n s (sym (same_at n ne) ∙ is)
     ];
   }
@@ -90,7 +90,7 @@ module _ (p : Place) (m to : ℕ) (v : View) (all : List EntryName) (es ix : Lis
       record {
         last = K.last ∙ ap last_of (sym same);
         cell = subst (λ (o : Option KeyRecord). LeftIn v k o (v.cell k)) (sym same) K.cell;
-        present = λ n. K.present n ∙ ap (λ (o : Option KeyRecord). option_map (λ (s : Standing). s.home) (standing_at (standing_of o) n)) (sym same);
+        present = λ n. K.present n ∙ ap (λ (o : Option KeyRecord). option_map (λ (s : StandingEntry). s.home) (standing_at (standing_of o) n)) (sym same);
         told = λ n s is. ap (λ (b : Bool). cond b true (v.told k n)) (other_key name all k n (λ e. ne (sym e)))
             ∙ K.told n s (ap (λ (o : Option KeyRecord). standing_at (standing_of o) n) (sym same) ∙ is);
       }

@@ -9,7 +9,7 @@ use Rattle.log_entry.specs.declared.entry.EntryName.{EntryName}
 use Rattle.core_index.specs.Index.{known_at}
 use Rattle.core_index.specs.Records.{Awaits, is_forgettable, standing_at, standing_of, standing_with}
 use Rattle.core_index.specs.Slots as slots
-use Rattle.core_index.specs.declared.types.Standing.{Standing}
+use Rattle.core_index.specs.declared.types.StandingEntry.{StandingEntry}
 use Rattle.group_board.specs.declared.names.Notices.{Notices}
 use Rattle.group_board.specs.declared.names.Names.{Names}
 use Rattle.core_worker.proofs.ListedNames.{has_append}
@@ -74,14 +74,14 @@ others_same (x ∷ xs) (y ∷ ys) (suc h) e at =
     (λ i. (head i).dead.names ++ rest i)
 
 -- An index in which names were told: nothing else is known of a key.
-flag : Option Standing → Option Bool
+flag : Option StandingEntry → Option Bool
 flag None = None
 flag (Some s) = Some s.told
 
 module _ (home : ℕ) (es ix : List (ℕ × slots.Place)) (T : Hears home es ix) where
   pub forgets_told : (k : ℕ) → is_forgettable (known_at ix k) ≡ is_forgettable (known_at es k)
   forgets_told k = forget_by (known_at es k) (known_at ix k) (λ n s. unwrap_or (standing_at (standing_of (known_at ix k)) n) s) (T.changes k) (λ n. by n (standing_at (standing_of (known_at es k)) n) (standing_at (standing_of (known_at ix k)) n) (T.each k n)) where
-    by : (n : ℕ) (a b : Option Standing) → (b ≡ a) ⊎ ((a ≡ Some (standing_with n home false)) × (is_dead_by (known_at es k) n ≡ true) × (b ≡ Some (standing_with n home true))) → b ≡ option_map (λ s. unwrap_or b s) a
+    by : (n : ℕ) (a b : Option StandingEntry) → (b ≡ a) ⊎ ((a ≡ Some (standing_with n home false)) × (is_dead_by (known_at es k) n ≡ true) × (b ≡ Some (standing_with n home true))) → b ≡ option_map (λ s. unwrap_or b s) a
     by n None None which = refl
     by n None (Some t) which = absurd (⊎_elim (λ same. cc same) (λ other. let e = other.0 in cc e) which)
     by n (Some s) None which = absurd (⊎_elim (λ same. cc same) (λ other. let e = other.2 in cc e) which)

@@ -7,7 +7,7 @@ use Rattle.log_entry.specs.declared.entry.EntryName.{EntryName}
 use Rattle.core_index.specs.Index.{known_at}
 use Rattle.core_index.specs.Records.{Awaits}
 use Rattle.core_index.specs.Slots as slots
-use Rattle.core_index.specs.declared.types.Standing.{Standing}
+use Rattle.core_index.specs.declared.types.StandingEntry.{StandingEntry}
 use Rattle.group_board.specs.declared.names.Notices.{Notices}
 use Rattle.group_board.specs.declared.names.Names.{Names}
 use Rattle.group_laws.specs.Places.{Place, core_of}
@@ -26,7 +26,7 @@ use Rattle.core_worker.proofs.SentMail.{box_less}
 abbrev Index : Type 0
 Index = List (ℕ × slots.Place)
 
-flag : Option Standing → Option Bool
+flag : Option StandingEntry → Option Bool
 flag None = None
 flag (Some s) = Some s.told
 

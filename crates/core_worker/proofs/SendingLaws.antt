@@ -3,7 +3,7 @@ use Rattle.std.proofs.Common.{◌≡◌, ◌≢◌, ⊎_elim, ℕ, ◌+◌, ◌|
 use Rattle.std.proofs.lemmas.Bool.{cases_eq}
 use Rattle.log_entry.specs.declared.entry.EntryName.{EntryName}
 use Rattle.core_index.specs.Index.{known_at, all_untold, Tells}
-use Rattle.core_index.specs.declared.types.Standing.{Standing}
+use Rattle.core_index.specs.declared.types.StandingEntry.{StandingEntry}
 use Rattle.core_index.specs.Records.{KeyRecord, standing_at, standing_of, standing_with, told_in}
 use Rattle.core_index.specs.Slots as slots
 use Rattle.group_laws.specs.Places.{Place, core_of, owner}
@@ -25,7 +25,7 @@ tells_more home es mid ix [] n tells one = (ix, subst (λ (e : Index). Tells e i
 tells_more home es mid ix (x ∷ ns) n tells one = (tells.0, tells.1, tells_more home tells.0 mid ix ns n tells.2 one)
 
 -- what stands stood, where names were told
-pub stood_by : (home : ℕ) (es ix : Index) → Hears home es ix → (k n : ℕ) (s : Standing) → standing_at (standing_of (known_at ix k)) n ≡ Some s → (t : Standing) × (standing_at (standing_of (known_at es k)) n ≡ Some t)
+pub stood_by : (home : ℕ) (es ix : Index) → Hears home es ix → (k n : ℕ) (s : StandingEntry) → standing_at (standing_of (known_at ix k)) n ≡ Some s → (t : StandingEntry) × (standing_at (standing_of (known_at es k)) n ≡ Some t)
 stood_by home es ix H k n s is = ⊎_elim (λ same. (s, sym same ∙ is)) (λ other. (standing_with n home false, other.0)) (H.each k n)
 
 pub hears_then : (home : ℕ) (first es ix : Index) (ns : List EntryName) → Hears home first es → TellsAll home es ns ix → Hears home first ix
@@ -132,7 +132,7 @@ module _ (p : Place) (m to : ℕ) (v : View) (others : List EntryName) where
   knows_at k (n ∷ ns) old es ix tells K = subst (λ (xs : List EntryName). KnowsKey p (mailing (xs ++ others) v) k (known_at ix k)) (append_assoc old (n ∷ []) ns) (knows_at k ns (old ++ n ∷ []) tells.0 ix tells.2 (one_at k es tells.0 old n tells.1 K))
 
   abbrev Mine : Index → Type 0
-  Mine es = (k n : ℕ) (s : Standing) → standing_at (standing_of (known_at es k)) n ≡ Some s → owner p k ≡ m
+  Mine es = (k n : ℕ) (s : StandingEntry) → standing_at (standing_of (known_at es k)) n ≡ Some s → owner p k ≡ m
 
   pub waits_at : (ns old : List EntryName) (es ix : Index) → TellsAll (core_of p to) es ns ix → ((k : ℕ) → owner p k ≡ m → KnowsKey p (mailing (old ++ others) v) k (known_at es k)) → Mine es → AreToSend p m to v old → AreToSend p m to v (old ++ ns)
   waits_at [] old es ix tells K own A = subst (AreToSend p m to v) (sym (append-nil old)) A

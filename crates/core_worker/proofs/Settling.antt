@@ -13,7 +13,7 @@ use Rattle.log_entry.specs.Spelling.{HasSpelling}
 use Rattle.core_index.specs.Index.{known_at, room_at, Changes}
 use Rattle.core_index.specs.Records.{KeyRecord, Awaits, block_of, pointer_of, settled, last_of, standing_of, standing_at, standing_with, is_tombstone, is_empty, is_forgettable}
 use Rattle.core_index.specs.Slots as slots
-use Rattle.core_index.specs.declared.types.Standing.{Standing}
+use Rattle.core_index.specs.declared.types.StandingEntry.{StandingEntry}
 use Rattle.core_index.proofs.Clients.{at_more, at_added, found_version}
 use Rattle.store_image.specs.Facts.{In}
 use Rattle.log_standing.specs.NameCounts.{StandingState, count_of, is_told}
@@ -70,13 +70,13 @@ change_block None (Some s) e = absurd (cc e)
 change_block (Some r) None e = absurd (cc e)
 change_block (Some r) (Some s) e = ap pointer_of (change_body r s e)
 
-some_empty : (a b : List Standing) (f : ℕ → Standing → Standing) → ((n : ℕ) → standing_at b n ≡ option_map (f n) (standing_at a n)) → is_empty b ≡ is_empty a
+some_empty : (a b : List StandingEntry) (f : ℕ → StandingEntry → StandingEntry) → ((n : ℕ) → standing_at b n ≡ option_map (f n) (standing_at a n)) → is_empty b ≡ is_empty a
 some_empty [] [] f e = refl
 some_empty [] (y ∷ b) f e = absurd (let at = e y.version in let here : cond (y.version == y.version) (Some y) (standing_at b y.version) ≡ Some y = ap (λ c. cond c (Some y) (standing_at b y.version)) (eq-eqb y.version y.version refl) in let both : Some y ≡ None = sym here ∙ at in cc both)
 some_empty (x ∷ a) [] f e = absurd (let at = e x.version in let here : cond (x.version == x.version) (Some x) (standing_at a x.version) ≡ Some x = ap (λ c. cond c (Some x) (standing_at a x.version)) (eq-eqb x.version x.version refl) in let both : None ≡ Some (f x.version x) = at ∙ ap (option_map (f x.version)) here in cc both)
 some_empty (x ∷ a) (y ∷ b) f e = refl
 
-pub forget_by : (a b : Option KeyRecord) (f : ℕ → Standing → Standing) → option_map last_change b ≡ option_map last_change a → ((n : ℕ) → standing_at (standing_of b) n ≡ option_map (f n) (standing_at (standing_of a) n)) → is_forgettable b ≡ is_forgettable a
+pub forget_by : (a b : Option KeyRecord) (f : ℕ → StandingEntry → StandingEntry) → option_map last_change b ≡ option_map last_change a → ((n : ℕ) → standing_at (standing_of b) n ≡ option_map (f n) (standing_at (standing_of a) n)) → is_forgettable b ≡ is_forgettable a
 forget_by None None f e h = refl
 forget_by None (Some s) f e h = absurd (cc e)
 forget_by (Some r) None f e h = absurd (cc e)
@@ -144,7 +144,7 @@ same_flag true false f g = sym (f refl)
 same_flag false true f g = g refl
 
 -- a record with a standing entry is kept
-not_empty : (ss : List Standing) (s : Standing) → is_empty (ss ++ s ∷ []) ≡ false
+not_empty : (ss : List StandingEntry) (s : StandingEntry) → is_empty (ss ++ s ∷ []) ≡ false
 not_empty [] s = refl
 not_empty (x ∷ ss) s = refl
 
@@ -167,7 +167,7 @@ module _ (p : Place) (m : ℕ) (v : View) (w : Worker) (H : HoldsAside p m v w) 
 
   new_stands : standing_at (standing_of (known_at w.index key)) e.version ≡ None
   new_stands = by (standing_at (standing_of (known_at w.index key)) e.version) refl where
-    by : (o : Option Standing) → standing_at (standing_of (known_at w.index key)) e.version ≡ o → o ≡ None
+    by : (o : Option StandingEntry) → standing_at (standing_of (known_at w.index key)) e.version ≡ o → o ≡ None
     by None is = refl
     by (Some s) is = absurd (let above = O.versions key e.version s is in let n = next_here in omega (arith, above, n))
 
@@ -249,7 +249,7 @@ module _ (p : Place) (m : ℕ) (v : View) (w : Worker) (H : HoldsAside p m v w) 
     abbrev new_record : KeyRecord
     new_record = settled (known_at w.index key) e.version e.body (core_of p home)
 
-    abbrev new_standing : Standing
+    abbrev new_standing : StandingEntry
     new_standing = standing_with e.version (core_of p home) false
 
     stands_new : standing_at new_record.standing e.version ≡ Some new_standing
@@ -262,7 +262,7 @@ module _ (p : Place) (m : ℕ) (v : View) (w : Worker) (H : HoldsAside p m v w) 
     none_present = by (v.present key e.version) refl where
       by : (o : Option ℕ) → v.present key e.version ≡ o → o ≡ None
       by None is = refl
-      by (Some h) is = absurd (let both : Some (core_of p h) ≡ None = sym (ap (option_map (core_of p)) is) ∙ K.present e.version ∙ ap (option_map (λ (s : Standing). s.home)) new_stands in cc both)
+      by (Some h) is = absurd (let both : Some (core_of p h) ≡ None = sym (ap (option_map (core_of p)) is) ∙ K.present e.version ∙ ap (option_map (λ (s : StandingEntry). s.home)) new_stands in cc both)
 
     -- the change was not told, since it stood nowhere
     unwaited : has all key e.version ≡ false
@@ -276,16 +276,16 @@ module _ (p : Place) (m : ℕ) (v : View) (w : Worker) (H : HoldsAside p m v w) 
       last = ap (λ c. cond c e.version (v.last key)) (eq-eqb key e.key (sym mine));
       cell = subst (Left mid_view key e.body) (sym (ap (λ c. cond c (left_in v.blocks e.body) (v.cell key)) (eq-eqb key e.key (sym mine)))) (left_new e.body refl offers);
       present = λ n. ⊎_elim
-          (λ same. ap (λ (i : ℕ). option_map (core_of p) (mid_view.present key i)) same ∙ ap (option_map (core_of p)) present_here ∙ sym (ap (λ (i : ℕ). option_map (λ (s : Standing). s.home) (standing_at new_record.standing i)) same ∙ ap (option_map (λ (s : Standing). s.home)) stands_new))
-          (λ ne. ap (option_map (core_of p)) (present_older n ne) ∙ K.present n ∙ sym (ap (option_map (λ (s : Standing). s.home)) (stands_old n ne)))
+          (λ same. ap (λ (i : ℕ). option_map (core_of p) (mid_view.present key i)) same ∙ ap (option_map (core_of p)) present_here ∙ sym (ap (λ (i : ℕ). option_map (λ (s : StandingEntry). s.home) (standing_at new_record.standing i)) same ∙ ap (option_map (λ (s : StandingEntry). s.home)) stands_new))
+          (λ ne. ap (option_map (core_of p)) (present_older n ne) ∙ K.present n ∙ sym (ap (option_map (λ (s : StandingEntry). s.home)) (stands_old n ne)))
           (cases_eq n e.version);
       told = λ n s is. ⊎_elim
           (λ same. ap (λ (i : ℕ). cond (has all key i) true (v.told key i)) same ∙ none_told ∙ told_flag (sym stands_new ∙ ap (standing_at new_record.standing) (sym same) ∙ is))
           (λ ne. K.told n s (sym (stands_old n ne) ∙ is))
           (cases_eq n e.version);
     } where
-      told_flag : {s : Standing} → Some new_standing ≡ Some s → false ≡ s.told
-      told_flag {s} x = let same : new_standing ≡ s = cc x in ap (λ (y : Standing). y.told) same
+      told_flag : {s : StandingEntry} → Some new_standing ≡ Some s → false ≡ s.told
+      told_flag {s} x = let same : new_standing ≡ s = cc x in ap (λ (y : StandingEntry). y.told) same
 
     knows_mid : KnowsKey p (mailing all mid_view) key (known_at mid key)
     knows_mid = subst (KnowsKey p (mailing all mid_view) key) (sym C.here) knows_new
@@ -378,12 +378,12 @@ module _ (p : Place) (m : ℕ) (v : View) (w : Worker) (H : HoldsAside p m v w) 
           (λ x. (let here = x.1 in let both : Some m ≡ None = sym here ∙ none in cc both))
           ((T.tells k n).0 is))
 
-    versions_now : (k n : ℕ) (s : Standing) → standing_at (standing_of (known_at ix k)) n ≡ Some s → n ≤ last_of (known_at ix k)
+    versions_now : (k n : ℕ) (s : StandingEntry) → standing_at (standing_of (known_at ix k)) n ≡ Some s → n ≤ last_of (known_at ix k)
     versions_now k n s is = by (standing_at (standing_of (known_at mid k)) n) refl where
       last_is : last_of (known_at ix k) ≡ last_of (known_at mid k)
       last_is = change_last (known_at mid k) (known_at ix k) (A.changes k)
 
-      mid_low : (x : Standing) → standing_at (standing_of (known_at mid k)) n ≡ Some x → n ≤ last_of (known_at mid k)
+      mid_low : (x : StandingEntry) → standing_at (standing_of (known_at mid k)) n ≡ Some x → n ≤ last_of (known_at mid k)
       mid_low x at = ⊎_elim
           (λ same. let last_new : last_of (known_at mid k) ≡ e.version = ap (λ (i : ℕ). last_of (known_at mid i)) same ∙ ap last_of C.here in ⊎_elim
           (λ eq. omega (arith, eq, last_new))
@@ -394,13 +394,13 @@ module _ (p : Place) (m : ℕ) (v : View) (w : Worker) (H : HoldsAside p m v w) 
           (λ ne. let low = O.versions k n x (ap (λ (o : Option KeyRecord). standing_at (standing_of o) n) (sym (C.others k ne)) ∙ at) in let eq = ap last_of (C.others k ne) in omega (arith, low, eq))
           (cases_eq k key)
 
-      by : (o : Option Standing) → standing_at (standing_of (known_at mid k)) n ≡ o → n ≤ last_of (known_at ix k)
+      by : (o : Option StandingEntry) → standing_at (standing_of (known_at mid k)) n ≡ o → n ≤ last_of (known_at ix k)
       by None at = absurd (let eq = A.standing k n in let both : Some s ≡ None = sym is ∙ eq ∙ ap (option_map (heard_at (core_of p m) (known_at mid k) n)) at in cc both)
       by (Some x) at = (let low = mid_low x at in let eq = last_is in omega (arith, low, eq))
 
-    mine_now : (k n : ℕ) (s : Standing) → standing_at (standing_of (known_at ix k)) n ≡ Some s → owner p k ≡ m
+    mine_now : (k n : ℕ) (s : StandingEntry) → standing_at (standing_of (known_at ix k)) n ≡ Some s → owner p k ≡ m
     mine_now k n s is = by (standing_at (standing_of (known_at mid k)) n) refl where
-      by : (o : Option Standing) → standing_at (standing_of (known_at mid k)) n ≡ o → owner p k ≡ m
+      by : (o : Option StandingEntry) → standing_at (standing_of (known_at mid k)) n ≡ o → owner p k ≡ m
       by None at = absurd (let eq = A.standing k n in let both : Some s ≡ None = sym is ∙ eq ∙ ap (option_map (heard_at (core_of p m) (known_at mid k) n)) at in cc both)
       by (Some x) at = ⊎_elim
           (λ same. ap (owner p) same ∙ own_key)
@@ -522,7 +522,7 @@ module _ (p : Place) (m : ℕ) (v : View) (w : Worker) (H : HoldsAside p m v w) 
                 let dies = dead_by p (mailing all mid_view) k (known_at mid k) K n s.0 s.1 x.2 in
                 let version = found_version (standing_of (known_at mid k)) n s.0 s.1 in
                 let same : s.0 ≡ standing_with n (core_of p m) false = (λ i. standing_with (version i) (s.2 i) (t i)) in
-                inr (awaits_by (known_at mid k) (core_of p m) n (s.1 ∙ ap (λ (y : Standing). Some y) same) dies)
+                inr (awaits_by (known_at mid k) (core_of p m) n (s.1 ∙ ap (λ (y : StandingEntry). Some y) same) dies)
 
       knows_names : KnowsNames m v.kept mid_view.present told dead st
       knows_names = record {

@@ -11,7 +11,7 @@ use Rattle.store_image.specs.Facts.{In, KeepsRules}
 use Rattle.store_image.specs.Parts.{all_entries, value_in_block, block_bytes}
 use Rattle.store_image.specs.Winners.{winner, recovered, cell_by}
 use Rattle.store_image.proofs.Clients.{winner_some, winner_max, winner_is}
-use Rattle.core_index.specs.declared.types.Standing.{Standing}
+use Rattle.core_index.specs.declared.types.StandingEntry.{StandingEntry}
 use Rattle.core_index.specs.Index.{known_at}
 use Rattle.core_index.specs.Records.{KeyRecord, last_of, block_of, standing_of, standing_at, standing_with, stands_alone, is_tombstone, is_empty, is_forgettable}
 use Rattle.core_index.specs.Records as records
@@ -55,7 +55,7 @@ same_left v k cell (Some r) (Some q) e left = subst (λ (b : Body). Left v k b c
 -- entries of a list as a map from versions
 
 -- each version that stands is n, where each version that is found is
-all_are : (ss : List Standing) (n : ℕ) → ((v : ℕ) (s : Standing) → standing_at ss v ≡ Some s → v ≡ n) → stands_alone ss n ≡ true
+all_are : (ss : List StandingEntry) (n : ℕ) → ((v : ℕ) (s : StandingEntry) → standing_at ss v ≡ Some s → v ≡ n) → stands_alone ss n ≡ true
 all_are [] n each = refl
 all_are (x ∷ ss) n each =
     let first : x.version ≡ n = each x.version x (ap (λ (b : Bool). cond b (Some x) (standing_at ss x.version)) (eq-eqb x.version x.version refl)) in
@@ -64,14 +64,14 @@ all_are (x ∷ ss) n each =
       | inr ne ↦ each v s (ap (λ (b : Bool). cond b (Some x) (standing_at ss v)) (ne_eqb x.version v ne) ∙ at)
     ]))
 
-found_are : (ss : List Standing) (n : ℕ) → stands_alone ss n ≡ true → (v : ℕ) (s : Standing) → standing_at ss v ≡ Some s → v ≡ n
+found_are : (ss : List StandingEntry) (n : ℕ) → stands_alone ss n ≡ true → (v : ℕ) (s : StandingEntry) → standing_at ss v ≡ Some s → v ≡ n
 found_are [] n all v s at = absurd (cc at)
 found_are (x ∷ ss) n all v s at = by (found_are ss n (and_parts (x.version == n) (stands_alone ss n) all).1 v s) (x.version == v) refl at where
   by : (standing_at ss v ≡ Some s → v ≡ n) → (b : Bool) → (x.version == v) ≡ b → cond b (Some x) (standing_at ss v) ≡ Some s → v ≡ n
   by again true e here = sym (eqb-true x.version v e) ∙ eqb-true x.version n (and_parts (x.version == n) (stands_alone ss n) all).0
   by again false e rest = again rest
 
-none_of_empty : (ss : List Standing) (v : ℕ) (s : Standing) → standing_at ss v ≡ Some s → is_empty ss ≡ false
+none_of_empty : (ss : List StandingEntry) (v : ℕ) (s : StandingEntry) → standing_at ss v ≡ Some s → is_empty ss ≡ false
 none_of_empty [] v s at = absurd (cc at)
 none_of_empty (x ∷ ss) v s at = refl
 
@@ -173,7 +173,7 @@ module _ (p : Place) (image : ℕ → ℕ) (place : IsPlace p) (rules : KeepsRul
     stands_as : (n : ℕ) (x : PlacedEntry) → named_in k n es ≡ Some x → standing_at (standing_of (known_at old k)) n ≡ Some (standing_with n x.core false)
     stands_as n x e = stood n ∙ ap (option_map (λ (y : PlacedEntry). standing_with n y.core false)) e
 
-    entry_of : (n : ℕ) (s : Standing) → standing_at (standing_of (known_at old k)) n ≡ Some s → (x : PlacedEntry) × (named_in k n es ≡ Some x) × (s ≡ standing_with n x.core false)
+    entry_of : (n : ℕ) (s : StandingEntry) → standing_at (standing_of (known_at old k)) n ≡ Some s → (x : PlacedEntry) × (named_in k n es ≡ Some x) × (s ≡ standing_with n x.core false)
     entry_of n s at = by (named_in k n es) refl where
       by : (o : Option PlacedEntry) → named_in k n es ≡ o → (x : PlacedEntry) × (named_in k n es ≡ Some x) × (s ≡ standing_with n x.core false)
       by None e = absurd (let none : None ≡ Some s = sym (stood n ∙ ap (option_map (λ (y : PlacedEntry). standing_with n y.core false)) e) ∙ at in cc none)
@@ -200,7 +200,7 @@ module _ (p : Place) (image : ℕ → ℕ) (place : IsPlace p) (rules : KeepsRul
     none_is (Embedded u) cell l = ap is_none l
     none_is Tombstone cell l = ap is_none l
 
-    dead_is : (o : Option KeyRecord) → known_at old k ≡ o → (n : ℕ) (s : Standing) → standing_at (standing_of o) n ≡ Some s → is_dead p image k n ≡ is_dead_by o n
+    dead_is : (o : Option KeyRecord) → known_at old k ≡ o → (n : ℕ) (s : StandingEntry) → standing_at (standing_of o) n ≡ Some s → is_dead p image k n ≡ is_dead_by o n
     dead_is None e n s at = absurd (let none : None ≡ Some s = at in cc none)
     dead_is (Some r) e n s at =
         let last : images.last_of p image k ≡ r.version = last_is ∙ ap last_of e in
@@ -209,7 +209,7 @@ module _ (p : Place) (image : ℕ → ℕ) (place : IsPlace p) (rules : KeepsRul
         λ i. nat_lt n (last i) || (n == last i && (tomb i && one i))
 
     module _ (new : List (ℕ × slots.Place)) (core : ℕ) (at : core ≡ core_of p m) (heard : HearsAll core old new) where
-      heard_as : (n : ℕ) (s : Standing) → standing_at (standing_of (known_at new k)) n ≡ Some s → (x : PlacedEntry) × (named_in k n es ≡ Some x) × (s ≡ heard_at core (known_at old k) n (standing_with n x.core false))
+      heard_as : (n : ℕ) (s : StandingEntry) → standing_at (standing_of (known_at new k)) n ≡ Some s → (x : PlacedEntry) × (named_in k n es ≡ Some x) × (s ≡ heard_at core (known_at old k) n (standing_with n x.core false))
       heard_as n s now = by (named_in k n es) refl where
         told_as : (o : Option PlacedEntry) → named_in k n es ≡ o → standing_at (standing_of (known_at new k)) n ≡ option_map (heard_at core (known_at old k) n) (option_map (λ (y : PlacedEntry). standing_with n y.core false) o)
         told_as o e = heard.standing k n ∙ ap (option_map (heard_at core (known_at old k) n)) (stood n ∙ ap (option_map (λ (y : PlacedEntry). standing_with n y.core false)) e)
@@ -218,11 +218,11 @@ module _ (p : Place) (image : ℕ → ℕ) (place : IsPlace p) (rules : KeepsRul
         by None e = absurd (let none : None ≡ Some s = sym (told_as None e) ∙ now in cc none)
         by (Some x) e = (x, e, (let same : Some s ≡ Some (heard_at core (known_at old k) n (standing_with n x.core false)) = sym now ∙ told_as (Some x) e in cc same))
 
-      home_now : (n : ℕ) → option_map (core_of p) (home_of p image k n) ≡ option_map (λ (s : Standing). s.home) (standing_at (standing_of (known_at new k)) n)
+      home_now : (n : ℕ) → option_map (core_of p) (home_of p image k n) ≡ option_map (λ (s : StandingEntry). s.home) (standing_at (standing_of (known_at new k)) n)
       home_now n = ap (λ (b : Bool). option_map (core_of p) (cond b (option_map (λ (x : PlacedEntry). x.core - base) (named_in k n es)) None)) group_own
           ∙ by (named_in k n es) refl
-          ∙ sym (ap (option_map (λ (s : Standing). s.home)) (heard.standing k n ∙ ap (option_map (heard_at core (known_at old k) n)) (stood n))) where
-            by : (o : Option PlacedEntry) → named_in k n es ≡ o → option_map (core_of p) (option_map (λ (x : PlacedEntry). x.core - base) o) ≡ option_map (λ (s : Standing). s.home) (option_map (heard_at core (known_at old k) n) (option_map (λ (y : PlacedEntry). standing_with n y.core false) o))
+          ∙ sym (ap (option_map (λ (s : StandingEntry). s.home)) (heard.standing k n ∙ ap (option_map (heard_at core (known_at old k) n)) (stood n))) where
+            by : (o : Option PlacedEntry) → named_in k n es ≡ o → option_map (core_of p) (option_map (λ (x : PlacedEntry). x.core - base) o) ≡ option_map (λ (s : StandingEntry). s.home) (option_map (heard_at core (known_at old k) n) (option_map (λ (y : PlacedEntry). standing_with n y.core false) o))
             by None e = refl
             by (Some x) e = (let is = named n x e in ap Some (home_core x is.0 is.1 ∙ sym (home_by (x.core == core && is_dead_by (known_at old k) n) n x.core)))
 
@@ -235,13 +235,13 @@ module _ (p : Place) (image : ℕ → ℕ) (place : IsPlace p) (rules : KeepsRul
           (λ t. eq-eqb x.core core (sym (home_core x is.0 is.1) ∙ ap (core_of p) (eqb-true (x.core - base) (owner p k) t ∙ own) ∙ sym at))
           (λ t. eq-eqb (x.core - base) (owner p k) (ap (λ (c : ℕ). c - base) (eqb-true x.core core t ∙ at) ∙ core_back p m ∙ sym own))
 
-      told_now : (n : ℕ) (s : Standing) → standing_at (standing_of (known_at new k)) n ≡ Some s → is_own_dead p image k n ≡ s.told
+      told_now : (n : ℕ) (s : StandingEntry) → standing_at (standing_of (known_at new k)) n ≡ Some s → is_own_dead p image k n ≡ s.told
       told_now n s now =
           let x = heard_as n s now in
           let was = stands_as n x.0 x.1 in
           let here = at_home n x.0 x.1 in
           let dies = dead_is (known_at old k) refl n (standing_with n x.0.core false) was in
-          (λ i. here i && dies i) ∙ sym (ap (λ (t : Standing). t.told) x.2 ∙ told_by (x.0.core == core && is_dead_by (known_at old k) n) n x.0.core)
+          (λ i. here i && dies i) ∙ sym (ap (λ (t : StandingEntry). t.told) x.2 ∙ told_by (x.0.core == core && is_dead_by (known_at old k) n) n x.0.core)
 
       pub knows : KnowsKey p v k (known_at new k)
       knows = record {
@@ -252,7 +252,7 @@ module _ (p : Place) (image : ℕ → ℕ) (place : IsPlace p) (rules : KeepsRul
       }
 
       -- no entry stands above the last version
-      pub below : (n : ℕ) (s : Standing) → standing_at (standing_of (known_at new k)) n ≡ Some s → n ≤ last_of (known_at new k)
+      pub below : (n : ℕ) (s : StandingEntry) → standing_at (standing_of (known_at new k)) n ≡ Some s → n ≤ last_of (known_at new k)
       below n s now =
           let x = heard_as n s now in
           let is = named n x.0 x.1 in
@@ -265,7 +265,7 @@ module _ (p : Place) (image : ℕ → ℕ) (place : IsPlace p) (rules : KeepsRul
       -- and a key with a record has an entry that stands
       pub remembers : is_forgettable (known_at new k) ≡ false
       remembers = by (known_at new k) refl (known_at old k) refl (heard.changes k) where
-        some_entry : (r : KeyRecord) → known_at old k ≡ Some r → (w : Option PlacedEntry) → winner p.layout image k ≡ w → KnownAs w (Some r) → (n : ℕ) × (s : Standing) × (standing_at (standing_of (known_at new k)) n ≡ Some s)
+        some_entry : (r : KeyRecord) → known_at old k ≡ Some r → (w : Option PlacedEntry) → winner p.layout image k ≡ w → KnownAs w (Some r) → (n : ℕ) × (s : StandingEntry) × (standing_at (standing_of (known_at new k)) n ≡ Some s)
         some_entry r e None w ties = absurd (cc ties)
         some_entry r e (Some y) w ties =
             let is = winner_is k es y w in

@@ -22,7 +22,7 @@ use Rattle.chunk_map.specs.Layouts as layouts
 use Rattle.store_image.specs.declared.types.PlacedEntry.{PlacedEntry}
 use Rattle.conflict_queue.specs.Waiting.{waiting}
 use Rattle.conflict_queue.specs.declared.types.Held.{Held}
-use Rattle.core_index.specs.declared.types.Standing.{Standing}
+use Rattle.core_index.specs.declared.types.StandingEntry.{StandingEntry}
 use Rattle.core_index.specs.Index.{known_at}
 use Rattle.core_index.specs.Records.{KeyRecord, Awaits, block_of, pointer_of, standing_of, standing_at, standing_with}
 use Rattle.core_index.specs.Records.{is_dead as dead_in_record}
@@ -190,7 +190,7 @@ module _ (p : Place) (m : ℕ) (image : ℕ → ℕ) (start : CoreStart) (layout
   }
 
   -- who has no record has no entry that stands
-  others : (k n : ℕ) (s : Standing) → (layouts.owner p.layout k ≡ c → ⊥) → standing_at (standing_of (known_at w.index k)) n ≡ Some s → ⊥
+  others : (k n : ℕ) (s : StandingEntry) → (layouts.owner p.layout k ≡ c → ⊥) → standing_at (standing_of (known_at w.index k)) n ≡ Some s → ⊥
   others k n s other now =
       let none : option_map last_change (known_at w.index k) ≡ None = N.index.changes k ∙ ap (option_map last_change) (at.found.index.others k other) in
       by (known_at w.index k) none now where
@@ -256,22 +256,22 @@ module _ (p : Place) (m : ℕ) (image : ℕ → ℕ) (start : CoreStart) (layout
   knows_own k own = start_keys.knows p image at.place at.rules m at.member start.index at.found.index k own w.index start.core core_is N.index
 
   -- what the index has of an own name at the start, and now
-  stood_now : (k n : ℕ) (s : Standing) → standing_at (standing_of (known_at start.index k)) n ≡ Some s → standing_at (standing_of (known_at w.index k)) n ≡ Some (heard_at start.core (known_at start.index k) n s)
+  stood_now : (k n : ℕ) (s : StandingEntry) → standing_at (standing_of (known_at start.index k)) n ≡ Some s → standing_at (standing_of (known_at w.index k)) n ≡ Some (heard_at start.core (known_at start.index k) n s)
   stood_now k n s is = N.index.standing k n ∙ ap (option_map (heard_at start.core (known_at start.index k) n)) is
 
   -- a name of the own log with an own key that is dead by the index is told
-  told_of : (k n : ℕ) (s : Standing) → owner p k ≡ m → standing_at (standing_of (known_at start.index k)) n ≡ Some s → s.home ≡ c → is_dead_by (known_at start.index k) n ≡ true → v.told k n ≡ true
+  told_of : (k n : ℕ) (s : StandingEntry) → owner p k ≡ m → standing_at (standing_of (known_at start.index k)) n ≡ Some s → s.home ≡ c → is_dead_by (known_at start.index k) n ≡ true → v.told k n ≡ true
   told_of k n s own is home dies =
       let test : (s.home == start.core && is_dead_by (known_at start.index k) n) ≡ true = and_from (s.home == start.core) (is_dead_by (known_at start.index k) n) (eq-eqb s.home start.core (home ∙ sym core_is)) dies in
       (knows_own k own).told n (heard_at start.core (known_at start.index k) n s) (stood_now k n s is)
       ∙ ap (λ (b : Bool). (cond b (standing_with s.version s.home true) s).told) test
 
-  dead_rec : (o : Option KeyRecord) (n : ℕ) → is_dead_in o n ≡ true → (s : Standing) × (standing_at (standing_of o) n ≡ Some s) × (is_dead_by o n ≡ true)
+  dead_rec : (o : Option KeyRecord) (n : ℕ) → is_dead_in o n ≡ true → (s : StandingEntry) × (standing_at (standing_of o) n ≡ Some s) × (is_dead_by o n ≡ true)
   dead_rec None n t = absurd (cc t)
   dead_rec (Some r) n t =
       let both = and_parts (is_some (standing_at r.standing n)) (dead_in_record r n) t in
       by (standing_at r.standing n) refl both.0 both.1 where
-        by : (o : Option Standing) → standing_at r.standing n ≡ o → is_some o ≡ true → dead_in_record r n ≡ true → (s : Standing) × (standing_at r.standing n ≡ Some s) × (dead_in_record r n ≡ true)
+        by : (o : Option StandingEntry) → standing_at r.standing n ≡ o → is_some o ≡ true → dead_in_record r n ≡ true → (s : StandingEntry) × (standing_at r.standing n ≡ Some s) × (dead_in_record r n ≡ true)
         by None e some dies = absurd (cc some)
         by (Some s) e some dies = (s, e, dies)
 
@@ -286,30 +286,30 @@ module _ (p : Place) (m : ℕ) (image : ℕ → ℕ) (start : CoreStart) (layout
       by_home k n (standing_with n start.core false) s core_is (dies_by (known_at start.index k) start.core n a))
       (N.standing.told k n t)
     where
-      home_kept : (b : Bool) (s : Standing) → (cond b (standing_with s.version s.home true) s).home ≡ s.home
+      home_kept : (b : Bool) (s : StandingEntry) → (cond b (standing_with s.version s.home true) s).home ≡ s.home
       home_kept true s = refl
       home_kept false s = refl
 
-      own_key : (k n : ℕ) (s : Standing) → standing_at (standing_of (known_at start.index k)) n ≡ Some s → owner p k ≡ m
+      own_key : (k n : ℕ) (s : StandingEntry) → standing_at (standing_of (known_at start.index k)) n ≡ Some s → owner p k ≡ m
       own_key k n s is = ⊎_elim
           (λ mine. own_of p m k (some_group p image at.place at.rules) at.member mine)
           (λ other. absurd (others k n (heard_at start.core (known_at start.index k) n s) other (stood_now k n s is)))
           (cases_eq (layouts.owner p.layout k) c)
 
-      by_home : (k n : ℕ) (s : Standing) → standing_at (standing_of (known_at start.index k)) n ≡ Some s → s.home ≡ c → is_dead_by (known_at start.index k) n ≡ true → v.dead k n ≡ true
+      by_home : (k n : ℕ) (s : StandingEntry) → standing_at (standing_of (known_at start.index k)) n ≡ Some s → s.home ≡ c → is_dead_by (known_at start.index k) n ≡ true → v.dead k n ≡ true
       by_home k n s is home dies = let own = own_key k n s is in dead_told k n own ∙ told_of k n s own is home dies
 
-      by_record : (k n : ℕ) → ((s : Standing) × (standing_at (standing_of (known_at start.index k)) n ≡ Some s) × (is_dead_by (known_at start.index k) n ≡ true)) → Logged p m image start at k n → v.dead k n ≡ true
+      by_record : (k n : ℕ) → ((s : StandingEntry) × (standing_at (standing_of (known_at start.index k)) n ≡ Some s) × (is_dead_by (known_at start.index k) n ≡ true)) → Logged p m image start at k n → v.dead k n ≡ true
       by_record k n x g =
           let own = own_key k n x.0 x.1 in
           let here : v.present k n ≡ Some m = mine_is k (home_of p image k n) None own ∙ (logged_own k n g).0 in
           let now = stood_now k n x.0 x.1 in
           let there = present_of p m v k (known_at w.index k) (knows_own k own) n m here in
           let same : heard_at start.core (known_at start.index k) n x.0 ≡ there.0 = (let both : Some (heard_at start.core (known_at start.index k) n x.0) ≡ Some there.0 = sym now ∙ there.1 in cc both) in
-          let home : x.0.home ≡ c = sym (home_kept (x.0.home == start.core && is_dead_by (known_at start.index k) n) x.0) ∙ ap (λ (s : Standing). s.home) same ∙ there.2 in
+          let home : x.0.home ≡ c = sym (home_kept (x.0.home == start.core && is_dead_by (known_at start.index k) n) x.0) ∙ ap (λ (s : StandingEntry). s.home) same ∙ there.2 in
           by_home k n x.0 x.1 home x.2
 
-  start_untold : (k n : ℕ) (x : Standing) → standing_at (standing_of (known_at start.index k)) n ≡ Some x → x.told ≡ false
+  start_untold : (k n : ℕ) (x : StandingEntry) → standing_at (standing_of (known_at start.index k)) n ≡ Some x → x.told ≡ false
   start_untold k n x is = ⊎_elim
       (λ mine. by_named (named_in k n (all_entries p.layout image)) (sym (at.found.index.standing k n mine) ∙ is))
       (λ other. absurd (others k n (heard_at start.core (known_at start.index k) n x) other (stood_now k n x is)))
@@ -317,7 +317,7 @@ module _ (p : Place) (m : ℕ) (image : ℕ → ℕ) (start : CoreStart) (layout
     where
       by_named : (o : Option PlacedEntry) → option_map (λ (y : PlacedEntry). standing_with n y.core false) o ≡ Some x → x.told ≡ false
       by_named None e = absurd (cc e)
-      by_named (Some y) e = let same : standing_with n y.core false ≡ x = cc e in ap (λ (s : Standing). s.told) (sym same)
+      by_named (Some y) e = let same : standing_with n y.core false ≡ x = cc e in ap (λ (s : StandingEntry). s.told) (sym same)
 
   dies_told : (k n : ℕ) → v.dead k n ≡ true → is_told w.standing k n ≡ true
   dies_told k n dies =
@@ -330,11 +330,11 @@ module _ (p : Place) (m : ℕ) (image : ℕ → ℕ) (start : CoreStart) (layout
       N.standing.all k n (logged_counted p m image start at k n (own_logged k n parts.1))
       (by k n s.0 s.1 told (standing_at (standing_of (known_at start.index k)) n) refl)
     where
-      by : (k n : ℕ) (s : Standing) → standing_at (standing_of (known_at w.index k)) n ≡ Some s → s.told ≡ true → (o : Option Standing) → standing_at (standing_of (known_at start.index k)) n ≡ o → (is_told start.standing k n ≡ true) ⊎ Awaits (known_at start.index k) start.core n
+      by : (k n : ℕ) (s : StandingEntry) → standing_at (standing_of (known_at w.index k)) n ≡ Some s → s.told ≡ true → (o : Option StandingEntry) → standing_at (standing_of (known_at start.index k)) n ≡ o → (is_told start.standing k n ≡ true) ⊎ Awaits (known_at start.index k) start.core n
       by k n s now told None is = absurd (let both : Some s ≡ None = sym now ∙ N.index.standing k n ∙ ap (option_map (heard_at start.core (known_at start.index k) n)) is in cc both)
       by k n s now told (Some x) is =
           let same : heard_at start.core (known_at start.index k) n x ≡ s = (let both : Some (heard_at start.core (known_at start.index k) n x) ≡ Some s = sym (stood_now k n x is) ∙ now in cc both) in
-          by_test (x.home == start.core && is_dead_by (known_at start.index k) n) refl (ap (λ (y : Standing). y.told) same ∙ told)
+          by_test (x.home == start.core && is_dead_by (known_at start.index k) n) refl (ap (λ (y : StandingEntry). y.told) same ∙ told)
         where
           untold : x.told ≡ false
           untold = start_untold k n x is
@@ -344,7 +344,7 @@ module _ (p : Place) (m : ℕ) (image : ℕ → ℕ) (start : CoreStart) (layout
               let both = and_parts (x.home == start.core) (is_dead_by (known_at start.index k) n) e in
               let version = found_version (standing_of (known_at start.index k)) n x is in
               let whole : x ≡ standing_with n start.core false = (λ i. standing_with (version i) (eqb-true x.home start.core both.0 i) (untold i)) in
-              inr (awaits_by (known_at start.index k) start.core n (is ∙ ap (λ (y : Standing). Some y) whole) both.1)
+              inr (awaits_by (known_at start.index k) start.core n (is ∙ ap (λ (y : StandingEntry). Some y) whole) both.1)
           by_test false e t = absurd (let both : true ≡ false = sym t ∙ untold in cc both)
 
   knows_names : KnowsNames m v.kept v.present v.told v.dead w.standing

@@ -3,7 +3,7 @@ use Rattle.std.proofs.Common.{◌≡◌, ◌⊎◌, inl, inr, ⊎_elim, ℕ, ◌
 use Rattle.std.proofs.lemmas.Bool.{cases_eq, eqb-true, eq-eqb, ne_eqb, and_parts, and_from, or_cases, ltb-true, lt-ltb, cond-true, cond-false}
 use Rattle.log_entry.specs.declared.entry.Body.{Body}
 use Rattle.log_entry.specs.declared.entry.Body.TheVariants as bodies
-use Rattle.core_index.specs.declared.types.Standing.{Standing}
+use Rattle.core_index.specs.declared.types.StandingEntry.{StandingEntry}
 use Rattle.core_index.specs.Index.{known_at}
 use Rattle.core_index.specs.Records.{KeyRecord, is_tombstone, stands_alone, is_empty, is_forgettable, last_of, standing_at, standing_of, standing_with}
 use Rattle.core_index.specs.Slots as slots
@@ -31,29 +31,29 @@ left_some v k (bodies.Embedded u) none l = absurd (let both : None ≡ Some u = 
 left_some v k bodies.Tombstone none l = refl
 
 -- every entry has the version
-alone_is : (ss : List Standing) (n : ℕ) → ((u : ℕ) (s : Standing) → standing_at ss u ≡ Some s → u ≡ n) → stands_alone ss n ≡ true
+alone_is : (ss : List StandingEntry) (n : ℕ) → ((u : ℕ) (s : StandingEntry) → standing_at ss u ≡ Some s → u ≡ n) → stands_alone ss n ≡ true
 alone_is [] n all = refl
 alone_is (x ∷ ss) n all =
     let here : x.version ≡ n = all x.version x (cond-true (x.version == x.version) (Some x) (standing_at ss x.version) (eq-eqb x.version x.version refl)) in
     and_from (x.version == n) (stands_alone ss n) (eq-eqb x.version n here) (alone_is ss n (λ u s is. ⊎_elim (λ e. sym e ∙ here) (λ ne. all u s (cond-false (x.version == u) (Some x) (standing_at ss u) (ne_eqb x.version u ne) ∙ is)) (cases_eq x.version u)))
 
-none_stands : (ss : List Standing) → ((n : ℕ) → standing_at ss n ≡ None) → is_empty ss ≡ true
+none_stands : (ss : List StandingEntry) → ((n : ℕ) → standing_at ss n ≡ None) → is_empty ss ≡ true
 none_stands [] none = refl
 none_stands (x ∷ ss) none = absurd (let at = none x.version in let here : standing_at (x ∷ ss) x.version ≡ Some x = cond-true (x.version == x.version) (Some x) (standing_at ss x.version) (eq-eqb x.version x.version refl) in let both : None ≡ Some x = sym at ∙ here in cc both)
 
 module _ (p : Place) (m : ℕ) (v : View) (k : ℕ) (o : Option KeyRecord) (K : KnowsKey p v k o) where
   -- an entry that stands is present at its home, and the other way round
-  pub present_of : (n h : ℕ) → v.present k n ≡ Some h → (s : Standing) × (standing_at (standing_of o) n ≡ Some s) × (s.home ≡ core_of p h)
+  pub present_of : (n h : ℕ) → v.present k n ≡ Some h → (s : StandingEntry) × (standing_at (standing_of o) n ≡ Some s) × (s.home ≡ core_of p h)
   present_of n h is = by (standing_at (standing_of o) n) refl where
-    by : (x : Option Standing) → standing_at (standing_of o) n ≡ x → (s : Standing) × (standing_at (standing_of o) n ≡ Some s) × (s.home ≡ core_of p h)
-    by None e = absurd (let both : Some (core_of p h) ≡ None = sym (ap (option_map (core_of p)) is) ∙ K.present n ∙ ap (option_map (λ (s : Standing). s.home)) e in cc both)
-    by (Some s) e = (s, e, (let both : Some s.home ≡ Some (core_of p h) = sym (ap (option_map (λ (s : Standing). s.home)) e) ∙ sym (K.present n) ∙ ap (option_map (core_of p)) is in cc both))
+    by : (x : Option StandingEntry) → standing_at (standing_of o) n ≡ x → (s : StandingEntry) × (standing_at (standing_of o) n ≡ Some s) × (s.home ≡ core_of p h)
+    by None e = absurd (let both : Some (core_of p h) ≡ None = sym (ap (option_map (core_of p)) is) ∙ K.present n ∙ ap (option_map (λ (s : StandingEntry). s.home)) e in cc both)
+    by (Some s) e = (s, e, (let both : Some s.home ≡ Some (core_of p h) = sym (ap (option_map (λ (s : StandingEntry). s.home)) e) ∙ sym (K.present n) ∙ ap (option_map (core_of p)) is in cc both))
 
-  pub stands_of : (n : ℕ) (s : Standing) → standing_at (standing_of o) n ≡ Some s → (h : ℕ) × (v.present k n ≡ Some h) × (core_of p h ≡ s.home)
+  pub stands_of : (n : ℕ) (s : StandingEntry) → standing_at (standing_of o) n ≡ Some s → (h : ℕ) × (v.present k n ≡ Some h) × (core_of p h ≡ s.home)
   stands_of n s is = by (v.present k n) refl where
     by : (x : Option ℕ) → v.present k n ≡ x → (h : ℕ) × (v.present k n ≡ Some h) × (core_of p h ≡ s.home)
-    by None e = absurd (let both : Some s.home ≡ None = sym (ap (option_map (λ (s : Standing). s.home)) is) ∙ sym (K.present n) ∙ ap (option_map (core_of p)) e in cc both)
-    by (Some h) e = (h, e, (let both : Some (core_of p h) ≡ Some s.home = sym (ap (option_map (core_of p)) e) ∙ K.present n ∙ ap (option_map (λ (s : Standing). s.home)) is in cc both))
+    by None e = absurd (let both : Some s.home ≡ None = sym (ap (option_map (λ (s : StandingEntry). s.home)) is) ∙ sym (K.present n) ∙ ap (option_map (core_of p)) e in cc both)
+    by (Some h) e = (h, e, (let both : Some (core_of p h) ≡ Some s.home = sym (ap (option_map (core_of p)) e) ∙ K.present n ∙ ap (option_map (λ (s : StandingEntry). s.home)) is in cc both))
 
 -- what the record has as dead the view has, and the other way round
 pub dead_is : (p : Place) (v : View) (k : ℕ) (o : Option KeyRecord) → KnowsKey p v k o → (n : ℕ) → is_dead_by o n ≡ true → IsDeadIn v k n
@@ -71,7 +71,7 @@ or_by true b h = refl
 or_by false b (inl h) = absurd (cc h)
 or_by false b (inr h) = h
 
-pub dead_by : (p : Place) (v : View) (k : ℕ) (o : Option KeyRecord) → KnowsKey p v k o → (n : ℕ) (s : Standing) → standing_at (standing_of o) n ≡ Some s → IsDeadIn v k n → is_dead_by o n ≡ true
+pub dead_by : (p : Place) (v : View) (k : ℕ) (o : Option KeyRecord) → KnowsKey p v k o → (n : ℕ) (s : StandingEntry) → standing_at (standing_of o) n ≡ Some s → IsDeadIn v k n → is_dead_by o n ≡ true
 dead_by p v k None K n s is d = absurd (cc is)
 dead_by p v k (Some r) K n s is d = or_by (nat_lt n r.version) ((n == r.version) && (is_tombstone r.body && stands_alone r.standing n)) (⊎_elim
     (λ lt. inl (lt-ltb n r.version (let l = K.last in omega (arith, lt, l))))
@@ -88,7 +88,7 @@ spent_last p m v k (Some r) K kept spent = absurd (
     let none : (n : ℕ) → standing_at r.standing n ≡ None = λ n. by n (standing_at r.standing n) refl in
     let both : true ≡ false = sym (and_from (is_tombstone r.body) (is_empty r.standing) dead (none_stands r.standing none)) ∙ kept in cc both)
   where
-    by : (n : ℕ) (x : Option Standing) → standing_at r.standing n ≡ x → x ≡ None
+    by : (n : ℕ) (x : Option StandingEntry) → standing_at r.standing n ≡ x → x ≡ None
     by n None e = refl
     by n (Some s) e = absurd (let h = stands_of p 0 v k (Some r) K n s e in let both : None ≡ Some h.0 = sym (spent.2 n) ∙ h.1 in cc both)
 
@@ -127,14 +127,14 @@ module _ (p : Place) (m : ℕ) (v : View) (last : ℕ → ℕ) (told dead : ℕ 
   tidied_knows k own spent K = record {
     last = ⊎_elim (λ x. x.1 ∙ sym (spent x.0)) (λ e. e) (T.keeps k) ∙ K.last ∙ sym (change_last (known_at old k) (known_at new k) (A.changes k));
     cell = change_left v tidy k (known_at old k) (known_at new k) refl (A.changes k) (v.cell k) K.cell;
-    present = λ n. K.present n ∙ homes n (standing_at (standing_of (known_at old k)) n) ∙ sym (ap (option_map (λ (s : Standing). s.home)) (A.standing k n));
+    present = λ n. K.present n ∙ homes n (standing_at (standing_of (known_at old k)) n) ∙ sym (ap (option_map (λ (s : StandingEntry). s.home)) (A.standing k n));
     told = λ n s is. by_old n s (standing_at (standing_of (known_at old k)) n) refl (sym (A.standing k n) ∙ is);
   } where
-    home_kept : (b : Bool) (s : Standing) → (cond b (standing_with s.version s.home true) s).home ≡ s.home
+    home_kept : (b : Bool) (s : StandingEntry) → (cond b (standing_with s.version s.home true) s).home ≡ s.home
     home_kept true s = refl
     home_kept false s = refl
 
-    homes : (n : ℕ) (x : Option Standing) → option_map (λ (s : Standing). s.home) x ≡ option_map (λ (s : Standing). s.home) (option_map (heard_at (core_of p m) (known_at old k) n) x)
+    homes : (n : ℕ) (x : Option StandingEntry) → option_map (λ (s : StandingEntry). s.home) x ≡ option_map (λ (s : StandingEntry). s.home) (option_map (heard_at (core_of p m) (known_at old k) n) x)
     homes n None = refl
     homes n (Some s) = ap Some (sym (home_kept ((s.home == core_of p m) && is_dead_by (known_at old k) n) s))
 
@@ -147,7 +147,7 @@ module _ (p : Place) (m : ℕ) (v : View) (last : ℕ → ℕ) (told dead : ℕ 
     flag true false f g = sym (g refl)
     flag false true f g = f refl
 
-    by_test : (n : ℕ) (s : Standing) → standing_at (standing_of (known_at old k)) n ≡ Some s → (b : Bool) → ((s.home == core_of p m) && is_dead_by (known_at old k) n) ≡ b → told k n ≡ (cond b (standing_with s.version s.home true) s).told
+    by_test : (n : ℕ) (s : StandingEntry) → standing_at (standing_of (known_at old k)) n ≡ Some s → (b : Bool) → ((s.home == core_of p m) && is_dead_by (known_at old k) n) ≡ b → told k n ≡ (cond b (standing_with s.version s.home true) s).told
     by_test n s is true e =
         let both = and_parts (s.home == core_of p m) (is_dead_by (known_at old k) n) e in
         let h = stands_of p m v k (known_at old k) K n s is in
@@ -158,15 +158,15 @@ module _ (p : Place) (m : ℕ) (v : View) (last : ℕ → ℕ) (told dead : ℕ 
         (λ now. ⊎_elim (λ was. sym (K.told n s is) ∙ was)
         (λ x. absurd (let st = present_of p m v k (known_at old k) K n m x.1 in
         let same : s ≡ st.0 = (let both : Some s ≡ Some st.0 = sym is ∙ st.1 in cc both) in
-        let home : s.home ≡ core_of p m = ap (λ (y : Standing). y.home) same ∙ st.2 in
+        let home : s.home ≡ core_of p m = ap (λ (y : StandingEntry). y.home) same ∙ st.2 in
         let yes = and_from (s.home == core_of p m) (is_dead_by (known_at old k) n) (eq-eqb s.home (core_of p m) home) (dead_by p v k (known_at old k) K n s is x.2) in
         let clash : true ≡ false = sym yes ∙ e in cc clash))
         ((T.tells k n).0 now))
 
-    told_in : Standing → Bool
+    told_in : StandingEntry → Bool
     told_in s = s.told
 
-    by_old : (n : ℕ) (s : Standing) (x : Option Standing) → standing_at (standing_of (known_at old k)) n ≡ x → option_map (heard_at (core_of p m) (known_at old k) n) x ≡ Some s → told k n ≡ s.told
+    by_old : (n : ℕ) (s : StandingEntry) (x : Option StandingEntry) → standing_at (standing_of (known_at old k)) n ≡ x → option_map (heard_at (core_of p m) (known_at old k) n) x ≡ Some s → told k n ≡ s.told
     by_old n s None is heard = absurd (cc heard)
     by_old n s (Some x) is heard =
         let same : heard_at (core_of p m) (known_at old k) n x ≡ s = cc heard in

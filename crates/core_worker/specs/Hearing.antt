@@ -4,7 +4,7 @@ use Rattle.log_entry.specs.declared.entry.Body.{Body}
 use Rattle.core_index.specs.Index.{known_at, SameRoom}
 use Rattle.core_index.specs.Records.{KeyRecord, Awaits, is_dead, standing_at, standing_of, standing_with}
 use Rattle.core_index.specs.Slots as slots
-use Rattle.core_index.specs.declared.types.Standing.{Standing}
+use Rattle.core_index.specs.declared.types.StandingEntry.{StandingEntry}
 
 -- the version is dead, as the record of its key has it
 abbrev pub is_dead_by : Option KeyRecord → ℕ → Bool
@@ -12,7 +12,7 @@ is_dead_by None n = false
 is_dead_by (Some r) n = is_dead r n
 
 -- an entry of a key with this record, where the dead ones that stand at a home were told
-abbrev pub heard_at : ℕ → Option KeyRecord → ℕ → Standing → Standing
+abbrev pub heard_at : ℕ → Option KeyRecord → ℕ → StandingEntry → StandingEntry
 heard_at home o n s = if s.home == home && is_dead_by o n then standing_with s.version s.home true
     else s
 

@@ -7,7 +7,7 @@ use Rattle.log_entry.specs.declared.entry.Entry.{Entry}
 use Rattle.log_entry.specs.Spelling.{HasSpelling, words_of}
 use Rattle.chunk_map.specs.Layouts.{has_class}
 use Rattle.core_index.specs.Records.{KeyRecord, last_of, standing_of, standing_at}
-use Rattle.core_index.specs.declared.types.Standing.{Standing}
+use Rattle.core_index.specs.declared.types.StandingEntry.{StandingEntry}
 use Rattle.store_image.specs.Facts.{In}
 use Rattle.lazy_alloc.specs.Sets.{Sets, class_at, block_is_used}
 use Rattle.group_laws.specs.declared.types.Block.{Block}
@@ -35,7 +35,7 @@ pub record KnowsKey (p : Place) (v : View) (k : ℕ) (known : Option KeyRecord) 
   pub cell : LeftIn v k known (v.cell k)
   pub present : (n : ℕ) → option_map (core_of p) (v.present k n)
       ≡ option_map (λ s. s.home) (standing_at (standing_of known) n)
-  pub told : (n : ℕ) (s : Standing) → standing_at (standing_of known) n ≡ Some s
+  pub told : (n : ℕ) (s : StandingEntry) → standing_at (standing_of known) n ≡ Some s
       → v.told k n ≡ s.told
 
 -- the entry leaves something: its block must hold a value of the key, and a delete takes one away

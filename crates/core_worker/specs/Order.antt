@@ -4,7 +4,7 @@ use Rattle.log_entry.specs.declared.entry.Body.TheVariants as bodies
 use Rattle.log_entry.specs.Spelling.{HasSpelling}
 use Rattle.core_index.specs.Index.{known_at}
 use Rattle.core_index.specs.Records.{Awaits, last_of, standing_of, standing_at, block_of, is_forgettable}
-use Rattle.core_index.specs.declared.types.Standing.{Standing}
+use Rattle.core_index.specs.declared.types.StandingEntry.{StandingEntry}
 use Rattle.group_laws.specs.declared.types.Block.{Block}
 use Rattle.group_laws.specs.declared.types.Pending.{Pending}
 use Rattle.group_laws.specs.Places.{Place, core_of, owner}
@@ -53,10 +53,10 @@ pub record InOrder (p : Place) (m : ℕ) (v : View) (w : Worker) : Type 0 where
   -- no name is told that doesn't stand
   pub told : (k n : ℕ) → v.present k n ≡ None → v.told k n ≡ false
   -- no entry stands above the last version of its key
-  pub versions : (k n : ℕ) (s : Standing) → standing_at (standing_of (known_at w.index k)) n
+  pub versions : (k n : ℕ) (s : StandingEntry) → standing_at (standing_of (known_at w.index k)) n
       ≡ Some s → n ≤ last_of (known_at w.index k)
   -- and none of another member's key
-  pub mine : (k n : ℕ) (s : Standing) → standing_at (standing_of (known_at w.index k)) n
+  pub mine : (k n : ℕ) (s : StandingEntry) → standing_at (standing_of (known_at w.index k)) n
       ≡ Some s → owner p k ≡ m
   -- a change under way is the next one of its key, and words can spell it
   pub next : (k : ℕ) (q : Pending) → v.pending k ≡ Some q → q.entry.version ≡ v.last k + 1

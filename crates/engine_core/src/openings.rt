@@ -27,13 +27,13 @@ impl<O: Opening, N: Numbered> Opening for Of<O, N> {
 }
 
 /// The words of a region and its length in bytes, which are known only when the program runs.
-pub trait Found {
+pub trait FoundRegion {
     ghost words: { List ℕ };
 
     ghost bytes: { ℕ };
 }
 
-impl Found for Brand {
+impl FoundRegion for Brand {
     ghost words = { [] };
 
     ghost bytes = { 0 };
@@ -44,7 +44,7 @@ pub struct On<F> {
     marker: PhantomData<F>,
 }
 
-impl<F: Found> Opening for On<F> {
+impl<F: FoundRegion> Opening for On<F> {
     ghost words = { F.words };
 
     ghost bytes = { F.bytes };

@@ -18,7 +18,7 @@ use Rattle.thread_engine.specs.RanApart.{RanApart, Rejoined}
 use Rattle.flatstore_commands.specs.Attaching.{Asks, GoesOnBy}
 use Rattle.flatstore_commands.specs.LastStates.{told_in}
 use Rattle.flatstore_commands.specs.ThreadRuns.{CoresRan}
-use Rattle.flatstore_commands.specs.declared.report.Report.{Report}
+use Rattle.flatstore_commands.specs.declared.report.CommandReport.{CommandReport}
 use Rattle.flatstore_commands.proofs.Causing.{HasCauses}
 use Rattle.flatstore_commands.proofs.Serving.{Known, words_found}
 use Rattle.flatstore_commands.proofs.Standing.{origin_cores}
@@ -118,7 +118,7 @@ module _ (old s t : State) (found word : ℕ → ℕ) (A : Attached old s s.fram
   licensed_last = subst (λ z. IsTelling z → AllLicensed f.layout f.group (cell_now z)) (sym R.region) R.licensed
 
   -- of a report on it
-  module _ (r : Report) (finishes : r.finishes.items ≡ x.finishes.items) (refusals : r.refusals.items ≡ x.refusals.items) where
+  module _ (r : CommandReport) (finishes : r.finishes.items ≡ x.finishes.items) (refusals : r.refusals.items ≡ x.refusals.items) where
     pub report_told : told_in r ≡ told_by (report_in x)
     report_told i = as_told (finishes i) (refusals i)
 

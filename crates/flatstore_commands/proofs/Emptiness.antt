@@ -22,7 +22,7 @@ use Rattle.store_image.specs.Winners.{winner_in, cell_by}
 use Rattle.store_image.specs.Soundness.{first_fault, fault_by}
 use Rattle.store_image.proofs.Clients.{store_sound}
 use Rattle.flatstore_commands.specs.declared.report.Status.TheVariants as statuses
-use Rattle.flatstore_commands.specs.declared.report.Report.{Report}
+use Rattle.flatstore_commands.specs.declared.report.CommandReport.{CommandReport}
 use Rattle.flatstore_commands.specs.Attaching.{Runs, Creates}
 use Rattle.flatstore_commands.specs.Formats.{Formats, EachImage, IsEmptyStore, IsRefusedOrEmpty}
 
@@ -100,7 +100,7 @@ module _ (old mid new : State) (l : Geometry) (is : IsLayout l) (A : Attached ol
   runs : Runs mid new
   runs = over_weaken mid new _ _ (λ n telling told le each. tt) others
 
-  pub made_once : {T : Type 0} (result : Result T AttachError) (x : T) → result ≡ Ok x → Refuses old mid result → IsOpenedOnceMore old mid → (r : Report) → r.attached ≡ true → Creates old new l r
+  pub made_once : {T : Type 0} (result : Result T AttachError) (x : T) → result ≡ Ok x → Refuses old mid result → IsOpenedOnceMore old mid → (r : CommandReport) → r.attached ≡ true → Creates old new l r
   made_once result x is R once r attached = creates_once old mid new l result x is R created once runs r attached
 
   pub size_is : new.frame.bytes ≡ total_bytes l
@@ -138,7 +138,7 @@ module _ (old mid new : State) (l : Geometry) (is : IsLayout l) (A : Attached ol
   refused_throughout t told image may = refused_or_empty t told image may
 
   -- the fences of the superblock failed
-  pub made_stops : old.faults ≤ mid.faults → Rose mid.faults new.faults → (r : Report) → r.status ≡ statuses.RegionFault → Creates old new l r → Formats old new l r
+  pub made_stops : old.faults ≤ mid.faults → Rose mid.faults new.faults → (r : CommandReport) → r.status ≡ statuses.RegionFault → Creates old new l r → Formats old new l r
   made_stops later rose r status creates = record {
     ends = inr (inr (status, omega (arith, later, rose)));
     creates = creates;
@@ -150,7 +150,7 @@ module _ (old mid new : State) (l : Geometry) (is : IsLayout l) (A : Attached ol
     no_end e = cc e
 
   -- the superblock was written
-  pub made_ends : (IsTelling new → EachIn 0 6 (IsSuperblock l) (cell_now new)) → (r : Report) → r.status ≡ statuses.Done → Creates old new l r → Formats old new l r
+  pub made_ends : (IsTelling new → EachIn 0 6 (IsSuperblock l) (cell_now new)) → (r : CommandReport) → r.status ≡ statuses.Done → Creates old new l r → Formats old new l r
   made_ends super r status creates = record {
     ends = inl status;
     creates = creates;

@@ -34,7 +34,7 @@ use Rattle.flatstore_commands.specs.Shows.{HasShown, WritesText, BeginsText, is_
 use Rattle.flatstore_commands.specs.Statuses.{fault_status}
 use Rattle.flatstore_commands.specs.declared.report.Status.{Status}
 use Rattle.flatstore_commands.specs.declared.report.Status.TheVariants as statuses
-use Rattle.flatstore_commands.specs.declared.report.Report.{Report}
+use Rattle.flatstore_commands.specs.declared.report.CommandReport.{CommandReport}
 use Rattle.flatstore_commands.proofs.Attached.{found_fault, found_last}
 use Rattle.flatstore_commands.proofs.Refused.{served_by, some_input}
 use Rattle.flatstore_commands.proofs.Standing.{counted_by}
@@ -164,7 +164,7 @@ module _ (old s : State) (found word : ℕ → ℕ) (A : Attached old s s.frame.
   words_found telling w inside = sym (tells w telling) ∙ found_last old s found A telling w inside
 
   -- ---- no verdict
-  by_none : (status : Status) → IsUnjudged s word source status → (r : Report) → r.status ≡ status → r.complete ≡ false → (input : List ℕ)
+  by_none : (status : Status) → IsUnjudged s word source status → (r : CommandReport) → r.status ≡ status → r.complete ≡ false → (input : List ℕ)
       → (IsTelling s → (status ≡ due_by found input (first_fault s.frame.bytes found)) ⊎ IsFault old s source sink status)
       → (is_of_line status ≡ true → IsServed s found × IsReadOut source.coming source.left × (status ≡ input_status (audit_input_of (word 2) input)))
       → AuditsBy old s found word source input sink r
@@ -180,7 +180,7 @@ module _ (old s : State) (found word : ℕ → ℕ) (A : Attached old s s.frame.
     untouched = A;
   }
 
-  pub unjudged_audits : (status : Status) → IsUnjudged s word source status → (r : Report) → r.status ≡ status → r.complete ≡ false
+  pub unjudged_audits : (status : Status) → IsUnjudged s word source status → (r : CommandReport) → r.status ≡ status → r.complete ≡ false
       → (input : List ℕ) × IsInput source.coming input × AuditsBy old s found word source input sink r
   unjudged_audits status (inl (inl (fault, why, told))) r is cut =
       let input = some_input source.coming in (
@@ -251,7 +251,7 @@ module _ (old s : State) (found word : ℕ → ℕ) (A : Attached old s s.frame.
   due_judged text status input (inr (inl w)) due = inr (inr (inr (inl (w.0, w.1))))
   due_judged text status input (inr (inr w)) due = inr (inl w.0)
 
-  pub judged_audits : (verdict : Verdict) → IsJudged s word source verdict → (r : Report) → HasShown (verdict_text verdict) sink r.status → r.complete ≡ true
+  pub judged_audits : (verdict : Verdict) → IsJudged s word source verdict → (r : CommandReport) → HasShown (verdict_text verdict) sink r.status → r.complete ≡ true
       → (input : List ℕ) × IsInput source.coming input × AuditsBy old s found word source input sink r
   judged_audits verdict j r shown complete =
       let text = verdict_text verdict in

@@ -11,7 +11,7 @@ use Rattle.pm_region.specs.Split.{Attached, Stays, Refuses, IsOpenedOnceMore, Is
 use Rattle.pm_region.specs.declared.split.AttachError.{AttachError}
 use Rattle.pm_region.specs.declared.split.AttachError.TheVariants as attach
 use Rattle.pm_region.specs.Words.{lasts}
-use Rattle.fs_text.specs.declared.line.Tally.{Tally}
+use Rattle.fs_text.specs.declared.line.LoadTally.{LoadTally}
 use Rattle.fs_text.specs.Streams.{Takes, TakesPrefix}
 use Rattle.fs_text.specs.Output.{tally_text}
 use Rattle.store_image.specs.declared.types.Fault.{Fault}
@@ -45,7 +45,7 @@ use Rattle.flatstore_commands.specs.ThreadPlays.{why_of, status_for, has_begun}
 use Rattle.flatstore_commands.specs.ThreadRuns.{CoresRan}
 use Rattle.flatstore_commands.specs.declared.report.Status.{Status}
 use Rattle.flatstore_commands.specs.declared.report.Status.TheVariants as statuses
-use Rattle.flatstore_commands.specs.declared.report.Report.{Report}
+use Rattle.flatstore_commands.specs.declared.report.CommandReport.{CommandReport}
 use Rattle.flatstore_commands.specs.declared.run_threads.NotRun.{NotRun}
 use Rattle.flatstore_commands.specs.declared.run_threads.NotRun.TheVariants.{Refused, Unsplit}
 use Rattle.flatstore_commands.proofs.Apart as apart
@@ -89,7 +89,7 @@ written_more end sink status whole front (inr (inr (inl w))) = inr (inr (inl (w.
 written_more end sink status whole front (inr (inr (inr w))) = inr (inr (inr (w.0, w.1, front w.2)))
 
 -- what was written of a tally is what was written of that of these replies and pairs
-pub tally_shown : (bytes : ℕ) (word : ℕ → ℕ) (replies : List Reply) (tally : Tally) (pairs : List Pair) (end : End) (sink : SinkUse) (status : Status) → ListsCells (cells_of word) pairs → tally ≡ tally_of replies pairs
+pub tally_shown : (bytes : ℕ) (word : ℕ → ℕ) (replies : List Reply) (tally : LoadTally) (pairs : List Pair) (end : End) (sink : SinkUse) (status : Status) → ListsCells (cells_of word) pairs → tally ≡ tally_of replies pairs
     → HasWritten (Takes sink.before sink.now (tally_text tally)) (TakesPrefix sink.before sink.now (tally_text tally)) end sink status → HasShownTally bytes word replies end sink status
 tally_shown bytes word replies tally pairs end sink status lists is w = inl (written_more end sink status (λ took. (tally_text tally, text, took)) (λ took. inr (tally_text tally, text, took)) w) where
   text : IsTallyText word replies (tally_text tally)
@@ -112,7 +112,7 @@ module _ (s t : State) (word : ℕ → ℕ) (S : Stays s t) {X : Type 0} (r : Re
 
 -- what was done to a region that was attached
 pub loads_then : (old s t : State) (found : ℕ → ℕ) → Attached old s s.frame.bytes found → IsOpenedOnceMore old s → s.frame.refusals ≡ old.frame.refusals → t.frame.bytes ≡ s.frame.bytes
-    → (r : Report) → r.attached ≡ true → AsksBehind MayRejoin r s t → AttachesToLoad old t found r
+    → (r : CommandReport) → r.attached ≡ true → AsksBehind MayRejoin r s t → AttachesToLoad old t found r
 loads_then old s t found A once granted bytes r opened done = record {
   attached = λ attached. record {
     at = s;
@@ -126,7 +126,7 @@ loads_then old s t found A once granted bytes r opened done = record {
 }
 
 -- nothing was asked of a region that was left as it was
-pub not_asked_behind : (s t : State) → Stays s t → IsNotOpened s t → (r : Report) → r.complete ≡ false → AsksBehind MayRejoin r s t
+pub not_asked_behind : (s t : State) → Stays s t → IsNotOpened s t → (r : CommandReport) → r.complete ≡ false → AsksBehind MayRejoin r s t
 not_asked_behind s t S opens r cut = record { left = t; done = inr (S, opens); asks = subst (λ b. Asks b r.in_place t t) (sym cut) refl }
 
 -- No core ran.
@@ -193,7 +193,7 @@ module _ (old s t : State) (found word : ℕ → ℕ) (A : Attached old s s.fram
   unsplit_by (Refused status) h is = absurd (early_apart status h statuses.RegionFault refl (λ q. cc q) is)
   unsplit_by Unsplit h is = (still_attached, subst (λ n. Rose n t.frame.refusals) granted h.3)
 
-  module _ (r : Report) (status : r.status ≡ status_for why) (begun_is : r.began ≡ has_begun why) (fin : r.finishes.items ≡ []) (ref : r.refusals.items ≡ []) (cut : r.complete ≡ false) (unplaced : r.in_place ≡ false) (sink : SinkUse) (same : sink.now ≡ sink.before) (word' : ℕ → ℕ)
+  module _ (r : CommandReport) (status : r.status ≡ status_for why) (begun_is : r.began ≡ has_begun why) (fin : r.finishes.items ≡ []) (ref : r.refusals.items ≡ []) (cut : r.complete ≡ false) (unplaced : r.in_place ≡ false) (sink : SinkUse) (same : sink.now ≡ sink.before) (word' : ℕ → ℕ)
       (refused : Bool) (start count : ℕ) where
     begun_then : r.began ≡ true → has_begun why ≡ true
     begun_then begun = sym begun_is ∙ begun
@@ -249,7 +249,7 @@ leaves_lasts : (s : State) → MayLeave s.frame (cell_now s) (lasts s)
 leaves_lasts s w inside = let c = cell_now s w in has_behind c.before (c.marked ++ c.last ∷ []) c.last (has_last c.marked c.last)
 
 -- What a writing promises holds where the words behind the run break a rule, for nothing was written.
-module _ (All Front : List Reply → Type 0) (old t : State) (found : ℕ → ℕ) (trace : List Request) (sink : SinkUse) (r : Report) (fault : Fault) (is : r.status ≡ fault_status fault) (here : r.in_place ≡ true)
+module _ (All Front : List Reply → Type 0) (old t : State) (found : ℕ → ℕ) (trace : List Request) (sink : SinkUse) (r : CommandReport) (fault : Fault) (is : r.status ≡ fault_status fault) (here : r.in_place ≡ true)
     (S : Serves All Front old t found trace sink (record r { status = statuses.Memory })) where
   pub broken_serves : Serves All Front old t found trace sink r
   broken_serves = record {
@@ -297,7 +297,7 @@ module _ (old s left t : State) (found word word' : ℕ → ℕ) (A : Attached o
   known : serving.Known old found cores made o f x
   known = apart.known old s left found word A once granted low refused P.recovered P.stands made x P.ran
 
-  module _ (r : Report) (W : HasTallied t.frame.bytes word' x sink r.in_place r.status) (asks : Asks r.complete r.in_place left t) (finishes : r.finishes.items ≡ x.finishes.items) (refusals : r.refusals.items ≡ x.refusals.items) (begun : r.began ≡ true)
+  module _ (r : CommandReport) (W : HasTallied t.frame.bytes word' x sink r.in_place r.status) (asks : Asks r.complete r.in_place left t) (finishes : r.finishes.items ≡ x.finishes.items) (refusals : r.refusals.items ≡ x.refusals.items) (begun : r.began ≡ true)
       (complete_is : r.complete ≡ is_ended x.end) (kept_back : r.in_place ≡ false → sink.now ≡ sink.before) where
     asks_last : Asks r.complete r.in_place f.region t
     asks_last = subst (λ z. Asks r.complete r.in_place z t) (sym P.ran.region) asks
@@ -409,7 +409,7 @@ module _ (old s left t : State) (found word word' : ℕ → ℕ) (A : Attached o
 
     -- The words that were read behind the run break a rule.
     module _ (here : r.in_place ≡ true) (whole : is_ended x.end ≡ true) (same : sink.now ≡ sink.before) (fault : Fault) (is : r.status ≡ fault_status fault) (broken : first_fault t.frame.bytes word' ≡ Some fault) where
-      abbrev blank : Report
+      abbrev blank : CommandReport
       blank = record r { status = statuses.Memory }
 
       blank_ends : EndsAs (All x.replies.items) (Front x.replies.items) x.end sink r.in_place statuses.Memory

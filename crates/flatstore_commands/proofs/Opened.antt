@@ -8,7 +8,7 @@ use Rattle.pm_region.proofs.Clients.{over_started}
 use Rattle.chunk_map.specs.declared.layouts.Geometry.{Geometry}
 use Rattle.chunk_map.specs.Layouts.{total_bytes}
 use Rattle.flatstore_commands.specs.Attaching.{Runs, GoesOnFrom, Asks, Attaches, AttachesToRun, Creates}
-use Rattle.flatstore_commands.specs.declared.report.Report.{Report}
+use Rattle.flatstore_commands.specs.declared.report.CommandReport.{CommandReport}
 use Rattle.flatstore_commands.proofs.Staying.{asks_stays}
 
 both : (b : Bool) {P : Type 0} → b ≡ true → b ≡ false → P
@@ -34,7 +34,7 @@ goes_on old at new bytes image result x is R A once on = record {
 }
 
 pub attaches_once : {T : Type 0} (old at new : State) (found : ℕ → ℕ) (result : Result T AttachError) (x : T) → result ≡ Ok x → Refuses old at result → Attached old at at.frame.bytes found → IsOpenedOnceMore old at → Runs at new
-    → (r : Report) → r.attached ≡ true → Attaches old new found r
+    → (r : CommandReport) → r.attached ≡ true → Attaches old new found r
 attaches_once old at new found result x is R A once on r opened = record {
   attached = λ attached. goes_on old at new new.frame.bytes found result x is R (subst (λ (f : Frame). Attached old at f.bytes found) (sym on.frame) A) once on;
   unattached = λ isnt. both r.attached opened isnt;
@@ -43,7 +43,7 @@ attaches_once old at new found result x is R A once on r opened = record {
 
 -- and of which it was asked behind the run whether it is in its place
 pub attaches_to_run : {T : Type 0} (old at left new : State) (found : ℕ → ℕ) (result : Result T AttachError) (x : T) → result ≡ Ok x → Refuses old at result → Attached old at at.frame.bytes found → IsOpenedOnceMore old at → Runs at left
-    → (r : Report) → r.attached ≡ true → Asks r.complete r.in_place left new → AttachesToRun old new found r
+    → (r : CommandReport) → r.attached ≡ true → Asks r.complete r.in_place left new → AttachesToRun old new found r
 attaches_to_run old at left new found result x is R A once on r opened asks = record {
   attached = λ attached. record {
     at = at;
@@ -58,7 +58,7 @@ attaches_to_run old at left new found result x is R A once on r opened asks = re
 
 -- a region that is created
 pub creates_once : {T : Type 0} (old at new : State) (l : Geometry) (result : Result T AttachError) (x : T) → result ≡ Ok x → Refuses old at result → Attached old at (total_bytes l) (λ w. 0) → IsOpenedOnceMore old at → Runs at new
-    → (r : Report) → r.attached ≡ true → Creates old new l r
+    → (r : CommandReport) → r.attached ≡ true → Creates old new l r
 creates_once old at new l result x is R A once on r opened = record {
   created = λ created. goes_on old at new (total_bytes l) (λ w. 0) result x is R A once on;
   uncreated = λ isnt. both r.attached opened isnt;

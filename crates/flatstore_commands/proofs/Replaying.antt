@@ -21,7 +21,7 @@ use Rattle.flatstore_commands.specs.Ends.{SourceUse, SinkUse, CountsFaults}
 use Rattle.flatstore_commands.specs.LastStates.{told_in, RanTo}
 use Rattle.flatstore_commands.specs.Promise.{IsInput, Replays, TakesReplies, TakesFront, asked_in}
 use Rattle.flatstore_commands.specs.Played.{Played, HasAnswered, EndsAs, is_ended}
-use Rattle.flatstore_commands.specs.declared.report.Report.{Report}
+use Rattle.flatstore_commands.specs.declared.report.CommandReport.{CommandReport}
 use Rattle.flatstore_commands.proofs.Causing.{HasCauses}
 use Rattle.flatstore_commands.proofs.Inputs.{read_trace}
 use Rattle.flatstore_commands.proofs.Running as running
@@ -107,7 +107,7 @@ module _ (old s t : State) (found word : ℕ → ℕ) (A : Attached old s s.fram
   }
 
   -- The report is on the last state of the run, behind which the region was asked whether it is in its place.
-  module _ (u : State) (sink : SinkUse) (r : Report) (W : HasAnswered x sink r.in_place r.status) (asks : Asks r.complete r.in_place t u)
+  module _ (u : State) (sink : SinkUse) (r : CommandReport) (W : HasAnswered x sink r.in_place r.status) (asks : Asks r.complete r.in_place t u)
       (finishes : r.finishes.items ≡ x.finishes.items) (refusals : r.refusals.items ≡ x.refusals.items) (begun : r.began ≡ true) (complete_is : r.complete ≡ is_ended x.end) where
     report_told : told_in r ≡ told_by (report_in x)
     report_told i = as_told (finishes i) (refusals i)

@@ -31,7 +31,7 @@ use Rattle.flatstore_commands.specs.Ends.{SinkUse}
 use Rattle.flatstore_commands.specs.LastStates.{Starts, Opens, ReportsKept, ReportsAnswers, RanTo, BreaksOff}
 use Rattle.flatstore_commands.specs.Promise.{TakesReplies, TakesFront}
 use Rattle.flatstore_commands.specs.Played.{HasAnswered, is_ended}
-use Rattle.flatstore_commands.specs.declared.report.Report.{Report}
+use Rattle.flatstore_commands.specs.declared.report.CommandReport.{CommandReport}
 use Rattle.flatstore_commands.proofs.Attached.{found_words}
 use Rattle.flatstore_commands.proofs.Staying.{tells_still, cells_still}
 use Rattle.flatstore_commands.proofs.Texts.{both, small_sound}
@@ -79,7 +79,7 @@ module _ (old s t : State) (found word : ℕ → ℕ) (A : Attached old s s.fram
         (subst (λ n. Ran CoreMoves with_request n lines (first_state o P.workers) last) count (P.ran not_cut))
 
   -- Behind the last state it may have been asked whether it is in its place.
-  module _ (u : State) (still : Stays t u) (r : Report) (finishes : r.finishes.items ≡ x.finishes.items) (refusals : r.refusals.items ≡ x.refusals.items) where
+  module _ (u : State) (still : Stays t u) (r : CommandReport) (finishes : r.finishes.items ≡ x.finishes.items) (refusals : r.refusals.items ≡ x.refusals.items) where
     abbrev pub from : GoesOnFrom old last.engine.region u.frame.bytes found
     from = record {
       at = s;

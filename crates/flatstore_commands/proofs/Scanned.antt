@@ -30,7 +30,7 @@ use Rattle.flatstore_commands.specs.Asking.{AreUnread, IsReadyFor, IsUnasked, Ke
 use Rattle.flatstore_commands.specs.declared.scan_ranges.Scan.{Scan}
 use Rattle.flatstore_commands.specs.declared.report.Status.{Status}
 use Rattle.flatstore_commands.specs.declared.report.Status.TheVariants as statuses
-use Rattle.flatstore_commands.specs.declared.report.Report.{Report}
+use Rattle.flatstore_commands.specs.declared.report.CommandReport.{CommandReport}
 use Rattle.flatstore_commands.proofs.Attached.{found_fault, found_last}
 use Rattle.flatstore_commands.proofs.Refused.{some_input}
 use Rattle.flatstore_commands.proofs.Texts.{both, takes_front}
@@ -99,7 +99,7 @@ module _ (old s : State) (found word : ℕ → ℕ) (A : Attached old s s.frame.
   served keeps telling = sym (found_fault old s found A telling) ∙ keeps telling
 
   -- nothing is answered
-  unanswered : (input : List ℕ) (r : Report) → r.complete ≡ false → is_unwritten r.status ≡ true
+  unanswered : (input : List ℕ) (r : CommandReport) → r.complete ≡ false → is_unwritten r.status ≡ true
       → (IsTelling s → (r.status ≡ scan_due (first_fault s.frame.bytes found) input) ⊎ IsScanFault source sink r.status)
       → (r.status ≡ statuses.SourceFault → IsServed s found)
       → (is_of_line r.status ≡ true → IsServed s found × IsReadOut source.coming source.left × (r.status ≡ queries_status (queries_of input)))
@@ -117,7 +117,7 @@ module _ (old s : State) (found word : ℕ → ℕ) (A : Attached old s s.frame.
     untouched = A;
   }
 
-  refused_by : (status : Status) (r : Report) → r.status ≡ status → r.complete ≡ false → IsUnasked s source status
+  refused_by : (status : Status) (r : CommandReport) → r.status ≡ status → r.complete ≡ false → IsUnasked s source status
       → (input : List ℕ) × IsInput source.coming input × Answers old s found word source input sink r
   refused_by status r is incomplete (inl (inl (fault, at, told))) =
       let some = some_input source.coming in (
@@ -164,11 +164,11 @@ module _ (old s : State) (found word : ℕ → ℕ) (A : Attached old s s.frame.
             (λ line. both (is_of_line r.status) line (ap is_of_line (is ∙ memory))),
       )
 
-  pub refused_scans : (status : Status) → IsUnasked s source status → (r : Report) → r.status ≡ status → r.complete ≡ false → Attaches old s found r → Scans old s found word source sink r
+  pub refused_scans : (status : Status) → IsUnasked s source status → (r : CommandReport) → r.status ≡ status → r.complete ≡ false → Attaches old s found r → Scans old s found word source sink r
   refused_scans status why r is incomplete attaches = record { attaches = attaches; answers = λ attached. refused_by status r is incomplete why }
 
   -- its counts
-  pub refused_counts : (status : Status) → IsUnasked s source status → (r : Report) → r.status ≡ status → CountsFaults old s source sink r.status
+  pub refused_counts : (status : Status) → IsUnasked s source status → (r : CommandReport) → r.status ≡ status → CountsFaults old s source sink r.status
   refused_counts status why r is = record {
     source_fault = λ q. rose why (sym is ∙ q);
     sink_fault = λ q. both (is_unwritten status) (unwritten why) (ap is_unwritten (sym is ∙ q));
@@ -214,7 +214,7 @@ module _ (old s : State) (found word : ℕ → ℕ) (A : Attached old s s.frame.
     memory_done : statuses.Memory ≡ statuses.Done → ⊥
     memory_done e = cc e
 
-    pub written_scans : (r : Report) → HasShown (answers_text pairs scan.queries) sink r.status → r.complete ≡ true → Attaches old s found r → Scans old s found word source sink r
+    pub written_scans : (r : CommandReport) → HasShown (answers_text pairs scan.queries) sink r.status → r.complete ≡ true → Attaches old s found r → Scans old s found word source sink r
     written_scans r W complete attaches = record {
       attaches = attaches;
       answers = λ attached. (
@@ -259,7 +259,7 @@ module _ (old s : State) (found word : ℕ → ℕ) (A : Attached old s s.frame.
       begun (inr (inl w)) = w.2
       begun (inr (inr w)) = w.1
 
-    pub written_counts : (r : Report) → HasShown (answers_text pairs scan.queries) sink r.status → CountsFaults old s source sink r.status
+    pub written_counts : (r : CommandReport) → HasShown (answers_text pairs scan.queries) sink r.status → CountsFaults old s source sink r.status
     written_counts r W = record {
       source_fault = λ q. no_source W q;
       sink_fault = λ q. rose W q;

@@ -42,7 +42,7 @@ use Rattle.flatstore_commands.specs.Promise.{Says, Serves}
 use Rattle.flatstore_commands.specs.Played.{EndsAs, is_ended}
 use Rattle.flatstore_commands.specs.declared.report.Status.{Status}
 use Rattle.flatstore_commands.specs.declared.report.Status.TheVariants as statuses
-use Rattle.flatstore_commands.specs.declared.report.Report.{Report}
+use Rattle.flatstore_commands.specs.declared.report.CommandReport.{CommandReport}
 use Rattle.flatstore_commands.proofs.Attached.{found_words}
 use Rattle.flatstore_commands.proofs.Agreeing as agreeing
 use Rattle.flatstore_commands.proofs.Numbering.{all_map, rising}
@@ -129,7 +129,7 @@ module _ (old t : State) (found : ℕ → ℕ) (cores : ℕ) (trace : List Reque
   trace_is = K.given
 
   -- of a report on it, and what was written
-  module _ (All Front : List Reply → Type 0) (sink : SinkUse) (silent : sink.now ≡ sink.before → (replies : List Reply) → Front replies) (r : Report) (W : EndsAs (All x.replies.items) (Front x.replies.items) x.end sink r.in_place r.status)
+  module _ (All Front : List Reply → Type 0) (sink : SinkUse) (silent : sink.now ≡ sink.before → (replies : List Reply) → Front replies) (r : CommandReport) (W : EndsAs (All x.replies.items) (Front x.replies.items) x.end sink r.in_place r.status)
       (front : Front x.replies.items) (held : is_ended x.end ≡ false → (sink.now ≡ sink.before) ⊎ (K.more ≡ []))
       (lost : r.complete ≡ true → r.in_place ≡ false → Rose old.faults t.faults) (unasked : r.complete ≡ false → f.region ≡ t) (report_told : told_in r ≡ told_by (report_in x)) (report_refused : r.refusals.items ≡ x.refusals.items) (report_began : r.began ≡ true) (report_complete : r.complete ≡ is_ended x.end) where
     pub told_is : told_in r ≡ told_of f

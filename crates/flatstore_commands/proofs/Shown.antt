@@ -8,7 +8,7 @@ use Rattle.store_image.specs.Soundness.{IsSound}
 use Rattle.fs_text.specs.Streams.{Takes, TakesPrefix}
 use Rattle.flatstore_commands.specs.declared.report.Status.{Status}
 use Rattle.flatstore_commands.specs.declared.report.Status.TheVariants as statuses
-use Rattle.flatstore_commands.specs.declared.report.Report.{Report}
+use Rattle.flatstore_commands.specs.declared.report.CommandReport.{CommandReport}
 use Rattle.flatstore_commands.specs.Ends.{SinkUse}
 use Rattle.flatstore_commands.specs.Attaching.{Attaches}
 use Rattle.flatstore_commands.specs.Shows.{Shows, HasShown, WritesText, IsDueOf, IsUnlisted, status_by, is_of_writing}
@@ -42,7 +42,7 @@ module _ (IsText : List ℕ → Type 0) (old s : State) (found word : ℕ → �
   words_found telling w inside = sym (tells w telling) ∙ found_last old s found A telling w inside
 
   -- a rule is broken, or there was no memory for what is to be written
-  pub shows_none : (status : Status) → IsUnlisted s.frame.bytes word status → (r : Report) → r.status ≡ status → r.complete ≡ false → Attaches old s found r
+  pub shows_none : (status : Status) → IsUnlisted s.frame.bytes word status → (r : CommandReport) → r.status ≡ status → r.complete ≡ false → Attaches old s found r
       → Shows IsText old s found word sink r
   shows_none status why r is incomplete attaches = record {
     attaches = attaches;
@@ -61,7 +61,7 @@ module _ (IsText : List ℕ → Type 0) (old s : State) (found word : ℕ → �
 
   -- the text was written, or the beginning of it
   pub shows_text : (text : List ℕ) → IsText text → IsSound s.frame.bytes word
-      → (r : Report) → HasShown text sink r.status → r.complete ≡ true → Attaches old s found r
+      → (r : CommandReport) → HasShown text sink r.status → r.complete ≡ true → Attaches old s found r
       → Shows IsText old s found word sink r
   shows_text text kind sound r W complete attaches = record {
     attaches = attaches;

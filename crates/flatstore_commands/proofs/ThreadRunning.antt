@@ -40,7 +40,7 @@ use Rattle.flatstore_commands.specs.ThreadPlays.{PlayedApart, HasNotSplit, IsNot
 use Rattle.flatstore_commands.specs.ThreadRuns.{CoresRan, WorkedInWindows, RanOnThreads, RunsOnThreads}
 use Rattle.flatstore_commands.specs.declared.report.Status.{Status}
 use Rattle.flatstore_commands.specs.declared.report.Status.TheVariants as statuses
-use Rattle.flatstore_commands.specs.declared.report.Report.{Report}
+use Rattle.flatstore_commands.specs.declared.report.CommandReport.{CommandReport}
 use Rattle.flatstore_commands.specs.declared.run_threads.NotRun.{NotRun}
 use Rattle.flatstore_commands.specs.declared.run_threads.NotRun.TheVariants.{Refused, Unsplit}
 use Rattle.flatstore_commands.proofs.Apart as apart
@@ -54,7 +54,7 @@ use Rattle.flatstore_commands.proofs.Written.{all_written, fault_end, whole_end,
 
 -- what was done to a region that was attached
 pub attaches_then : (old s t : State) (found : ℕ → ℕ) → Attached old s s.frame.bytes found → IsOpenedOnceMore old s → s.frame.refusals ≡ old.frame.refusals → t.frame.bytes ≡ s.frame.bytes
-    → (r : Report) → r.attached ≡ true → AsksMeanwhile r s t → AttachesToSplit old t found r
+    → (r : CommandReport) → r.attached ≡ true → AsksMeanwhile r s t → AttachesToSplit old t found r
 attaches_then old s t found A once granted bytes r opened done = record {
   attached = λ attached. record {
     at = s;
@@ -68,7 +68,7 @@ attaches_then old s t found A once granted bytes r opened done = record {
 }
 
 -- nothing was asked of a region that was left as it was
-pub not_asked : (s t : State) → Stays s t → IsNotOpened s t → (r : Report) → r.complete ≡ false → r.in_place ≡ false → AsksMeanwhile r s t
+pub not_asked : (s t : State) → Stays s t → IsNotOpened s t → (r : CommandReport) → r.complete ≡ false → r.in_place ≡ false → AsksMeanwhile r s t
 not_asked s t S opens r cut unplaced = record {
   done = inr (S, opens);
   found = λ here. both r.in_place here unplaced;
@@ -144,7 +144,7 @@ module _ (old s t : State) (found word : ℕ → ℕ) (A : Attached old s s.fram
   pub why_sink : status_for why ≡ statuses.SinkFault → ⊥
   why_sink e = sink_by why N.cause e
 
-  module _ (r : Report) (fin : r.finishes.items ≡ []) (ref : r.refusals.items ≡ []) (cut : r.complete ≡ false) (unplaced : r.in_place ≡ false) (sink : SinkUse) (same : sink.now ≡ sink.before) (refused : Bool) where
+  module _ (r : CommandReport) (fin : r.finishes.items ≡ []) (ref : r.refusals.items ≡ []) (cut : r.complete ≡ false) (unplaced : r.in_place ≡ false) (sink : SinkUse) (same : sink.now ≡ sink.before) (refused : Bool) where
     abbrev Promised : Type 0
     Promised = (input : List ℕ) × (cores : ℕ) × IsInput source.coming input × RunsOnThreads old t found source refused cores input sink r
 
@@ -305,7 +305,7 @@ module _ (old s t : State) (found word : ℕ → ℕ) (A : Attached old s s.fram
   known = apart.known old s t found word A once granted low refused P.recovered P.ready.stands trace x P.ran.ran
 
   -- The report is on the last state of the cores, which is the region's.
-  module _ (r : Report) (status_is : r.status ≡ ran_as x.end y.unwritten) (placed : r.in_place ≡ is_placed x.end y.unwritten)
+  module _ (r : CommandReport) (status_is : r.status ≡ ran_as x.end y.unwritten) (placed : r.in_place ≡ is_placed x.end y.unwritten)
       (finishes : r.finishes.items ≡ x.finishes.items) (refusals : r.refusals.items ≡ x.refusals.items) (begun : r.began ≡ true) (complete_is : r.complete ≡ is_ended x.end) where
     stays : Stays f.region t
     stays = apart.stays old s t found word A once granted low refused P.recovered P.ready.stands trace x P.ran.ran

@@ -22,7 +22,7 @@ use Rattle.flatstore_commands.specs.Shows.{WritesText, BeginsText, is_of_writing
 use Rattle.flatstore_commands.specs.Statuses.{fault_status}
 use Rattle.flatstore_commands.specs.declared.report.Status.{Status}
 use Rattle.flatstore_commands.specs.declared.report.Status.TheVariants as statuses
-use Rattle.flatstore_commands.specs.declared.report.Report.{Report}
+use Rattle.flatstore_commands.specs.declared.report.CommandReport.{CommandReport}
 
 -- the status that the rules of an audit's input decide
 abbrev pub input_status : Result (List Request × List Reply) (ℕ × ℕ) → Status
@@ -53,7 +53,7 @@ IsVerdictText word input text =
 -- Of a region before and after the call, the words that an attach finds and those that the region then reads, the source,
 -- the input, the sink and the report.
 pub record AuditsBy (old new : State) (found word : ℕ → ℕ) (source : SourceUse)
-    (input : List ℕ) (sink : SinkUse) (r : Report) : Type 0 where
+    (input : List ℕ) (sink : SinkUse) (r : CommandReport) : Type 0 where
   -- Where the region tells, the words read are those found.
   pub reads : IsTelling new → (w : ℕ) → InRange new.frame w → word w ≡ found w
   -- The words found and the input decide on the status, but for faults that were counted and want of memory.
@@ -74,7 +74,7 @@ pub record AuditsBy (old new : State) (found word : ℕ → ℕ) (source : Sourc
 
 -- the same, of an input that the source tells, where the region was attached
 pub record Audits (old new : State) (found word : ℕ → ℕ) (source : SourceUse) (sink : SinkUse)
-    (r : Report) : Type 0 where
+    (r : CommandReport) : Type 0 where
   pub attaches : Attaches old new found r
   pub audits : r.attached ≡ true → (input : List ℕ) × IsInput source.coming input
       × AuditsBy old new found word source input sink r

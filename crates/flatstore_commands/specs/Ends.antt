@@ -3,7 +3,7 @@ use Rattle.std.specs.Prelude.{◌≡◌, ◌⊎◌, ℕ, List, [], Bool, false, 
 use Rattle.pm_region.specs.State.{State, Faulted, Rose}
 use Rattle.flatstore_commands.specs.declared.report.Status.{Status}
 use Rattle.flatstore_commands.specs.declared.report.Status.TheVariants as statuses
-use Rattle.flatstore_commands.specs.declared.report.Report.{Report}
+use Rattle.flatstore_commands.specs.declared.report.CommandReport.{CommandReport}
 
 -- A source before and after the call: what was still to come and what is left, where it tells, and how many reads had
 -- failed and have failed.
@@ -57,9 +57,9 @@ pub record CountsFaults (old new : State) (source : SourceUse) (sink : SinkUse)
   pub region_fault : status ≡ statuses.RegionFault → Faulted old new
 
 -- no request is reported as finished or refused, and no answer behind a run of where the region is
-abbrev pub AnswersNothing : Report → Type 0
+abbrev pub AnswersNothing : CommandReport → Type 0
 AnswersNothing r = (r.finishes.items ≡ []) × (r.refusals.items ≡ []) × (r.in_place ≡ false)
 
 -- it is no report of a run
-abbrev pub ReportsNothing : Report → Type 0
+abbrev pub ReportsNothing : CommandReport → Type 0
 ReportsNothing r = (r.began ≡ false) × AnswersNothing r

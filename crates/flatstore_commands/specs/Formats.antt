@@ -11,7 +11,7 @@ use Rattle.store_image.specs.Soundness.{IsSound, first_fault}
 use Rattle.headline.specs.Headline.{cells_of}
 use Rattle.flatstore_commands.specs.Attaching.{Creates}
 use Rattle.flatstore_commands.specs.declared.report.Status.TheVariants as statuses
-use Rattle.flatstore_commands.specs.declared.report.Report.{Report}
+use Rattle.flatstore_commands.specs.declared.report.CommandReport.{CommandReport}
 
 -- The empty region of a layout: its superblock, and zeros behind. So each chunk is free, it is sound, and no key has a value.
 pub record IsEmptyStore (l : Geometry) (image : ℕ → ℕ) : Type 0 where
@@ -31,7 +31,7 @@ abbrev pub EachImage : Frame → ((ℕ → ℕ) → Type 0) → (ℕ → Cell) �
 EachImage f P cells = (image : ℕ → ℕ) → MayLeave f cells image → P image
 
 -- of a region before and after the call, the layout that was asked for, and the report
-pub record Formats (old new : State) (l : Geometry) (r : Report) : Type 0 where
+pub record Formats (old new : State) (l : Geometry) (r : CommandReport) : Type 0 where
   -- It ends well, but for a fault that was counted and want of memory.
   pub ends : (r.status ≡ statuses.Done)
       ⊎ ((r.status ≡ statuses.Memory) ⊎ ((r.status ≡ statuses.RegionFault)

@@ -28,10 +28,10 @@ use Rattle.flatstore_commands.specs.Attaching.{GoesOnFrom, Asks}
 use Rattle.flatstore_commands.specs.Ends.{SinkUse, IsAllOut}
 use Rattle.flatstore_commands.specs.Ordering.{is_whole}
 use Rattle.flatstore_commands.specs.declared.report.Status.TheVariants as statuses
-use Rattle.flatstore_commands.specs.declared.report.Report.{Report}
+use Rattle.flatstore_commands.specs.declared.report.CommandReport.{CommandReport}
 
 -- what a report says of the requests
-abbrev pub told_in : Report → Told
+abbrev pub told_in : CommandReport → Told
 told_in r = as_told r.finishes.items r.refusals.items
 
 -- each number is above those before it
@@ -45,7 +45,7 @@ NoneHasStopped e = (c : ℕ) → c < e.layout.cores → e.stopped c ≡ false
 
 -- The report is on a state of the run, at the region's end, in which every worker has wound down: nobody leads, and all
 -- that was posted or taken is finished. What was staged or waited has no answer.
-pub record WindsDown (new : State) (r : Report) : Type 0 where
+pub record WindsDown (new : State) (r : CommandReport) : Type 0 where
   pub state : Engine
   pub region : state.region ≡ new
   pub ceased : HasCeased state
@@ -78,7 +78,7 @@ first_of x = first_state x.start.origin x.workers
 
 -- A report is made of the answers that are kept in a state of the run: the finishes with their stamps,
 -- the refusals with what was counted.
-pub record ReportsKept (new : State) (last : RunState Worker) (r : Report) : Type 0 where
+pub record ReportsKept (new : State) (last : RunState Worker) (r : CommandReport) : Type 0 where
   pub finishes : r.finishes.items ≡ finishes_in 0 last.answers
   pub refusals : r.refusals.items ≡ refusals_in 0 last.answers
   -- Those are the answers of the state, each with its stamp and the cause of its refusal; where the
@@ -91,7 +91,7 @@ pub record ReportsKept (new : State) (last : RunState Worker) (r : Report) : Typ
 
 -- The same, and what the sink took are their replies.
 pub record ReportsAnswers (new : State) (sink : SinkUse) (last : RunState Worker)
-    (r : Report) : Type 0 where
+    (r : CommandReport) : Type 0 where
   pub kept : ReportsKept new last r
   pub begins : TakesPrefix sink.before sink.now (replies_text (map reply_in last.answers))
   pub writes : r.in_place ≡ true → IsAllOut r.status sink
@@ -100,7 +100,7 @@ pub record ReportsAnswers (new : State) (sink : SinkUse) (last : RunState Worker
 -- The lines of the input led the engine from the region, as it was attached with these words, to a
 -- last state, and this is a report on it.
 pub record RanTo (old new : State) (found : ℕ → ℕ) (cores : ℕ) (input : List ℕ)
-    (sink : SinkUse) (r : Report) : Type 0 where
+    (sink : SinkUse) (r : CommandReport) : Type 0 where
   pub last : RunState Worker
   pub from : GoesOnFrom old last.engine.region new.frame.bytes found
   pub first : Opens from.at found cores
@@ -126,7 +126,7 @@ pub record RanTo (old new : State) (found : ℕ → ℕ) (cores : ℕ) (input : 
 -- the region, as it was attached with these words, and from the first requests of the input: every promise of a run
 -- holds there, though the others were not given. All that was posted or taken is finished there, and this is a report on it.
 pub record BreaksOff (old new : State) (found : ℕ → ℕ) (cores : ℕ) (input : List ℕ)
-    (r : Report) : Type 0 where
+    (r : CommandReport) : Type 0 where
   pub last : RunState Worker
   pub from : GoesOnFrom old last.engine.region new.frame.bytes found
   pub start : Starts from.at found cores

@@ -22,7 +22,7 @@ use Rattle.flatstore_commands.specs.Shows.{status_by}
 use Rattle.flatstore_commands.specs.Statuses.{fault_status}
 use Rattle.flatstore_commands.specs.ThreadRuns.{CoresRan, HasEnded}
 use Rattle.flatstore_commands.specs.declared.report.Status.TheVariants as statuses
-use Rattle.flatstore_commands.specs.declared.report.Report.{Report}
+use Rattle.flatstore_commands.specs.declared.report.CommandReport.{CommandReport}
 
 -- a text of the tally of replies, and of the live pairs of the cells that these words recover
 abbrev pub IsTallyText : (ℕ → ℕ) → List Reply → List ℕ → Type 0
@@ -41,11 +41,11 @@ TakesTallyFront word sink replies =
     ⊎ ((text : List ℕ) × IsTallyText word replies text × TakesPrefix sink.before sink.now text)
 
 -- a load splits the region and joins it again, or leaves it as it was, and asks it behind the run
-abbrev pub AttachesToLoad : State → State → (ℕ → ℕ) → Report → Type 0
+abbrev pub AttachesToLoad : State → State → (ℕ → ℕ) → CommandReport → Type 0
 AttachesToLoad old new found r = AttachesBy (AsksBehind MayRejoin r) old new found r
 
 -- the status that the words found decide, want of memory, or a fault that was counted
-abbrev pub IsDueOfLoad : State → State → (ℕ → ℕ) → SinkUse → Report → Type 0
+abbrev pub IsDueOfLoad : State → State → (ℕ → ℕ) → SinkUse → CommandReport → Type 0
 IsDueOfLoad old new found sink r =
     (r.status ≡ status_by (first_fault new.frame.bytes found))
     ⊎ ((r.status ≡ statuses.Memory)
@@ -55,7 +55,7 @@ IsDueOfLoad old new found sink r =
 -- What an end says of the work before it. There is no input: the region's rules go before the run, and the run before the
 -- writing.
 pub record LoadsInOrder (old new : State) (found word : ℕ → ℕ) (sink : SinkUse)
-    (r : Report) : Type 0 where
+    (r : CommandReport) : Type 0 where
   pub untouched : r.began ≡ false → Attached old new new.frame.bytes found
   pub began : r.began ≡ true → IsServed new found
   pub run : is_of_run r.status ≡ true → r.began ≡ true
@@ -71,7 +71,7 @@ pub record LoadsInOrder (old new : State) (found word : ℕ → ℕ) (sink : Sin
 -- They did, and there was memory for all of it: what was written is the tally of the replies that the cores' workers gave,
 -- with the live pairs of the words that the region reads then.
 pub record LoadedOnThreads (old left : State) (found word : ℕ → ℕ) (refused : Bool) (cores : ℕ)
-    (made : List Request) (sink : SinkUse) (r : Report) : Type 0 where
+    (made : List Request) (sink : SinkUse) (r : CommandReport) : Type 0 where
   pub all : CoresRan old left found refused cores made r
   pub ended : HasEnded all.f r
   pub begins : TakesTallyFront word sink (map reply_in all.kept)
@@ -81,7 +81,7 @@ pub record LoadedOnThreads (old left : State) (found word : ℕ → ℕ) (refuse
 -- The headline, of a load: the requests are made, each core has a worker in a thread of its own, and behind the run their
 -- replies' tally is written, with the live pairs of the region as it is then.
 pub record LoadsOnThreads (old new : State) (found word : ℕ → ℕ) (refused : Bool)
-    (start count : ℕ) (sink : SinkUse) (r : Report) : Type 0 where
+    (start count : ℕ) (sink : SinkUse) (r : CommandReport) : Type 0 where
   -- Of the region: its cores by the words read, which are those found, where it tells.
   pub cores : ℕ
   pub cores_are : (t : ℕ) → IsTold new t → cores ≡ found 2

@@ -11,7 +11,7 @@ use Rattle.flatstore_commands.specs.Ends.{SourceUse, SinkUse}
 use Rattle.flatstore_commands.specs.Statuses.{fault_status}
 use Rattle.flatstore_commands.specs.declared.report.Status.{Status}
 use Rattle.flatstore_commands.specs.declared.report.Status.TheVariants as statuses
-use Rattle.flatstore_commands.specs.declared.report.Report.{Report}
+use Rattle.flatstore_commands.specs.declared.report.CommandReport.{CommandReport}
 
 abbrev pub status_of : Result (List Line) (ℕ × ℕ) → Status
 status_of (Ok lines) = statuses.Done
@@ -104,7 +104,7 @@ IsServed s found = IsTelling s → IsSound s.frame.bytes found
 
 -- What an end says of the work before it, by the number of cores. Before the run begins no word of the region changes.
 pub record KeepsOrder (old new : State) (found : ℕ → ℕ) (source : SourceUse) (cores : ℕ)
-    (input : List ℕ) (r : Report) : Type 0 where
+    (input : List ℕ) (r : CommandReport) : Type 0 where
   pub untouched : r.began ≡ false → Attached old new new.frame.bytes found
   -- The rules of the region go before the source,
   pub read : r.status ≡ statuses.SourceFault → IsServed new found
@@ -124,7 +124,7 @@ pub record KeepsOrder (old new : State) (found : ℕ → ℕ) (source : SourceUs
 
 -- The same, with the status: the words found and the input decide on it, but for faults that were counted and want of memory.
 pub record GoesInOrder (old new : State) (found : ℕ → ℕ) (source : SourceUse) (cores : ℕ)
-    (input : List ℕ) (sink : SinkUse) (r : Report) : Type 0 where
+    (input : List ℕ) (sink : SinkUse) (r : CommandReport) : Type 0 where
   -- Of the region: its cores by the words read, which are those found, where it tells.
   pub cores_are : (t : ℕ) → IsTold new t → cores ≡ found 2
   pub order : KeepsOrder old new found source cores input r

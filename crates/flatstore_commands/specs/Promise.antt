@@ -21,7 +21,7 @@ use Rattle.flatstore_commands.specs.Ends.{SourceUse, SinkUse}
 use Rattle.flatstore_commands.specs.LastStates.{told_in, AreRising, RanTo, BreaksOff, WindsDown}
 use Rattle.flatstore_commands.specs.Ordering.{GoesInOrder, is_whole}
 use Rattle.flatstore_commands.specs.declared.report.Status.TheVariants as statuses
-use Rattle.flatstore_commands.specs.declared.report.Report.{Report}
+use Rattle.flatstore_commands.specs.declared.report.CommandReport.{CommandReport}
 
 -- a source that tells what comes gives this input; one that doesn't may give any
 abbrev pub IsInput : Option (List ℕ) → List ℕ → Type 0
@@ -48,7 +48,7 @@ Says IsOut Known start trace r MayStop =
 -- The headline, of a run of these requests on a region that was attached with these words, whoever makes the moves of its
 -- cores. `All` is so of replies whose whole text the sink took, and `Front` of those of which it took the beginning.
 pub record Serves (All Front : List Reply → Type 0) (old new : State) (found : ℕ → ℕ)
-    (begun : List Request) (sink : SinkUse) (r : Report) : Type 0 where
+    (begun : List Request) (sink : SinkUse) (r : CommandReport) : Type 0 where
   -- Of a run that came to its end the region was asked whether it is in its place. Where it was not, that is a fault of
   -- the region.
   pub asked : r.in_place ≡ true → r.complete ≡ true
@@ -99,7 +99,7 @@ pub record Serves (All Front : List Reply → Type 0) (old new : State) (found :
 
 -- The headline, of a replay: one thread makes the moves of all cores, by the lines of the input.
 pub record Replays (old new : State) (found : ℕ → ℕ) (source : SourceUse) (cores : ℕ)
-    (input : List ℕ) (sink : SinkUse) (r : Report) : Type 0 where
+    (input : List ℕ) (sink : SinkUse) (r : CommandReport) : Type 0 where
   pub order : GoesInOrder old new found source cores input sink r
   -- All requests of the input were begun.
   pub serves : Serves (TakesReplies sink) (TakesFront sink) old new found

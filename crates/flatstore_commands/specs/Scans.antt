@@ -22,7 +22,7 @@ use Rattle.flatstore_commands.specs.Shows.{WritesText, BeginsText, is_of_writing
 use Rattle.flatstore_commands.specs.Statuses.{fault_status}
 use Rattle.flatstore_commands.specs.declared.report.Status.{Status}
 use Rattle.flatstore_commands.specs.declared.report.Status.TheVariants as statuses
-use Rattle.flatstore_commands.specs.declared.report.Report.{Report}
+use Rattle.flatstore_commands.specs.declared.report.CommandReport.{CommandReport}
 
 abbrev pub shown_text : Shown → List ℕ
 shown_text shown = page_text shown.pairs shown.more
@@ -63,7 +63,7 @@ IsScanFault source sink status =
 
 -- Of a region that was attached, the words that it then reads, and this input.
 pub record Answers (old new : State) (found word : ℕ → ℕ) (source : SourceUse) (input : List ℕ)
-    (sink : SinkUse) (r : Report) : Type 0 where
+    (sink : SinkUse) (r : CommandReport) : Type 0 where
   -- Where the region tells, the words read are those found.
   pub reads : IsTelling new → (w : ℕ) → InRange new.frame w → word w ≡ found w
   -- The words found and the input decide on the status, but for want of memory and faults that were counted.
@@ -90,7 +90,7 @@ pub record Answers (old new : State) (found word : ℕ → ℕ) (source : Source
 -- Of a region before and after the call, the words that an attach finds and those that the region then reads, the
 -- source, the sink and the report.
 pub record Scans (old new : State) (found word : ℕ → ℕ) (source : SourceUse) (sink : SinkUse)
-    (r : Report) : Type 0 where
+    (r : CommandReport) : Type 0 where
   pub attaches : Attaches old new found r
   pub answers : r.attached ≡ true
       → (input : List ℕ) × IsInput source.coming input

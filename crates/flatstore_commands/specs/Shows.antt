@@ -8,7 +8,7 @@ use Rattle.fs_text.specs.Streams.{Takes, TakesPrefix}
 use Rattle.flatstore_commands.specs.Attaching.{Attaches}
 use Rattle.flatstore_commands.specs.declared.report.Status.{Status}
 use Rattle.flatstore_commands.specs.declared.report.Status.TheVariants as statuses
-use Rattle.flatstore_commands.specs.declared.report.Report.{Report}
+use Rattle.flatstore_commands.specs.declared.report.CommandReport.{CommandReport}
 use Rattle.flatstore_commands.specs.Ends.{SinkUse}
 use Rattle.flatstore_commands.specs.Statuses.{fault_status}
 
@@ -45,7 +45,7 @@ IsDueOf bytes word sink status =
 -- Of the kind of its texts, a region before and after the call, the words that an attach finds and those that the region
 -- then reads, the sink and the report.
 pub record Shows (IsText : List ℕ → Type 0) (old new : State) (found word : ℕ → ℕ)
-    (sink : SinkUse) (r : Report) : Type 0 where
+    (sink : SinkUse) (r : CommandReport) : Type 0 where
   pub attaches : Attaches old new found r
   -- Where the region tells, the words read are those found.
   pub reads : r.attached ≡ true → IsTelling new

@@ -26,13 +26,13 @@ use Rattle.flatstore_commands.specs.LastStates.{told_in, NoneHasStopped, Starts}
 use Rattle.flatstore_commands.specs.Ordering.{GoesInOrder, is_whole}
 use Rattle.flatstore_commands.specs.Promise.{Serves, TakesReplies, TakesFront, asked_in}
 use Rattle.flatstore_commands.specs.declared.report.Status.TheVariants as statuses
-use Rattle.flatstore_commands.specs.declared.report.Report.{Report}
+use Rattle.flatstore_commands.specs.declared.report.CommandReport.{CommandReport}
 
 -- Each core worked off the requests of its keys among those that were begun, from the region as it was attached with these
 -- words to an end, and this is a report on the answers that the cores' workers gave. `refused` says whether the gate may
 -- hold a post back.
 pub record CoresRan (old new : State) (found : ℕ → ℕ) (refused : Bool) (cores : ℕ)
-    (begun : List Request) (r : Report) : Type 0 where
+    (begun : List Request) (r : CommandReport) : Type 0 where
   -- The region was attached, and then split and joined; so it is in the last state.
   pub f : Engine
   pub from : GoesOnBy Rejoined old f.region new.frame.bytes found
@@ -64,7 +64,7 @@ pub record CoresRan (old new : State) (found : ℕ → ℕ) (refused : Bool) (co
 
 -- The cores worked off requests of an input, and the replies of each window were written behind it.
 pub record WorkedInWindows (old new : State) (found : ℕ → ℕ) (refused : Bool) (cores : ℕ)
-    (input : List ℕ) (begun : List Request) (sink : SinkUse) (r : Report) : Type 0 where
+    (input : List ℕ) (begun : List Request) (sink : SinkUse) (r : CommandReport) : Type 0 where
   pub lines : List Line
   pub good : input_of cores input ≡ Ok lines
   pub worked : CoresRan old new found refused cores begun r
@@ -85,7 +85,7 @@ pub record WorkedInWindows (old new : State) (found : ℕ → ℕ) (refused : Bo
       worked.ran.cores (length begun)
 
 -- There was memory for all of it: everything is answered in the last state, every slot is empty and nothing waits.
-pub record HasEnded (f : Engine) (r : Report) : Type 0 where
+pub record HasEnded (f : Engine) (r : CommandReport) : Type 0 where
   pub answered : AllAnswered f
   pub drained : IsDrained f
   -- The status tells a fault of the region exactly where a core has stopped, or the region was out of its place.
@@ -94,7 +94,7 @@ pub record HasEnded (f : Engine) (r : Report) : Type 0 where
 
 -- They did, and came to their end.
 pub record RanOnThreads (old new : State) (found : ℕ → ℕ) (refused : Bool) (cores : ℕ)
-    (input : List ℕ) (begun : List Request) (sink : SinkUse) (r : Report) : Type 0 where
+    (input : List ℕ) (begun : List Request) (sink : SinkUse) (r : CommandReport) : Type 0 where
   pub all : WorkedInWindows old new found refused cores input begun sink r
   pub ended : HasEnded all.worked.f r
   -- The text is that of what the workers answered.
@@ -105,7 +105,7 @@ pub record RanOnThreads (old new : State) (found : ℕ → ℕ) (refused : Bool)
 -- The headline, of a run: each core has a worker in a thread of its own, and the replies of each window of requests are
 -- written behind it, before the next window is begun.
 pub record RunsOnThreads (old new : State) (found : ℕ → ℕ) (source : SourceUse) (refused : Bool)
-    (cores : ℕ) (input : List ℕ) (sink : SinkUse) (r : Report) : Type 0 where
+    (cores : ℕ) (input : List ℕ) (sink : SinkUse) (r : CommandReport) : Type 0 where
   -- The requests that were begun are the first of the input's, and all of them where every reply was written, or memory
   -- lacked in a window: then those that no core was dealt any more count too.
   pub begun : List Request

@@ -19,7 +19,7 @@ use crate::dumping::dump_region;
 use crate::formatting::format_region;
 use crate::logging::log_region;
 use crate::playing::replay_region;
-use crate::report::{Report, Status};
+use crate::report::{CommandReport, Status};
 use crate::scan_ranges::scan_region;
 use fs_text::{Sink, Source};
 use pm_region::{ReadRegion, SplitRegion};
@@ -39,7 +39,7 @@ pub fn flatstore_alone<T: Threads, S: Source, O: Sink, R: SplitRegion + ReadRegi
     source: &mut S,
     sink: &mut O,
     region: &mut R,
-) -> Report
+) -> CommandReport
     requires open { S.ended source.old ≡ false }
     // The words alone decide on Usage, but for want of memory.
     ensures usage { result.status ≡ statuses.Usage
@@ -112,15 +112,15 @@ pub fn flatstore_alone<T: Threads, S: Source, O: Sink, R: SplitRegion + ReadRegi
         (R.found region.old) }
 {
     let command = match parse_command(alloc, words.as_slice()) {
-        Err(_) => return Report::of(alloc, Status::Memory, false),
-        Ok(None) => return Report::of(alloc, Status::Usage, false),
+        Err(_) => return CommandReport::of(alloc, Status::Memory, false),
+        Ok(None) => return CommandReport::of(alloc, Status::Usage, false),
         Ok(Some(command)) => command,
     };
     match command {
         Command::Format { layout, .. } => format_region(alloc, region, layout),
         Command::Replay { .. } => replay_region(alloc, source, sink, region),
         Command::Run { .. } | Command::Audit { .. } | Command::Load { .. } => {
-            Report::of(alloc, Status::Usage, false)
+            CommandReport::of(alloc, Status::Usage, false)
         }
         Command::Dump { .. } => dump_region(alloc, sink, region),
         Command::Log { .. } => log_region(alloc, sink, region),

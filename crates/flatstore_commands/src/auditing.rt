@@ -14,7 +14,7 @@ ghost use Rattle.flatstore_commands.specs.Shows.{HasShown};
 ghost use Rattle.flatstore_commands.specs.declared.report.Status.TheVariants as statuses;
 
 use crate::replay::{recovered, unread};
-use crate::report::{Report, Status};
+use crate::report::{CommandReport, Status};
 use crate::workers::Workers;
 use fs_model::Memory;
 use fs_text::{OutError, Sink, Source};
@@ -127,7 +127,7 @@ fn judged<T: Threads + Sync, S: Source, R: SplitRegion + ReadRegion>(
 }
 
 /// Writes the verdict, and reports.
-fn write_audit<O: Sink>(alloc: Global, sink: &mut O, verdict: Verdict) -> Report
+fn write_audit<O: Sink>(alloc: Global, sink: &mut O, verdict: Verdict) -> CommandReport
     ensures written { HasShown (verdict_text verdict)
         (sink_use O.taken O.flushed O.fault_count sink.old sink.new) result.status }
     ensures attached { result.attached ≡ true }
@@ -139,7 +139,7 @@ fn write_audit<O: Sink>(alloc: Global, sink: &mut O, verdict: Verdict) -> Report
         Err(OutError::SinkFault) => Status::SinkFault,
         Err(OutError::Memory) => Status::Memory,
     };
-    Report {
+    CommandReport {
         status,
         finishes: Vec::new(alloc),
         refusals: Vec::new(alloc),
@@ -159,7 +159,7 @@ pub fn audit_region<T: Threads + Sync, S: Source, O: Sink, R: SplitRegion + Read
     sink: &mut O,
     region: &mut R,
     workers: Workers,
-) -> Report
+) -> CommandReport
     requires open { S.ended source.old ≡ false }
     ensures promise { Audits (R.state region.old) (R.state region.new) (R.found region.old)
         (R.word region.new)
@@ -179,10 +179,10 @@ pub fn audit_region<T: Threads + Sync, S: Source, O: Sink, R: SplitRegion + Read
         (R.state region.new) (R.state region.new).frame.bytes (R.found region.old) }
 {
     match region.attach(alloc) {
-        Err(AttachError::RegionFault) => Report::of(alloc, Status::RegionFault, false),
-        Err(AttachError::Memory) => Report::of(alloc, Status::Memory, false),
+        Err(AttachError::RegionFault) => CommandReport::of(alloc, Status::RegionFault, false),
+        Err(AttachError::Memory) => CommandReport::of(alloc, Status::Memory, false),
         Ok(()) => match judged(rt, alloc, source, region, workers.count) {
-            Err(status) => Report::of(alloc, status, true),
+            Err(status) => CommandReport::of(alloc, status, true),
             Ok(verdict) => write_audit(alloc, sink, verdict),
         },
     }

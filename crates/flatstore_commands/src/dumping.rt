@@ -12,7 +12,7 @@ ghost use Rattle.flatstore_commands.specs.Shows.{HasShown, IsUnlisted};
 ghost use Rattle.flatstore_commands.specs.Ordering.{is_quiet};
 ghost use Rattle.flatstore_commands.specs.declared.report.Status.TheVariants as statuses;
 
-use crate::report::{Report, Status};
+use crate::report::{CommandReport, Status};
 use fs_model::Pair;
 use fs_text::{OutError, Sink, write_pairs};
 use pm_region::{AttachError, ReadRegion, Snapshot, SplitRegion};
@@ -39,7 +39,7 @@ pub fn live_pairs<R: SplitRegion + ReadRegion>(
 }
 
 /// Writes the pairs, and reports.
-fn write_dump<O: Sink>(alloc: Global, sink: &mut O, pairs: &[Pair]) -> Report
+fn write_dump<O: Sink>(alloc: Global, sink: &mut O, pairs: &[Pair]) -> CommandReport
     ensures written { HasShown (pairs_text pairs.now)
         (sink_use O.taken O.flushed O.fault_count sink.old sink.new) result.status }
     ensures attached { result.attached ≡ true }
@@ -51,7 +51,7 @@ fn write_dump<O: Sink>(alloc: Global, sink: &mut O, pairs: &[Pair]) -> Report
         Err(OutError::SinkFault) => Status::SinkFault,
         Err(OutError::Memory) => Status::Memory,
     };
-    Report {
+    CommandReport {
         status,
         finishes: Vec::new(alloc),
         refusals: Vec::new(alloc),
@@ -68,7 +68,7 @@ pub fn dump_region<O: Sink, R: SplitRegion + ReadRegion>(
     alloc: Global,
     sink: &mut O,
     region: &mut R,
-) -> Report
+) -> CommandReport
     ensures promise { Dumps (R.state region.old) (R.state region.new) (R.found region.old)
         (R.word region.new)
         (sink_use O.taken O.flushed O.fault_count sink.old sink.new) result }
@@ -84,10 +84,10 @@ pub fn dump_region<O: Sink, R: SplitRegion + ReadRegion>(
     ensures sink_untouched { is_quiet result.status ≡ true → sink.new ≡ sink.old }
 {
     match region.attach(alloc) {
-        Err(AttachError::RegionFault) => Report::of(alloc, Status::RegionFault, false),
-        Err(AttachError::Memory) => Report::of(alloc, Status::Memory, false),
+        Err(AttachError::RegionFault) => CommandReport::of(alloc, Status::RegionFault, false),
+        Err(AttachError::Memory) => CommandReport::of(alloc, Status::Memory, false),
         Ok(()) => match live_pairs(alloc, region) {
-            Err(status) => Report::of(alloc, status, true),
+            Err(status) => CommandReport::of(alloc, status, true),
             Ok(pairs) => write_dump(alloc, sink, &pairs),
         },
     }

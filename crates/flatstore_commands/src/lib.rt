@@ -24,5 +24,5 @@ pub use alone::flatstore_alone;
 pub use arguments::command_line;
 pub use command::region_path;
 pub use load_size::MOST_LOAD_REQUESTS;
-pub use report::{Report, Status};
+pub use report::{CommandReport, Status};
 pub use top::flatstore;

@@ -17,11 +17,11 @@ ghost use Rattle.flatstore_commands.specs.declared.report.Status.TheVariants as 
 use crate::dumping::live_pairs;
 use crate::load_size::LoadSize;
 use crate::replay::{is_ended, recovered, report_on, status_of};
-use crate::report::{Report, Status};
+use crate::report::{CommandReport, Status};
 use crate::run_threads::NotRun;
 use core_worker::Gate;
 use engine_core::run_outcome::End;
-use fs_text::{OutError, Sink, Tally, write_tally};
+use fs_text::{OutError, Sink, LoadTally, write_tally};
 use load_run::{LoadRun, run_load};
 use load_tally::add_pairs;
 use pm_region::{AttachError, ReadRegion, RegionFault, SplitRegion};
@@ -56,7 +56,7 @@ fn load_cores<T: Threads + Wait + Sync, R: SplitRegion + ReadRegion, G: Gate + S
 }
 
 // Writes a tally behind a run that came to its end.
-fn write_counts<O: Sink>(alloc: Global, sink: &mut O, end: End, tally: &Tally) -> Status
+fn write_counts<O: Sink>(alloc: Global, sink: &mut O, end: End, tally: &LoadTally) -> Status
     requires { is_ended end ≡ true }
     ensures written { HasWritten
         (Takes (O.taken sink.old) (O.taken sink.new) (tally_text tally.now))
@@ -77,7 +77,7 @@ fn show_tally<O: Sink, R: SplitRegion + ReadRegion>(
     sink: &mut O,
     region: &R,
     end: End,
-    tally: Tally,
+    tally: LoadTally,
 ) -> Status
     requires ended { is_ended end ≡ true }
     requires first { (R.state region.now).frame.first ≡ 0 }
@@ -103,7 +103,7 @@ fn write_load<O: Sink, R: SplitRegion + ReadRegion>(
     sink: &mut O,
     region: &mut R,
     ran: LoadRun,
-) -> Report
+) -> CommandReport
     requires first { (R.state region.old).frame.first ≡ 0 }
     requires words { (R.state region.old).frame.words ≡ words_in (R.state region.old).frame.bytes }
     requires tally { is_ended ran.outcome.end ≡ true
@@ -150,7 +150,7 @@ pub fn load_region<
     size: LoadSize,
     gate: &G,
     watch: &mut W,
-) -> Report
+) -> CommandReport
     ensures attaches { AttachesToLoad (R.state region.old) (R.state region.new)
         (R.found region.old) result }
 
@@ -180,8 +180,8 @@ pub fn load_region<
         (R.found region.old) }
 {
     match region.attach(alloc) {
-        Err(AttachError::RegionFault) => Report::of(alloc, Status::RegionFault, false),
-        Err(AttachError::Memory) => Report::of(alloc, Status::Memory, false),
+        Err(AttachError::RegionFault) => CommandReport::of(alloc, Status::RegionFault, false),
+        Err(AttachError::Memory) => CommandReport::of(alloc, Status::Memory, false),
         Ok(()) => match load_cores(rt, alloc, region, size, gate, watch) {
             Err(why) => why.report(alloc),
             Ok(ran) => write_load(alloc, sink, region, ran),

@@ -12,7 +12,7 @@ ghost use Rattle.flatstore_commands.specs.Logs.{Logs};
 ghost use Rattle.flatstore_commands.specs.Ordering.{is_quiet};
 ghost use Rattle.flatstore_commands.specs.declared.report.Status.TheVariants as statuses;
 
-use crate::report::{Report, Status};
+use crate::report::{CommandReport, Status};
 use fs_text::{OutError, Sink, write_entries};
 use pm_region::{AttachError, ReadRegion, Snapshot, SplitRegion};
 use recover::RecoverError;
@@ -40,7 +40,7 @@ fn placed_entries<R: SplitRegion + ReadRegion>(
 }
 
 /// Writes the entries, and reports.
-fn write_log<O: Sink>(alloc: Global, sink: &mut O, entries: &[PlacedEntry]) -> Report
+fn write_log<O: Sink>(alloc: Global, sink: &mut O, entries: &[PlacedEntry]) -> CommandReport
     ensures written { HasShown (entries_text entries.now)
         (sink_use O.taken O.flushed O.fault_count sink.old sink.new) result.status }
     ensures attached { result.attached ≡ true }
@@ -52,7 +52,7 @@ fn write_log<O: Sink>(alloc: Global, sink: &mut O, entries: &[PlacedEntry]) -> R
         Err(OutError::SinkFault) => Status::SinkFault,
         Err(OutError::Memory) => Status::Memory,
     };
-    Report {
+    CommandReport {
         status,
         finishes: Vec::new(alloc),
         refusals: Vec::new(alloc),
@@ -69,7 +69,7 @@ pub fn log_region<O: Sink, R: SplitRegion + ReadRegion>(
     alloc: Global,
     sink: &mut O,
     region: &mut R,
-) -> Report
+) -> CommandReport
     ensures promise { Logs (R.state region.old) (R.state region.new) (R.found region.old)
         (R.word region.new)
         (sink_use O.taken O.flushed O.fault_count sink.old sink.new) result }
@@ -85,10 +85,10 @@ pub fn log_region<O: Sink, R: SplitRegion + ReadRegion>(
     ensures sink_untouched { is_quiet result.status ≡ true → sink.new ≡ sink.old }
 {
     match region.attach(alloc) {
-        Err(AttachError::RegionFault) => Report::of(alloc, Status::RegionFault, false),
-        Err(AttachError::Memory) => Report::of(alloc, Status::Memory, false),
+        Err(AttachError::RegionFault) => CommandReport::of(alloc, Status::RegionFault, false),
+        Err(AttachError::Memory) => CommandReport::of(alloc, Status::Memory, false),
         Ok(()) => match placed_entries(alloc, region) {
-            Err(status) => Report::of(alloc, status, true),
+            Err(status) => CommandReport::of(alloc, status, true),
             Ok(entries) => write_log(alloc, sink, &entries),
         },
     }

@@ -8,7 +8,7 @@ ghost use Rattle.flatstore_commands.specs.Promise.{IsInput, Replays};
 ghost use Rattle.flatstore_commands.specs.declared.report.Status.TheVariants as statuses;
 
 use crate::replay::{replay, write_outcome};
-use crate::report::{Report, Status};
+use crate::report::{CommandReport, Status};
 use fs_text::{Sink, Source};
 use pm_region::{AttachError, ReadRegion, SplitRegion};
 use std::alloc::Global;
@@ -20,7 +20,7 @@ pub fn replay_region<S: Source, O: Sink, R: SplitRegion + ReadRegion>(
     source: &mut S,
     sink: &mut O,
     region: &mut R,
-) -> Report
+) -> CommandReport
     requires open { S.ended source.old ≡ false }
     ensures attaches { AttachesToRun (R.state region.old) (R.state region.new)
         (R.found region.old) result }
@@ -53,10 +53,10 @@ pub fn replay_region<S: Source, O: Sink, R: SplitRegion + ReadRegion>(
         (R.found region.old) }
 {
     match region.attach(alloc) {
-        Err(AttachError::RegionFault) => Report::of(alloc, Status::RegionFault, false),
-        Err(AttachError::Memory) => Report::of(alloc, Status::Memory, false),
+        Err(AttachError::RegionFault) => CommandReport::of(alloc, Status::RegionFault, false),
+        Err(AttachError::Memory) => CommandReport::of(alloc, Status::Memory, false),
         Ok(()) => match replay(alloc, source, region) {
-            Err(status) => Report::of(alloc, status, true),
+            Err(status) => CommandReport::of(alloc, status, true),
             Ok(outcome) => write_outcome(alloc, sink, region, outcome),
         },
     }

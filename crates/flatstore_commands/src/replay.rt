@@ -11,7 +11,7 @@ ghost use Rattle.flatstore_commands.specs.Reads.{IsRead, IsUnread, unread_as};
 ghost use Rattle.flatstore_commands.specs.Played.{StandsWhole, IsReady, Played, IsUnserved, IsRefused, HasWrittenReplies, HasAnswered, is_ended, ended_as};
 ghost use Rattle.flatstore_commands.specs.Ordering.{is_of_region};
 
-use crate::report::{Report, Status};
+use crate::report::{CommandReport, Status};
 use engine_core::run_outcome::{End, Outcome};
 use fs_text::{Input, InputError, OutError, Sink, Source, read_input, write_replies};
 use group_engine::replaying;
@@ -152,7 +152,7 @@ fn write_text<O: Sink>(alloc: Global, sink: &mut O, outcome: &Outcome) -> Status
 }
 
 /// The report on a run that began.
-pub fn report_on(outcome: Outcome, status: Status, in_place: bool) -> Report
+pub fn report_on(outcome: Outcome, status: Status, in_place: bool) -> CommandReport
     ensures status { result.status ≡ status }
     ensures finishes { result.finishes.items ≡ outcome.finishes.items }
     ensures refusals { result.refusals.items ≡ outcome.refusals.items }
@@ -161,7 +161,7 @@ pub fn report_on(outcome: Outcome, status: Status, in_place: bool) -> Report
     ensures complete { result.complete ≡ is_ended outcome.end }
     ensures in_place { result.in_place ≡ in_place }
 {
-    Report {
+    CommandReport {
         status,
         complete: is_ended(outcome.end),
         finishes: outcome.finishes,
@@ -179,7 +179,7 @@ pub fn write_outcome<O: Sink, R: SplitRegion>(
     sink: &mut O,
     region: &mut R,
     outcome: Outcome,
-) -> Report
+) -> CommandReport
     ensures finishes { result.finishes.items ≡ outcome.finishes.items }
     ensures refusals { result.refusals.items ≡ outcome.refusals.items }
     ensures attached { result.attached ≡ true }

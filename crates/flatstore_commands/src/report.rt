@@ -34,7 +34,7 @@ pub enum Status {
 
 /// How a call ended, and what it reports of the requests. Requests are numbered from 0 in the order of the input.
 #[derive(Drop)]
-pub struct Report {
+pub struct CommandReport {
     /// From it the exit status is made.
     pub status: Status,
     /// One for each change that was answered `Stored` or `Deleted`.
@@ -58,9 +58,9 @@ pub struct Report {
     pub in_place: bool,
 }
 
-impl Report {
+impl CommandReport {
     /// A report of a call that answered no request.
-    pub fn of(alloc: Global, status: Status, attached: bool) -> Report
+    pub fn of(alloc: Global, status: Status, attached: bool) -> CommandReport
         ensures status { result.status ≡ status }
         ensures finishes { result.finishes.items ≡ [] }
         ensures refusals { result.refusals.items ≡ [] }
@@ -69,7 +69,7 @@ impl Report {
         ensures complete { result.complete ≡ false }
         ensures in_place { result.in_place ≡ false }
     {
-        Report {
+        CommandReport {
             status,
             finishes: Vec::new(alloc),
             refusals: Vec::new(alloc),

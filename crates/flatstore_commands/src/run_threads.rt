@@ -12,7 +12,7 @@ ghost use Rattle.flatstore_commands.specs.declared.report.Status.TheVariants as 
 ghost use Rattle.flatstore_commands.specs.declared.run_threads.NotRun.TheVariants as not_run;
 
 use crate::replay::{is_ended, prepared, report_on, status_of};
-use crate::report::{Report, Status};
+use crate::report::{CommandReport, Status};
 use core_worker::Gate;
 use engine_core::run_outcome::End;
 use fs_text::{Sink, Source};
@@ -56,7 +56,7 @@ impl From<AttachError> for NotRun {
 
 impl NotRun {
     /// The report of a call in which no core ran.
-    pub fn report(self, alloc: Global) -> Report
+    pub fn report(self, alloc: Global) -> CommandReport
         ensures status { result.status ≡ status_for self }
         ensures finishes { result.finishes.items ≡ [] }
         ensures refusals { result.refusals.items ≡ [] }
@@ -66,9 +66,9 @@ impl NotRun {
         ensures in_place { result.in_place ≡ false }
     {
         match self {
-            NotRun::Refused(status) => Report::of(alloc, status, true),
+            NotRun::Refused(status) => CommandReport::of(alloc, status, true),
             NotRun::Unsplit => {
-                let mut report = Report::of(alloc, Status::RegionFault, true);
+                let mut report = CommandReport::of(alloc, Status::RegionFault, true);
                 report.began = true;
                 report
             }
@@ -141,7 +141,7 @@ fn was_placed(end: End, unwritten: Option<Unwritten>) -> bool
 }
 
 // The report on what the cores did.
-fn report_of(ran: SinkRun) -> Report
+fn report_of(ran: SinkRun) -> CommandReport
     ensures status { result.status ≡ ran_as ran.outcome.end ran.unwritten }
     ensures finishes { result.finishes.items ≡ ran.outcome.finishes.items }
     ensures refusals { result.refusals.items ≡ ran.outcome.refusals.items }
@@ -172,7 +172,7 @@ pub fn run_region<
     region: &mut R,
     gate: &G,
     watch: &mut W,
-) -> Report
+) -> CommandReport
     requires open { S.ended source.old ≡ false }
     ensures attaches { AttachesToSplit (R.state region.old) (R.state region.new)
         (R.found region.old) result }
@@ -207,8 +207,8 @@ pub fn run_region<
         (R.found region.old) }
 {
     match region.attach(alloc) {
-        Err(AttachError::RegionFault) => Report::of(alloc, Status::RegionFault, false),
-        Err(AttachError::Memory) => Report::of(alloc, Status::Memory, false),
+        Err(AttachError::RegionFault) => CommandReport::of(alloc, Status::RegionFault, false),
+        Err(AttachError::Memory) => CommandReport::of(alloc, Status::Memory, false),
         Ok(()) => match run_cores(rt, alloc, source, sink, region, gate, watch) {
             Err(why) => why.report(alloc),
             Ok(ran) => report_of(ran),

@@ -17,7 +17,7 @@ ghost use Rattle.flatstore_commands.specs.Shows.{HasShown};
 ghost use Rattle.flatstore_commands.specs.declared.report.Status.TheVariants as statuses;
 
 use crate::replay::{recovered, unread};
-use crate::report::{Report, Status};
+use crate::report::{CommandReport, Status};
 use fs_text::{OutError, Sink, Source};
 use pm_region::{AttachError, ReadRegion, Region, Snapshot, SplitRegion};
 use query_text::{Queries, Query, read_queries, write_count, write_page};
@@ -152,7 +152,7 @@ fn write_answers<R: ReadRegion, O: Sink>(
     region: &R,
     sink: &mut O,
     scan: &Scan,
-) -> Report
+) -> CommandReport
     requires keys { AreLiveKeys scan.now.recovered.starts.items scan.now.directory }
     requires stands { StandsAsFound (R.state region.now) (R.word region.now) scan.now.recovered }
     ensures written { (pairs : List Pair)
@@ -171,7 +171,7 @@ fn write_answers<R: ReadRegion, O: Sink>(
         Err(OutError::SinkFault) => Status::SinkFault,
         Err(OutError::Memory) => Status::Memory,
     };
-    Report {
+    CommandReport {
         status,
         finishes: Vec::new(alloc),
         refusals: Vec::new(alloc),
@@ -189,7 +189,7 @@ pub fn scan_region<S: Source, O: Sink, R: SplitRegion + ReadRegion>(
     source: &mut S,
     sink: &mut O,
     region: &mut R,
-) -> Report
+) -> CommandReport
     requires open { S.ended source.old ≡ false }
     ensures promise { Scans (R.state region.old) (R.state region.new) (R.found region.old)
         (R.word region.new)
@@ -214,10 +214,10 @@ pub fn scan_region<S: Source, O: Sink, R: SplitRegion + ReadRegion>(
         (R.found region.old) }
 {
     match region.attach(alloc) {
-        Err(AttachError::RegionFault) => Report::of(alloc, Status::RegionFault, false),
-        Err(AttachError::Memory) => Report::of(alloc, Status::Memory, false),
+        Err(AttachError::RegionFault) => CommandReport::of(alloc, Status::RegionFault, false),
+        Err(AttachError::Memory) => CommandReport::of(alloc, Status::Memory, false),
         Ok(()) => match prepared(alloc, source, region) {
-            Err(status) => Report::of(alloc, status, true),
+            Err(status) => CommandReport::of(alloc, status, true),
             Ok(scan) => write_answers(alloc, region, sink, &scan),
         },
     }

@@ -21,7 +21,7 @@ use crate::alone::flatstore_alone;
 use crate::auditing::audit_region;
 use crate::command::{Threaded, asked_of_threads};
 use crate::loading::load_region;
-use crate::report::{Report, Status};
+use crate::report::{CommandReport, Status};
 use crate::run_threads::run_region;
 use core_worker::Gate;
 use fs_model::Memory;
@@ -56,7 +56,7 @@ pub fn flatstore<
     region: &mut R,
     gate: &G,
     watch: &mut W,
-) -> Report
+) -> CommandReport
     requires open { S.ended source.old ≡ false }
     // The words alone decide on Usage, but for want of memory.
     ensures usage { result.status ≡ statuses.Usage → form_of (words_of words.now.items) ≡ None }
@@ -167,7 +167,7 @@ pub fn flatstore<
         (R.found region.old) }
 {
     match asked_of_threads(alloc, words) {
-        Err(Memory) => Report::of(alloc, Status::Memory, false),
+        Err(Memory) => CommandReport::of(alloc, Status::Memory, false),
         Ok(Some(Threaded::Run)) => run_region(rt, alloc, source, sink, region, gate, watch),
         Ok(Some(Threaded::Audit { workers })) => {
             audit_region(rt, alloc, source, sink, region, workers)

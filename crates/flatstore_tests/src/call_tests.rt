@@ -4,7 +4,7 @@ ghost use Rattle.std.specs.Prelude.{◌≡◌, false};
 use crate::change_tests::put;
 use core_room::{Counts, Shortage};
 use engine_core::run_report::Refusal;
-use flatstore_commands::{Report, Status, command_line, flatstore_alone};
+use flatstore_commands::{CommandReport, Status, command_line, flatstore_alone};
 use fs_model::{Memory, Value};
 use fs_text::{MemSink, MemSource, Sink, Source, SteadySink, SteadySource};
 use image_yardstick::image_superblock::read_layout;
@@ -67,7 +67,7 @@ pub fn call<S: Source, O: Sink, R: SplitRegion + ReadRegion>(
     source: &mut S,
     sink: &mut O,
     region: &mut R,
-) -> Result<Report, AllocError>
+) -> Result<CommandReport, AllocError>
     requires open { S.ended source.old ≡ false }
 {
     let alloc = rt.alloc();
@@ -80,7 +80,7 @@ pub fn replay<R: SplitRegion + ReadRegion>(
     rt: &(impl Threads + AllocGlobal),
     region: &mut R,
     input: &str,
-) -> Result<(Report, Vec<u8>), Fail> {
+) -> Result<(CommandReport, Vec<u8>), Fail> {
     let alloc = rt.alloc();
     let mut source = SteadySource::new(Vec::from_slice(alloc, input.as_bytes())?, 7);
     let mut sink = SteadySink::new(alloc, 100_000, 1000)?;
@@ -101,7 +101,7 @@ pub struct Ended {
 }
 
 impl Ended {
-    pub fn of(report: &Report, written: &[u8], text: &[u8]) -> Ended {
+    pub fn of(report: &CommandReport, written: &[u8], text: &[u8]) -> Ended {
         Ended {
             status: report.status,
             attached: report.attached,

@@ -1,6 +1,6 @@
 // The worked rows of a dump, on the top call.
 use crate::call_tests::{Ended, call, ends, with};
-use flatstore_commands::{Report, Status};
+use flatstore_commands::{CommandReport, Status};
 use fs_text::{MemSink, Sink, SteadySink, SteadySource};
 use pm_region::{ReadRegion, Region, SplitRegion};
 use region_memory::SteadyRegion;
@@ -19,7 +19,7 @@ fn dump<O: Sink, R: SplitRegion + ReadRegion>(
     rt: &(impl Threads + AllocGlobal),
     sink: &mut O,
     region: &mut R,
-) -> Result<Report, Fail> {
+) -> Result<CommandReport, Fail> {
     let mut source = SteadySource::new(Vec::new(rt.alloc()), 1);
     Ok(call(rt, &DUMP, &mut source, sink, region)?)
 }

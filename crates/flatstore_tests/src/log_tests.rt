@@ -1,6 +1,6 @@
 // The worked rows of a log, on the top call.
 use crate::call_tests::{Ended, call, with};
-use flatstore_commands::{Report, Status};
+use flatstore_commands::{CommandReport, Status};
 use fs_text::{MemSink, Sink, SteadySink, SteadySource};
 use pm_region::Region;
 use region_memory::SteadyRegion;
@@ -60,7 +60,7 @@ fn log<O: Sink>(
     rt: &(impl Threads + AllocGlobal),
     sink: &mut O,
     region: &mut SteadyRegion,
-) -> Result<Report, Fail> {
+) -> Result<CommandReport, Fail> {
     let mut source = SteadySource::new(Vec::new(rt.alloc()), 1);
     Ok(call(rt, &LOG, &mut source, sink, region)?)
 }

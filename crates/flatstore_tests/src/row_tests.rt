@@ -1,6 +1,6 @@
 // The worked rows of several cores and groups, on the top call.
 use crate::call_tests::{Ended, PICKS, call, cell, ends, replay, with, words_of};
-use flatstore_commands::{Report, Status};
+use flatstore_commands::{CommandReport, Status};
 use fs_text::{Sink, SteadySink, SteadySource};
 use pm_region::{ReadRegion, Region, SplitRegion};
 use region_memory::{Faults, FenceNumber, MemRegion, SteadyRegion};
@@ -48,7 +48,7 @@ struct Changed {
 }
 
 // How many of these requests were finished by a stamp.
-fn finished_by(report: &Report, requests: &[u64], stamp: u64) -> usize {
+fn finished_by(report: &CommandReport, requests: &[u64], stamp: u64) -> usize {
     let mut count = 0usize;
     for finish in report.finishes.as_slice() {
         if finish.stamp <= stamp && requests.contains(&finish.request) {
@@ -78,7 +78,7 @@ fn has_prefix(alloc: Global, words: &[u64], changed: &Changed, count: usize) -> 
 fn has_prefixes(
     alloc: Global,
     region: &MemRegion,
-    report: &Report,
+    report: &CommandReport,
     changes: &[Changed],
     stamp: u64,
 ) -> Result<bool, Fail> {
@@ -116,7 +116,7 @@ fn region_of(alloc: Global, cores: u8, fails: &[u64]) -> Result<MemRegion, Fail>
 fn has_all(
     alloc: Global,
     region: &MemRegion,
-    report: &Report,
+    report: &CommandReport,
     changes: &[Changed],
 ) -> Result<bool, Fail> {
     for stamp in 0..region.stamp() {

@@ -1,6 +1,6 @@
 // The worked rows of a scan, on the top call.
 use crate::call_tests::{Ended, all_done, call, with};
-use flatstore_commands::{Report, Status};
+use flatstore_commands::{CommandReport, Status};
 use fs_text::{MemSink, MemSource, Sink, SteadySink, SteadySource};
 use pm_region::{ReadRegion, Region, SplitRegion};
 use region_memory::SteadyRegion;
@@ -23,7 +23,7 @@ fn scan_into<O: Sink, R: SplitRegion + ReadRegion>(
     sink: &mut O,
     region: &mut R,
     queries: &str,
-) -> Result<Report, Fail> {
+) -> Result<CommandReport, Fail> {
     let bytes = Vec::from_slice(rt.alloc(), queries.as_bytes())?;
     let mut source = SteadySource::new(bytes, 7);
     Ok(call(rt, &SCAN, &mut source, sink, region)?)

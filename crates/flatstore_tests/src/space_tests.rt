@@ -2,7 +2,7 @@
 // deleted.
 use crate::call_tests::{PICKS, replay, spent, with};
 use crate::row_tests::text_of;
-use flatstore_commands::{Report, Status};
+use flatstore_commands::{CommandReport, Status};
 use pm_region::Region;
 use region_memory::{Pick, SteadyRegion};
 use std::alloc::{AllocError, AllocGlobal, Global};
@@ -57,7 +57,7 @@ fn a_forgotten_key_begins_anew(rt: HostRuntime) -> Result<(), Fail> {
 }
 
 // The stamp by which a request was finished.
-fn finished(report: &Report, request: u64) -> Option<u64> {
+fn finished(report: &CommandReport, request: u64) -> Option<u64> {
     for finish in report.finishes.as_slice() {
         if finish.request == request {
             return Some(finish.stamp);

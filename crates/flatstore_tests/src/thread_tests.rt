@@ -4,7 +4,7 @@ ghost use Rattle.std.specs.Prelude.{false, true};
 use crate::call_tests::{Ended, command, ends, with, words_of};
 use crate::row_tests::{fresh_of, text_of};
 use core_worker::{Gate, OpenGate, Point};
-use flatstore_commands::{Report, Status, flatstore};
+use flatstore_commands::{CommandReport, Status, flatstore};
 use fs_text::{Sink, SteadySink, SteadySource};
 use pm_region::{ReadRegion, SplitRegion};
 use region_memory::{Faults, FenceNumber, MemRegion, SteadyRegion};
@@ -24,7 +24,7 @@ pub fn threads<R: SplitRegion + ReadRegion, G: Gate + Sync>(
     region: &mut R,
     input: &str,
     gate: &G,
-) -> Result<(Report, Vec<u8>), Fail> {
+) -> Result<(CommandReport, Vec<u8>), Fail> {
     let alloc = rt.alloc();
     let line = command(alloc, words)?;
     let mut source = SteadySource::new(Vec::from_slice(alloc, input.as_bytes())?, 1000);

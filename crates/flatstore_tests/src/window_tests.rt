@@ -4,7 +4,7 @@ use crate::call_tests::{Ended, command};
 use crate::row_tests::fresh_of;
 use crate::thread_tests::{RUN, gets_and_a_put};
 use core_worker::OpenGate;
-use flatstore_commands::{Report, Status, flatstore};
+use flatstore_commands::{CommandReport, Status, flatstore};
 use fs_text::{MemSink, SteadySource};
 use pm_region::{ReadRegion, SplitRegion};
 use region_memory::{Faults, MemRegion, SteadyRegion};
@@ -24,7 +24,7 @@ fn two_windows<R: SplitRegion + ReadRegion>(
     rt: &(impl Threads + Wait + Sync + AllocGlobal),
     region: &mut R,
     sink: &mut MemSink,
-) -> Result<Report, Fail> {
+) -> Result<CommandReport, Fail> {
     let alloc = rt.alloc();
     let (input, _) = gets_and_a_put(alloc, 4096)?;
     let line = command(alloc, &RUN)?;

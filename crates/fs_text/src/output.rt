@@ -4,8 +4,8 @@ ghost use Rattle.fs_model.specs.Counts.{Rose};
 ghost use Rattle.fs_text.specs.Output.{ended, lines_text, reply_line, replies_text, pair_line, pairs_text, body_text, place_text, entry_line, entries_text, count_line, tally_text};
 ghost use Rattle.fs_text.specs.Streams.{Takes, TakesUpTo, TakesPrefix};
 
-use crate::line::Tally;
-use crate::pending_text::Pending;
+use crate::line::LoadTally;
+use crate::pending_text::PendingText;
 use crate::sink::{Sink, SinkFault};
 use fs_model::{Pair, Reply};
 use log_entry::entry::Body;
@@ -57,7 +57,7 @@ trait TextLine {
 
 // Puts a line, made of two parts, and its newline.
 fn put_line<O: Sink>(
-    pending: &mut Pending,
+    pending: &mut PendingText,
     sink: &mut O,
     front: &[u8],
     rest: &[u8],
@@ -89,7 +89,7 @@ fn write_each<T: TextLine, O: Sink>(
         → Rose (O.fault_count sink.old) (O.fault_count sink.new) }
     ensures count { O.fault_count sink.old ≤ O.fault_count sink.new }
 {
-    let mut pending = Pending::new(alloc)?;
+    let mut pending = PendingText::new(alloc)?;
     let mut front = String::new(alloc);
     for item in items {
         front.clear();
@@ -236,7 +236,7 @@ pub fn write_entries<O: Sink>(
 }
 
 /// Writes the eight lines of a tally, and flushes the sink.
-pub fn write_tally<O: Sink>(alloc: Global, sink: &mut O, tally: &Tally) -> Result<(), OutError>
+pub fn write_tally<O: Sink>(alloc: Global, sink: &mut O, tally: &LoadTally) -> Result<(), OutError>
     ensures ok { OnOk result (Takes (O.taken sink.old) (O.taken sink.new) (tally_text tally.now)) }
     ensures flushed { OnOk result (O.flushed sink.new ≡ true) }
     ensures err { OnErr result (TakesPrefix (O.taken sink.old) (O.taken sink.new)

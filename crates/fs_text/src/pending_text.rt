@@ -27,11 +27,11 @@ fn send_all<O: Sink>(sink: &mut O, bytes: &[u8]) -> Result<(), SinkFault>
 
 /// Text that waits to be sent, so that a sink isn't called for each line. Contracts see its bytes.
 #[derive(Drop)]
-pub struct Pending {
+pub struct PendingText {
     bytes: Vec<u8>,
 }
 
-impl Model for Pending {
+impl Model for PendingText {
     ghost use Rattle.std.specs.Prelude.{ℕ, ◌≤◌, List, length, vec_capacity};
 
     ghost Value = { List ℕ };
@@ -41,13 +41,13 @@ impl Model for Pending {
     ghost invariant = { λ p. (length p.bytes.items ≤ 8192) × (8192 ≤ vec_capacity p.bytes) };
 }
 
-impl Pending {
+impl PendingText {
     /// None yet, with room for a piece.
-    pub fn new(alloc: Global) -> Result<Pending, AllocError>
+    pub fn new(alloc: Global) -> Result<PendingText, AllocError>
         ensures { IfOk result (λ p. p ≡ []) }
     {
         let bytes = Vec::with_capacity(alloc, PIECE)?;
-        Ok(Pending { bytes })
+        Ok(PendingText { bytes })
     }
 
     // Sends what waits.

@@ -2,7 +2,7 @@
 use fs_model::{Reply, Request, Value};
 use fs_text::{
     Input, InputError, Line, MemSink, MemSource, OutError, Pair, PlacedEntry, Sink, Source,
-    StdSink, StdSource, SteadySink, SteadySource, Tally, parse_input, read_input, write_entries,
+    StdSink, StdSource, SteadySink, SteadySource, LoadTally, parse_input, read_input, write_entries,
     write_pairs, write_replies, write_tally,
 };
 use log_entry::entry::{Body, Entry};
@@ -233,7 +233,7 @@ fn entries(rt: HostRuntime) -> Result<(), Fail> {
 #[test]
 fn tally(rt: HostRuntime) -> Result<(), Fail> {
     let alloc = rt.alloc();
-    let tally = Tally {
+    let tally = LoadTally {
         requests: 200_000,
         stored: 100_000,
         value: 47_500,

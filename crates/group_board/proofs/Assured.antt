@@ -18,7 +18,7 @@ use Rattle.group_laws.specs.MemberViews.{view_of}
 use Rattle.group_laws.proofs.Clients.{in_any, any_in, has_In}
 use Rattle.group_board.specs.declared.names.Notices.{Notices}
 use Rattle.group_board.specs.Mailing.{notices_of}
-use Rattle.group_board.specs.declared.board_journal.Journal.{Journal}
+use Rattle.group_board.specs.declared.board_journal.BoardJournal.{BoardJournal}
 use Rattle.group_board.specs.Journals.{state}
 use Rattle.group_board.specs.Kept.{IsKept}
 use Rattle.group_board.specs.Assurances.{IsHome, IsHeard}
@@ -54,7 +54,7 @@ any_named k v (x ∷ xs) t = elim (or_cases (is_named k v x) (list_any (is_named
   | inr i ↦ let found = any_named k v xs i in (found.0, inr found.1, found.2, found.3)
 ]
 
-module _ (n : ℕ) (h : Option ℕ) (slots : List Slot) (mail : List (Option Notices)) (j : Journal) (k : ∥ IsKept n h slots mail j ∥₁) where
+module _ (n : ℕ) (h : Option ℕ) (slots : List Slot) (mail : List (Option Notices)) (j : BoardJournal) (k : ∥ IsKept n h slots mail j ∥₁) where
   -- who has the lock
   pub holder_low : (at : ℕ) → h ≡ Some at → at < members (state j).place
   holder_low at is = ∥∥₁_elim k le_prop (λ o. o.lawful.looks.holder_member at (o.holder_is ∙ is))

@@ -22,7 +22,7 @@ use Rattle.group_board.specs.declared.names.Notices.{Notices}
 use Rattle.group_board.specs.Mailing.{notices_of}
 use Rattle.group_board.specs.declared.board_journal.Act.{Act}
 use Rattle.group_board.specs.declared.board_journal.Act.TheVariants.{Post, Lock, Found, Take, Unlock, Commit, Mark, Fail, Finish, GiveUp, Withdraw, Doom, Retire, Send, Receive}
-use Rattle.group_board.specs.declared.board_journal.Journal.{Journal}
+use Rattle.group_board.specs.declared.board_journal.BoardJournal.{BoardJournal}
 use Rattle.group_board.specs.Tidies.{Covers, tidied}
 use Rattle.group_board.specs.Journals.{note_of, noted, finish_act, names, state}
 use Rattle.group_board.specs.Kept.{IsKept}
@@ -37,7 +37,7 @@ use Rattle.group_board.proofs.Views as views
 use Rattle.group_board.proofs.Views.{own_is}
 use Rattle.group_board.proofs.Keeping.{kept_on, slot_put, mail_put, covers_same, covers_more, covers_less}
 
-module _ (j i : Journal) (m : ℕ) where
+module _ (j i : BoardJournal) (m : ℕ) where
   abbrev w : Group
   w = state j
 
@@ -243,7 +243,7 @@ module _ (j i : Journal) (m : ℕ) where
         (state_is i j m (Receive from x.dead.names x.gone.names) e) refl step k.holder_is k.slots_are (mail_put n mail w.mail from m None many few less low k.mail_is) (receive_covers k.covers from x e) k)
 
 -- What the owner does with a change that came back, by its home.
-module _ (j i : Journal) (m s : ℕ) (x : Entry) (own : owner (state j).place x.key ≡ m) (known : Covers (names j) (state j)) where
+module _ (j i : BoardJournal) (m s : ℕ) (x : Entry) (own : owner (state j).place x.key ≡ m) (known : Covers (names j) (state j)) where
   pub over_step : (home : Option ℕ) → i ≡ noted (note_of m (finish_act s x home)) j → (state j).slot m s ≡ stood_as x home
       → MatchOption home (In (loads.Slot m s words.Failed) ((state j).looked m)) (λ at. In (loads.Slot m s (words.Done at)) ((state j).looked m))
       → MayFinish (state j).place m (view_of (state j) m) s → Leads j m (runs.Kind.Finish s) i

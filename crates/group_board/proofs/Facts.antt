@@ -23,7 +23,7 @@ use Rattle.group_laws.specs.Invariant.{Lawful, PendsAt}
 use Rattle.group_laws.proofs.Clients.{posted_unnamed}
 use Rattle.group_board.specs.declared.names.Notices.{Notices}
 use Rattle.group_board.specs.Mailing.{notices_of}
-use Rattle.group_board.specs.declared.board_journal.Journal.{Journal}
+use Rattle.group_board.specs.declared.board_journal.BoardJournal.{BoardJournal}
 use Rattle.group_board.specs.Tidies.{Covers}
 use Rattle.group_board.specs.Journals.{names, state}
 use Rattle.group_board.specs.Kept.{IsKept}
@@ -91,7 +91,7 @@ pub full_by : (o : Option Notices) → is_some o ≡ is_full (option_map notices
 full_by None = refl
 full_by (Some x) = refl
 
-module _ (n : ℕ) (h : Option ℕ) (slots : List Slot) (mail : List (Option Notices)) (j : Journal) (k : ∥ IsKept n h slots mail j ∥₁) where
+module _ (n : ℕ) (h : Option ℕ) (slots : List Slot) (mail : List (Option Notices)) (j : BoardJournal) (k : ∥ IsKept n h slots mail j ∥₁) where
   pub holder_is : (state j).holder ≡ h
   holder_is = ∥∥₁_elim k (Coded-set (coded_option coded_ℕ) _ _) (λ o. o.holder_is)
 

@@ -7,14 +7,14 @@ use Rattle.group_laws.specs.MemberViews.{view_of}
 use Rattle.group_board.specs.Trails.{step_with}
 use Rattle.group_board.specs.declared.board_journal.Act.{Act}
 use Rattle.group_board.specs.declared.board_journal.Note.{Note}
-use Rattle.group_board.specs.declared.board_journal.Journal.{Journal}
+use Rattle.group_board.specs.declared.board_journal.BoardJournal.{BoardJournal}
 use Rattle.group_board.specs.Journals.{image_of, place_in, begun, note_of, noted, effect, with_finished, names_in, names, state, lock_act, finish_act, kind_of, trail_in, at_or, at_in}
 
-state_noted : (n : Note) (j : Journal) → state (noted n j) ≡ effect (names (noted n j)) (state j) n.member n.act
+state_noted : (n : Note) (j : BoardJournal) → state (noted n j) ≡ effect (names (noted n j)) (state j) n.member n.act
 unfolding state names
 state_noted n j = refl
 
-names_noted : (n : Note) (j : Journal) → names (noted n j) ≡ with_finished n.act (names j)
+names_noted : (n : Note) (j : BoardJournal) → names (noted n j) ≡ with_finished n.act (names j)
 unfolding names
 names_noted n j = refl
 
@@ -26,16 +26,16 @@ pub names_begun : (g : ℕ) (ws : List ℕ) → names (begun g ws) ≡ names_in 
 unfolding names
 names_begun g ws = refl
 
-pub state_is : (i j : Journal) (m : ℕ) (a : Act) → i ≡ noted (note_of m a) j → state i ≡ effect (names i) (state j) m a
+pub state_is : (i j : BoardJournal) (m : ℕ) (a : Act) → i ≡ noted (note_of m a) j → state i ≡ effect (names i) (state j) m a
 state_is i j m a e = ap state e ∙ (state_noted (note_of m a) j ∙ ap (λ x. effect (names x) (state j) m a) (sym e))
 
-pub names_are : (i j : Journal) (m : ℕ) (a : Act) → i ≡ noted (note_of m a) j → names i ≡ with_finished a (names j)
+pub names_are : (i j : BoardJournal) (m : ℕ) (a : Act) → i ≡ noted (note_of m a) j → names i ≡ with_finished a (names j)
 names_are i j m a e = ap names e ∙ names_noted (note_of m a) j
 
 -- the member's trail has the step of its act in front
-pub trail_is : (i j : Journal) (m : ℕ) (a : Act) → i ≡ noted (note_of m a) j → trail_in m i ≡ step_with (kind_of a) (view_of (state i) m) ∷ trail_in m j
+pub trail_is : (i j : BoardJournal) (m : ℕ) (a : Act) → i ≡ noted (note_of m a) j → trail_in m i ≡ step_with (kind_of a) (view_of (state i) m) ∷ trail_in m j
 unfolding state
-trail_is i j m a e = ap (trail_in m) e ∙ ap (λ c. cond c (step_with (kind_of a) (view_of (state (noted (note_of m a) j)) m) ∷ trail_in m j) (trail_in m j)) (eq-eqb m m refl) ∙ ap (λ (x : Journal). step_with (kind_of a) (view_of (state x) m) ∷ trail_in m j) (sym e)
+trail_is i j m a e = ap (trail_in m) e ∙ ap (λ c. cond c (step_with (kind_of a) (view_of (state (noted (note_of m a) j)) m) ∷ trail_in m j) (trail_in m j)) (eq-eqb m m refl) ∙ ap (λ (x : BoardJournal). step_with (kind_of a) (view_of (state x) m) ∷ trail_in m j) (sym e)
 
 pub lock_kind : (h : Option ℕ) → kind_of (lock_act h) ≡ Kind.Lock
 lock_kind None = refl
@@ -45,5 +45,5 @@ pub finish_kind : (s : ℕ) (e : Entry) (home : Option ℕ) → kind_of (finish_
 finish_kind s e None = refl
 finish_kind s e (Some h) = refl
 
-pub at_is : (i j : Journal) (m : ℕ) (a : Act) → i ≡ noted (note_of m a) j → at_in m i ≡ at_or (at_in m j) a
+pub at_is : (i j : BoardJournal) (m : ℕ) (a : Act) → i ≡ noted (note_of m a) j → at_in m i ≡ at_or (at_in m j) a
 at_is i j m a e = ap (at_in m) e ∙ ap (λ c. cond c (at_or (at_in m j) a) (at_in m j)) (eq-eqb m m refl)

@@ -12,7 +12,7 @@ use Rattle.group_laws.specs.Runs.{Kind, IsStep}
 use Rattle.group_laws.proofs.Clients.{step_keeps}
 use Rattle.group_board.specs.declared.names.Notices.{Notices}
 use Rattle.group_board.specs.Mailing.{notices_of}
-use Rattle.group_board.specs.declared.board_journal.Journal.{Journal}
+use Rattle.group_board.specs.declared.board_journal.BoardJournal.{BoardJournal}
 use Rattle.group_board.specs.Tidies.{Covers}
 use Rattle.group_board.specs.Journals.{names, state, name_of}
 use Rattle.group_board.specs.Kept.{IsKept}
@@ -25,7 +25,7 @@ abbrev pub MailIs : ℕ → List (Option Notices) → (ℕ → ℕ → Option la
 MailIs n mail f = (a b : ℕ) → a < n → b < n → f a b ≡ option_map notices_of (get_or mail (8 * a + b) None)
 
 -- a step leads to a state that this list, holder and mailboxes show
-pub kept_on : (n : ℕ) (h g : Option ℕ) (slots new_slots : List Slot) (mail new_mail : List (Option Notices)) (j i : Journal) (m : ℕ) (kind : Kind) (v : Group)
+pub kept_on : (n : ℕ) (h g : Option ℕ) (slots new_slots : List Slot) (mail new_mail : List (Option Notices)) (j i : BoardJournal) (m : ℕ) (kind : Kind) (v : Group)
     → state i ≡ v → v.place ≡ (state j).place → IsStep (state j) m kind (state i)
     → v.holder ≡ g → SlotsAre n new_slots v.slot → MailIs n new_mail v.mail → Covers (names i) v
     → IsKept n h slots mail j → IsKept n g new_slots new_mail i
@@ -73,7 +73,7 @@ module _ (w : Group) (ns : List EntryName) (covers : Covers ns w) where
   pub covers_less : (c : ℕ → ℕ → Bool) (k v h : ℕ) → cond (c k v) None (w.present k v) ≡ Some h → has ns k v ≡ true
   covers_less c k v h p = covers k v h (kept_by (c k v) (w.present k v) h p)
 
-module _ (n : ℕ) (h : Option ℕ) (slots : List Slot) (mail : List (Option Notices)) (i : Journal) (p q : ℕ) (at : p ≡ q) where
+module _ (n : ℕ) (h : Option ℕ) (slots : List Slot) (mail : List (Option Notices)) (i : BoardJournal) (p q : ℕ) (at : p ≡ q) where
   -- the same by other words for the place and for what is written there
   pub slots_at : (x y : Slot) → x ≡ y → ∥ IsKept n h (set slots q y) mail i ∥₁ → ∥ IsKept n h (set slots p x) mail i ∥₁
   slots_at x y e k = subst (λ (v : ℕ). ∥ IsKept n h (set slots v x) mail i ∥₁) (sym at) (subst (λ (v : Slot). ∥ IsKept n h (set slots q v) mail i ∥₁) (sym e) k)

@@ -14,7 +14,7 @@ use Rattle.group_laws.specs.OpeningImages.{opened, entries_of, is_own}
 use Rattle.group_laws.proofs.Clients.{lawful as laws_lawful}
 use Rattle.group_board.specs.declared.names.Notices.{Notices}
 use Rattle.group_board.specs.Mailing.{notices_of}
-use Rattle.group_board.specs.declared.board_journal.Journal.{Journal}
+use Rattle.group_board.specs.declared.board_journal.BoardJournal.{BoardJournal}
 use Rattle.group_board.specs.Tidies.{Covers}
 use Rattle.group_board.specs.Journals.{image_of, place_in, begun, name_of, names_in, names, state}
 use Rattle.group_board.specs.Kept.{IsKept}
@@ -44,7 +44,7 @@ module _ (bytes g : ℕ) (ws : List ℕ) (sound : images.IsSound bytes (image_of
       let store = sound_store bytes (image_of ws) sound in
       laws_lawful (place_in g ws) (image_of ws) (record { layout = (superblock_facts bytes (image_of ws) store.superblock).1; group = low }) store.rules
 
-  pub opened_kept : (n : ℕ) (slots : List Slot) (mail : List (Option Notices)) (j : Journal) → (layout_of (image_of ws)).group ≡ n → j ≡ begun g ws
+  pub opened_kept : (n : ℕ) (slots : List Slot) (mail : List (Option Notices)) (j : BoardJournal) → (layout_of (image_of ws)).group ≡ n → j ≡ begun g ws
       → ((i : ℕ) → get_or slots i Empty ≡ Empty) → ((i : ℕ) → option_map notices_of (get_or mail i None) ≡ None) → IsKept n None slots mail j
   opened_kept n slots mail j size is no_slot no_mail =
       let made = ap state is ∙ state_begun g ws in

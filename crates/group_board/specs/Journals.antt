@@ -16,7 +16,7 @@ use Rattle.group_board.specs.Tidies.{tidied}
 use Rattle.group_board.specs.declared.board_journal.Act.{Act}
 use Rattle.group_board.specs.declared.board_journal.Act.TheVariants.{Post, Lock, Found, Take, Unlock, Commit, Mark, Fail, Finish, GiveUp, Withdraw, Doom, Retire, Send, Receive}
 use Rattle.group_board.specs.declared.board_journal.Note.{Note}
-use Rattle.group_board.specs.declared.board_journal.Journal.{Journal}
+use Rattle.group_board.specs.declared.board_journal.BoardJournal.{BoardJournal}
 
 -- the words by number; behind the last there are zeros
 abbrev pub image_of : List ℕ → ℕ → ℕ
@@ -27,14 +27,14 @@ abbrev pub place_in : ℕ → List ℕ → Place
 place_in g ws = record { layout = layout_of (image_of ws); group = g }
 
 -- a journal with no steps yet
-abbrev pub begun : ℕ → List ℕ → Journal
+abbrev pub begun : ℕ → List ℕ → BoardJournal
 begun g ws = record { group = g; words = ws; notes = [] }
 
 abbrev pub note_of : ℕ → Act → Note
 note_of m a = record { member = m; act = a }
 
 -- the journal with one step more
-abbrev pub noted : Note → Journal → Journal
+abbrev pub noted : Note → BoardJournal → BoardJournal
 noted n j = record j { notes = n ∷ j.notes }
 
 abbrev pub name_of : Entry → EntryName
@@ -90,11 +90,11 @@ abbrev pub names_in : ℕ → List ℕ → List EntryName
 names_in g ws = map (λ x. name_of x.entry) (entries_of (place_in g ws) (image_of ws))
 
 -- the names of all entries with which the group opened or that it finished
-unfoldable pub names : Journal → List EntryName
+unfoldable pub names : BoardJournal → List EntryName
 names j = names_after (names_in j.group j.words) j.notes
 
 -- the state of the group after the steps of the journal
-unfoldable pub state : Journal → Group
+unfoldable pub state : BoardJournal → Group
 state j = state_after (names_in j.group j.words) (opened (place_in j.group j.words)
     (image_of j.words)) j.notes
 
@@ -139,7 +139,7 @@ steps_by ns w m (x ∷ xs) = cond (eqb m x.member)
     (steps_by ns w m xs)
 
 -- the steps that a member made, the newest first, each with its view after it
-abbrev pub trail_in : ℕ → Journal → List TrailStep
+abbrev pub trail_in : ℕ → BoardJournal → List TrailStep
 trail_in m j = steps_by (names_in j.group j.words) (opened (place_in j.group j.words)
     (image_of j.words)) m j.notes
 
@@ -166,5 +166,5 @@ at_by m [] = 0
 at_by m (x ∷ xs) = cond (eqb m x.member) (at_or (at_by m xs) x.act) (at_by m xs)
 
 -- the stamp at which the member's region stood that was handed to its newest such step
-abbrev pub at_in : ℕ → Journal → ℕ
+abbrev pub at_in : ℕ → BoardJournal → ℕ
 at_in m j = at_by m j.notes

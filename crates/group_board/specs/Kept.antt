@@ -11,13 +11,13 @@ use Rattle.group_laws.specs.Places.{members}
 use Rattle.group_laws.specs.Invariant.{Lawful}
 use Rattle.group_board.specs.declared.names.Notices.{Notices}
 use Rattle.group_board.specs.Mailing.{notices_of}
-use Rattle.group_board.specs.declared.board_journal.Journal.{Journal}
+use Rattle.group_board.specs.declared.board_journal.BoardJournal.{BoardJournal}
 use Rattle.group_board.specs.Journals.{names, state}
 use Rattle.group_board.specs.Tidies.{Covers}
 
 -- Slots stand in rows, one for each owner, and mailboxes in rows, one for each sender.
 pub record IsKept (n : ℕ) (holder : Option ℕ) (slots : List Slot) (mail : List (Option Notices))
-    (j : Journal) : Type 0 where
+    (j : BoardJournal) : Type 0 where
   pub size : members (state j).place ≡ n
   pub holder_is : (state j).holder ≡ holder
   pub slots_are : (a s : ℕ) → a < n → s < SLOTS → (state j).slot a s
@@ -33,5 +33,5 @@ TableId-set = Coded-set table_id_coded
 
 -- the state that a board tells is lawful
 pub kept_lawful : (n : ℕ) (holder : Option ℕ) (slots : List Slot) (mail : List (Option Notices))
-    (j : Journal) → ∥ IsKept n holder slots mail j ∥₁ → ∥ Lawful (state j) ∥₁
+    (j : BoardJournal) → ∥ IsKept n holder slots mail j ∥₁ → ∥ Lawful (state j) ∥₁
 kept_lawful n holder slots mail j k = ∥∥₁_map k (λ o. o.lawful)

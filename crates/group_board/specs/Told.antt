@@ -12,7 +12,7 @@ use Rattle.group_board.specs.declared.names.Notices.{Notices}
 use Rattle.group_board.specs.Mailing.{notices_of}
 use Rattle.group_laws.specs.MemberViews.{View, view_of}
 use Rattle.group_board.specs.Journals.{state}
-use Rattle.group_board.specs.declared.board_journal.Journal.{Journal}
+use Rattle.group_board.specs.declared.board_journal.BoardJournal.{BoardJournal}
 use Rattle.group_board.specs.declared.board.SlotState.{SlotState}
 use Rattle.group_board.specs.declared.board.SlotState.TheVariants.{Empty, Posted, Taken, Done, Failed}
 
@@ -52,6 +52,6 @@ stood_as e None = slots.Failed e
 stood_as e (Some h) = slots.Done e h
 
 -- the board's place stays, member m's step of this kind leads from the one journal to the other, and a lawful state stays lawful
-abbrev pub Leads : Journal → ℕ → Kind → Journal → Type 0
+abbrev pub Leads : BoardJournal → ℕ → Kind → BoardJournal → Type 0
 Leads j m kind i = ((state i).place ≡ (state j).place) × IsStep (state j) m kind (state i)
     × (Lawful (state j) → Lawful (state i))

@@ -48,7 +48,7 @@ pub struct Note {
 
 /// The number of the group in its layout, the words of the image on which it opened, and the steps since then, the
 /// newest first.
-pub struct Journal {
+pub struct BoardJournal {
     /// Counted from 0.
     pub group: u32,
     /// All words of the region, from its first on.

@@ -29,7 +29,7 @@ ghost use Rattle.group_board.specs.Assurances.{IsHome, IsHeard, IsUnlogged};
 ghost use Rattle.group_board.specs.Told.{AreSteps, Leads, state_of, stood_as};
 
 use crate::board::{Busy, MailFull, SlotState};
-use crate::board_journal::Journal;
+use crate::board_journal::BoardJournal;
 use crate::change::Change;
 use crate::names::Notices;
 use crate::notes::{Asks, Begins, Keeper, note};
@@ -56,7 +56,7 @@ pub struct LocalBoard {
     pub(crate) slots: Vec<Slot>,
     /// In rows, one for each sender.
     pub(crate) mail: Vec<Option<Notices>>,
-    pub(crate) table: Table<u8, Journal, (), Asks, Global>,
+    pub(crate) table: Table<u8, BoardJournal, (), Asks, Global>,
     /// The seat whose view is the journal.
     pub(crate) keeper: Keeper,
     ghost sized: { (table.shared.table_id.words ≡ 1) × (member_count ≤ MOST_GROUP)
@@ -106,7 +106,7 @@ impl LocalBoard {
             ≡ opened (place_in O.group O.words) (image_of O.words)) }
         ensures lawful { IfOk result (λ b. Lawful (state b.keeper.me.0)) }
     {
-        let (table, mut keeper) = Table::<u8, Journal, (), Asks, Global>::of_words(
+        let (table, mut keeper) = Table::<u8, BoardJournal, (), Asks, Global>::of_words(
             alloc,
             &[0],
             &(),

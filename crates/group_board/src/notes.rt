@@ -5,7 +5,7 @@ ghost use Rattle.group_board.specs.Journals.{begun, noted, note_of};
 ghost use Rattle.group_board.specs.declared.board_journal.Act.TheVariants.{Unlock};
 ghost use Rattle.group_board.specs.declared.board_journal.Note.{Note};
 
-use crate::board_journal::Journal;
+use crate::board_journal::BoardJournal;
 use crate::opening::Opening;
 use atomic_table::{Play, Seat, Shared, TableRule};
 use std::marker::{Brand, PhantomData};
@@ -13,7 +13,7 @@ use std::marker::{Brand, PhantomData};
 /// The rule that asks nothing.
 pub struct Asks;
 
-impl TableRule<u8, Journal, ()> for Asks {
+impl TableRule<u8, BoardJournal, ()> for Asks {
     ghost holds = { λ _ _. Unit {0} };
 
     ghost first = { λ _. begun 0 [] };
@@ -33,7 +33,7 @@ pub struct Writes<W> {
     marker: PhantomData<W>,
 }
 
-impl<W: Wish> Play<u8, Journal> for Writes<W> {
+impl<W: Wish> Play<u8, BoardJournal> for Writes<W> {
     ghost then = { λ st m r n. n ≡ (noted W.wish m.0, m.1) };
 }
 
@@ -42,15 +42,15 @@ pub struct Begins<O> {
     marker: PhantomData<O>,
 }
 
-impl<O: Opening> Play<u8, Journal> for Begins<O> {
+impl<O: Opening> Play<u8, BoardJournal> for Begins<O> {
     ghost then = { λ st m r n. n ≡ (begun O.group O.words, m.1) };
 }
 
 /// The table of one word at which notes are written. It asks nothing.
-pub type Steps = Shared<u8, Journal, (), Asks>;
+pub type Steps = Shared<u8, BoardJournal, (), Asks>;
 
 /// The seat there, whose view is the journal.
-pub type Keeper = Seat<u8, Journal>;
+pub type Keeper = Seat<u8, BoardJournal>;
 
 /// Writes a note. What it is about is passed, since a pick sees the call's arguments alone.
 pub fn note<W: Wish, T>(table: &Steps, seat: &mut Keeper, _about: &T)

@@ -17,7 +17,7 @@ use crate::open_boards::open;
 use chunk_map::Geometry;
 use core_worker::Worker;
 use engine_core::open_workers::open_workers;
-use engine_core::openings::{Found, On};
+use engine_core::openings::{FoundRegion, On};
 use fs_model::Memory;
 use pm_region::ReadRegion;
 use recover::Recovered;
@@ -25,7 +25,7 @@ use std::alloc::Global;
 use std::marker::Brand;
 
 // The engine on those words. The region is passed since what is known of them must be said of what is passed.
-fn open_on<F: Found, R: ReadRegion>(
+fn open_on<F: FoundRegion, R: ReadRegion>(
     alloc: Global,
     _region: &R,
     layout: Geometry,

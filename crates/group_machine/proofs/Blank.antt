@@ -13,7 +13,7 @@ use Rattle.group_laws.specs.OpeningImages.{opened, IsBlank}
 use Rattle.group_laws.proofs.Clients.{no_block, no_cell, no_death, no_home, no_last, no_log}
 use Rattle.group_board.specs.declared.names.Notices.{Notices}
 use Rattle.group_board.specs.Mailing.{notices_of}
-use Rattle.group_machine.specs.declared.state.CoreView.{CoreView}
+use Rattle.group_machine.specs.declared.state.MemberView.{MemberView}
 use Rattle.group_machine.specs.Shows.{pair_cmp, no_notices, last_in, mailed_in, group_at, IsEmptyView}
 use Rattle.group_machine.proofs.Empties.{read, nothing_at, none_at}
 
@@ -22,7 +22,7 @@ and_none true = refl
 and_none false = refl
 
 module _ (p : Place) (place : IsPlace p) (image : ℕ → ℕ) (blank : IsBlank p.layout image) where
-  module _ (slots : BTreeMap (ℕ × ℕ) Slot) (mail : BTreeMap (ℕ × ℕ) Notices) (vs : List CoreView) (no_slots : IsEmpty slots) (no_mail : IsEmpty mail) (all : AllByRecursion IsEmptyView vs) where
+  module _ (slots : BTreeMap (ℕ × ℕ) Slot) (mail : BTreeMap (ℕ × ℕ) Notices) (vs : List MemberView) (no_slots : IsEmpty slots) (no_mail : IsEmpty mail) (all : AllByRecursion IsEmptyView vs) where
     slot : (m s : ℕ) → unwrap_or (get pair_cmp slots (m, s)) Empty ≡ Empty
     slot m s = ap (λ (o : Option Slot). unwrap_or o Empty) (none_at slots no_slots m s)
 

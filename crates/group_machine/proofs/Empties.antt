@@ -17,15 +17,15 @@ use Rattle.group_laws.specs.Invariant.{Lawful}
 use Rattle.group_laws.specs.Opening.{IsSound, IsFound, AllTidied, IsOpened, nothing}
 use Rattle.group_laws.proofs.Clients.{opened as laws_opened}
 use Rattle.group_board.specs.declared.names.Notices.{Notices}
-use Rattle.group_machine.specs.declared.state.CoreView.{CoreView}
+use Rattle.group_machine.specs.declared.state.MemberView.{MemberView}
 use Rattle.group_board.specs.Mailing.{notices_of}
 use Rattle.group_machine.specs.Shows.{pair_cmp, of, last_in, group_at, IsEmptyView}
 
-pub all_push : (vs : List CoreView) (v : CoreView) → AllByRecursion IsEmptyView vs → IsEmptyView v → AllByRecursion IsEmptyView (vs ++ v ∷ [])
+pub all_push : (vs : List MemberView) (v : MemberView) → AllByRecursion IsEmptyView vs → IsEmptyView v → AllByRecursion IsEmptyView (vs ++ v ∷ [])
 all_push [] v all is = (is, tt)
 all_push (x ∷ vs) v all is = (all.0, all_push vs v all.1 is)
 
-pub read : {X : Type 0} (f : CoreView → X) (d : X) → ((v : CoreView) → IsEmptyView v → f v ≡ d) → (vs : List CoreView) → AllByRecursion IsEmptyView vs → (h : ℕ) → of f d (slice_get vs h) ≡ d
+pub read : {X : Type 0} (f : MemberView → X) (d : X) → ((v : MemberView) → IsEmptyView v → f v ≡ d) → (vs : List MemberView) → AllByRecursion IsEmptyView vs → (h : ℕ) → of f d (slice_get vs h) ≡ d
 read f d is [] all h = refl
 read f d is (v ∷ vs) all zero = is v all.0
 read f d is (v ∷ vs) all (suc h) = read f d is vs all.1 h
@@ -39,7 +39,7 @@ none_at m e k n = ap (lookup (is_at (pair_cmp (k, n)))) e
 clash : {A X : Type 0} {o : Option X} {x : X} → o ≡ None → o ≡ Some x → A
 clash n s = absurd (cc (n, s))
 
-module _ (p : Place) (place : IsPlace p) (slots : BTreeMap (ℕ × ℕ) Slot) (mail : BTreeMap (ℕ × ℕ) Notices) (vs : List CoreView) (no_slots : IsEmpty slots) (no_mail : IsEmpty mail) (all : AllByRecursion IsEmptyView vs) where
+module _ (p : Place) (place : IsPlace p) (slots : BTreeMap (ℕ × ℕ) Slot) (mail : BTreeMap (ℕ × ℕ) Notices) (vs : List MemberView) (no_slots : IsEmpty slots) (no_mail : IsEmpty mail) (all : AllByRecursion IsEmptyView vs) where
   abbrev w : Group
   w = group_at p None slots mail vs
 

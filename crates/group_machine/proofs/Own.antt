@@ -9,15 +9,15 @@ use Rattle.group_laws.specs.Updates.{has}
 use Rattle.group_laws.specs.State.{Group}
 use Rattle.group_laws.specs.Invariant.{IsDead}
 use Rattle.group_board.specs.declared.names.Notices.{Notices}
-use Rattle.group_machine.specs.declared.state.CoreView.{CoreView}
+use Rattle.group_machine.specs.declared.state.MemberView.{MemberView}
 use Rattle.group_machine.specs.Shows.{pair_cmp, of, last_in, group_at}
 use Rattle.group_machine.specs.Deaths.{IsDeadIn, MayTell}
 
-module _ (p : Place) (o : Option ℕ) (slots : BTreeMap (ℕ × ℕ) Slot) (mail : BTreeMap (ℕ × ℕ) Notices) (vs : List CoreView) (m : ℕ) (v : CoreView) (at : slice_get vs m ≡ Some v) where
+module _ (p : Place) (o : Option ℕ) (slots : BTreeMap (ℕ × ℕ) Slot) (mail : BTreeMap (ℕ × ℕ) Notices) (vs : List MemberView) (m : ℕ) (v : MemberView) (at : slice_get vs m ≡ Some v) where
   abbrev w : Group
   w = group_at p o slots mail vs
 
-  pub was_own : {X : Type 0} (f : CoreView → X) (d : X) (k : ℕ) → owner p k ≡ m → of f d (slice_get vs (owner p k)) ≡ f v
+  pub was_own : {X : Type 0} (f : MemberView → X) (d : X) (k : ℕ) → owner p k ≡ m → of f d (slice_get vs (owner p k)) ≡ f v
   was_own f d k own = ap (λ (h : ℕ). of f d (slice_get vs h)) own ∙ ap (of f d) at
 
   pub last_was : (k : ℕ) → owner p k ≡ m → w.last k ≡ last_in v k

@@ -17,7 +17,7 @@ use Rattle.group_laws.specs.Places.{Place, owner}
 use Rattle.group_laws.specs.Updates.{put, change, has}
 use Rattle.group_laws.specs.Steps.{posts, with_block, withdraws, points_at, finishes, gives_up, left_by, bytes_of, only_own}
 use Rattle.group_board.specs.declared.names.Notices.{Notices}
-use Rattle.group_machine.specs.declared.state.CoreView.{CoreView}
+use Rattle.group_machine.specs.declared.state.MemberView.{MemberView}
 use Rattle.group_machine.specs.Shows.{pair_cmp, of, no_notices, last_in, mailed_in, group_at}
 use Rattle.group_machine.specs.Finds.{left_in}
 use Rattle.group_machine.proofs.Views as views
@@ -27,10 +27,10 @@ applied : {X : Type 0} (b : Bool) (f g : ℕ → X) (q : ℕ) → cond b (f q) (
 applied true f g q = refl
 applied false f g q = refl
 
-module _ (p : Place) (o : Option ℕ) (mail : BTreeMap (ℕ × ℕ) Notices) (vs : List CoreView) (m : ℕ) (v : CoreView) (at : slice_get vs m ≡ Some v) where
+module _ (p : Place) (o : Option ℕ) (mail : BTreeMap (ℕ × ℕ) Notices) (vs : List MemberView) (m : ℕ) (v : MemberView) (at : slice_get vs m ≡ Some v) where
   -- an owner's step leaves what its view has as a leader
   pub leads_same : (slots : BTreeMap (ℕ × ℕ) Slot) (broken : Bool) (looked : Vec Seen) (last : BTreeMap ℕ ℕ) (cell : BTreeMap ℕ (List ℕ)) (pending : BTreeMap ℕ Pending) (present : BTreeMap (ℕ × ℕ) ℕ) (told dead : Vec EntryName) (blocks : BTreeMap ℕ Block) (posted : Vec Entry)
-      → let w : CoreView = record v { broken = broken; looked = looked; last = last; cell = cell; pending = pending; present = present; told = told; dead = dead; blocks = blocks; posted = posted } in
+      → let w : MemberView = record v { broken = broken; looked = looked; last = last; cell = cell; pending = pending; present = present; told = told; dead = dead; blocks = blocks; posted = posted } in
       let ws = slice_set vs m w in
       group_at p o slots mail ws ≡ record (group_at p o slots mail vs) {
         broken = λ h. of (λ v. v.broken) false (slice_get ws h);
@@ -45,7 +45,7 @@ module _ (p : Place) (o : Option ℕ) (mail : BTreeMap (ℕ × ℕ) Notices) (vs
         posted = λ h. of (λ v. v.posted.items) [] (slice_get ws h);
       }
   leads_same slots broken looked last cell pending present told dead blocks posted =
-      let w : CoreView = record v { broken = broken; looked = looked; last = last; cell = cell; pending = pending; present = present; told = told; dead = dead; blocks = blocks; posted = posted } in
+      let w : MemberView = record v { broken = broken; looked = looked; last = last; cell = cell; pending = pending; present = present; told = told; dead = dead; blocks = blocks; posted = posted } in
       λ i. record (group_at p o slots mail (slice_set vs m w)) {
         kept = λ h. views.kept_field vs m v w at (λ v. v.kept.items) [] refl h i;
         flying = λ h. views.kept_field vs m v w at (λ v. v.flying.items) [] refl h i;
@@ -58,12 +58,12 @@ module _ (p : Place) (o : Option ℕ) (mail : BTreeMap (ℕ × ℕ) Notices) (vs
       }
 
   -- the blocks of m's view, after g
-  blocks_changed : (w : CoreView) (g : (ℕ → Option Block) → ℕ → Option Block) → ((q : ℕ) → get nat_cmp w.blocks q ≡ g (get nat_cmp v.blocks) q) → (h q : ℕ)
+  blocks_changed : (w : MemberView) (g : (ℕ → Option Block) → ℕ → Option Block) → ((q : ℕ) → get nat_cmp w.blocks q ≡ g (get nat_cmp v.blocks) q) → (h q : ℕ)
       → of (λ v. get nat_cmp v.blocks q) None (slice_get (slice_set vs m w) h) ≡ change (λ h q. of (λ v. get nat_cmp v.blocks q) None (slice_get vs h)) m g h q
   blocks_changed w g new h q =
-      let old : ℕ → ℕ → Option Block = λ h q. of (λ (v : CoreView). get nat_cmp v.blocks q) None (slice_get vs h) in
+      let old : ℕ → ℕ → Option Block = λ h q. of (λ (v : MemberView). get nat_cmp v.blocks q) None (slice_get vs h) in
       views.if_field vs m v w at (λ v. get nat_cmp v.blocks q) None (λ h. g (old h) q)
-      (new q ∙ (λ i. g (λ q. sym (ap (of (λ (v : CoreView). get nat_cmp v.blocks q) None) at) i) q)) h
+      (new q ∙ (λ i. g (λ q. sym (ap (of (λ (v : MemberView). get nat_cmp v.blocks q) None) at) i) q)) h
       ∙ applied (eqb h m) (g (old h)) (old h) q
 
   pub post_is : (slots slots' : BTreeMap (ℕ × ℕ) Slot) (s : ℕ) (e : Entry) (value : List ℕ) (pending : BTreeMap ℕ Pending) (blocks : BTreeMap ℕ Block) (posted : Vec Entry) (looked : Vec Seen)
@@ -71,7 +71,7 @@ module _ (p : Place) (o : Option ℕ) (mail : BTreeMap (ℕ × ℕ) Notices) (vs
       → ((q : ℕ) → get nat_cmp blocks q ≡ with_block e.key value e.body (get nat_cmp v.blocks) q) → posted.items ≡ v.posted.items ++ e ∷ [] → looked.items ≡ []
       → group_at p o slots' mail (slice_set vs m (record v { looked = looked; pending = pending; blocks = blocks; posted = posted })) ≡ posts (group_at p o slots mail vs) m s e value
   post_is slots slots' s e value pending blocks posted looked own slot_set pending_set block_added more cleared =
-      let w : CoreView = record v { looked = looked; pending = pending; blocks = blocks; posted = posted } in
+      let w : MemberView = record v { looked = looked; pending = pending; blocks = blocks; posted = posted } in
       leads_same slots' v.broken looked v.last v.cell pending v.present v.told v.dead blocks posted ∙ λ i. record (posts (group_at p o slots mail vs) m s e value) {
         slot = λ b t. pair_put (λ o. unwrap_or o Empty) slots slots' m s (Some (Posted e)) slot_set b t i;
         broken = λ h. views.kept_field vs m v w at (λ v. v.broken) false refl h i;
@@ -91,7 +91,7 @@ module _ (p : Place) (o : Option ℕ) (mail : BTreeMap (ℕ × ℕ) Notices) (vs
       → ((q : ℕ) → get nat_cmp blocks q ≡ cond (points_at e.body q) None (get nat_cmp v.blocks q)) → looked.items ≡ []
       → group_at p o slots' mail (slice_set vs m (record v { looked = looked; pending = pending; blocks = blocks })) ≡ withdraws (group_at p o slots mail vs) m s e
   withdraw_is slots slots' s e pending blocks looked own slot_set pending_set block_dropped cleared =
-      let w : CoreView = record v { looked = looked; pending = pending; blocks = blocks } in
+      let w : MemberView = record v { looked = looked; pending = pending; blocks = blocks } in
       leads_same slots' v.broken looked v.last v.cell pending v.present v.told v.dead blocks v.posted ∙ λ i. record (withdraws (group_at p o slots mail vs) m s e) {
         slot = λ b t. pair_put (λ o. unwrap_or o Empty) slots slots' m s (Some Empty) slot_set b t i;
         broken = λ h. views.kept_field vs m v w at (λ v. v.broken) false refl h i;
@@ -107,7 +107,7 @@ module _ (p : Place) (o : Option ℕ) (mail : BTreeMap (ℕ × ℕ) Notices) (vs
       }
 
   left_same : (slots : BTreeMap (ℕ × ℕ) Slot) (body : Body) → left_in (get nat_cmp v.blocks) body ≡ left_by (group_at p o slots mail vs) m body
-  left_same slots (Pointer q) = ap bytes_of (sym (ap (of (λ (v : CoreView). get nat_cmp v.blocks q) None) at))
+  left_same slots (Pointer q) = ap bytes_of (sym (ap (of (λ (v : MemberView). get nat_cmp v.blocks q) None) at))
   left_same slots (Embedded u) = refl
   left_same slots Tombstone = refl
 
@@ -118,7 +118,7 @@ module _ (p : Place) (o : Option ℕ) (mail : BTreeMap (ℕ × ℕ) Notices) (vs
       → ((q : ℕ) → get nat_cmp blocks q ≡ only_own e.key e.body (get nat_cmp v.blocks) q) → looked.items ≡ []
       → group_at p o slots' mail (slice_set vs m (record v { looked = looked; last = last; cell = cell; pending = pending; present = present; blocks = blocks })) ≡ finishes (group_at p o slots mail vs) m s e home
   finish_is slots slots' s e home last cell pending present blocks looked own slot_set last_set cell_set pending_set present_set replaced cleared =
-      let w : CoreView = record v { looked = looked; last = last; cell = cell; pending = pending; present = present; blocks = blocks } in
+      let w : MemberView = record v { looked = looked; last = last; cell = cell; pending = pending; present = present; blocks = blocks } in
       let left = left_same slots e.body in
       leads_same slots' v.broken looked last cell pending present v.told v.dead blocks v.posted ∙ λ i. record (finishes (group_at p o slots mail vs) m s e home) {
         slot = λ b t. pair_put (λ o. unwrap_or o Empty) slots slots' m s (Some Empty) slot_set b t i;
@@ -138,7 +138,7 @@ module _ (p : Place) (o : Option ℕ) (mail : BTreeMap (ℕ × ℕ) Notices) (vs
       → owner p e.key ≡ m → Updates pair_cmp slots slots' (m, s) (Some Empty) → Updates nat_cmp v.pending pending e.key (Some (record { entry = e; slot = None })) → looked.items ≡ []
       → group_at p o slots' mail (slice_set vs m (record v { broken = true; looked = looked; pending = pending })) ≡ gives_up (group_at p o slots mail vs) m s e
   doubt_is slots slots' s e pending looked own slot_set pending_set cleared =
-      let w : CoreView = record v { broken = true; looked = looked; pending = pending } in
+      let w : MemberView = record v { broken = true; looked = looked; pending = pending } in
       leads_same slots' true looked v.last v.cell pending v.present v.told v.dead v.blocks v.posted ∙ λ i. record (gives_up (group_at p o slots mail vs) m s e) {
         slot = λ b t. pair_put (λ o. unwrap_or o Empty) slots slots' m s (Some Empty) slot_set b t i;
         broken = λ h. views.put_field vs m v w at (λ v. v.broken) false true refl h i;

@@ -14,7 +14,7 @@ use Rattle.group_laws.specs.State.{Group}
 use Rattle.group_laws.specs.Invariant.{IsDead}
 use Rattle.group_laws.specs.Tidying.{IsSpent, TellsItself, IsTidy, tidies, Tidied}
 use Rattle.group_board.specs.declared.names.Notices.{Notices}
-use Rattle.group_machine.specs.declared.state.CoreView.{CoreView}
+use Rattle.group_machine.specs.declared.state.MemberView.{MemberView}
 use Rattle.group_machine.specs.Shows.{pair_cmp, of, last_in, group_at}
 use Rattle.group_machine.specs.Deaths.{IsDeadIn, IsSpentIn, MustTell}
 use Rattle.group_machine.proofs.Views as views
@@ -33,7 +33,7 @@ decide_in k (x ∷ xs) = elim (cases_eq k x) [
   | inr ne ↦ elim (decide_in k xs) [ inl i ↦ inl (inr i) | inr away ↦ inr (λ i. elim i [ inl e ↦ ne e | inr j ↦ away j ]) ]
 ]
 
-module _ (p : Place) (o : Option ℕ) (slots : BTreeMap (ℕ × ℕ) Slot) (mail : BTreeMap (ℕ × ℕ) Notices) (vs : List CoreView) (m : ℕ) (v : CoreView) (at : slice_get vs m ≡ Some v)
+module _ (p : Place) (o : Option ℕ) (slots : BTreeMap (ℕ × ℕ) Slot) (mail : BTreeMap (ℕ × ℕ) Notices) (vs : List MemberView) (m : ℕ) (v : MemberView) (at : slice_get vs m ≡ Some v)
     (last : BTreeMap ℕ ℕ) (told dead : Vec EntryName) (spent : List ℕ) (names : List EntryName)
     (only : (k : ℕ) → In k spent → IsSpentIn v k) (all : (k x : ℕ) → get nat_cmp v.last k ≡ Some x → IsSpentIn v k → In k spent)
     (must : (k n : ℕ) → (has names k n ≡ true → MustTell p m v k n) × (MustTell p m v k n → has names k n ≡ true))
@@ -42,19 +42,19 @@ module _ (p : Place) (o : Option ℕ) (slots : BTreeMap (ℕ × ℕ) Slot) (mail
   abbrev w : Group
   w = group_at p o slots mail vs
 
-  abbrev new : CoreView
+  abbrev new : MemberView
   new = record v { last = last; told = told; dead = dead }
 
-  abbrev ws : List CoreView
+  abbrev ws : List MemberView
   ws = slice_set vs m new
 
-  was_own : {X : Type 0} (f : CoreView → X) (d : X) (k : ℕ) → owner p k ≡ m → of f d (slice_get vs (owner p k)) ≡ f v
+  was_own : {X : Type 0} (f : MemberView → X) (d : X) (k : ℕ) → owner p k ≡ m → of f d (slice_get vs (owner p k)) ≡ f v
   was_own f d k own = shown_own.was_own p o slots mail vs m v at f d k own
 
-  is_own : {X : Type 0} (f : CoreView → X) (d : X) (k : ℕ) → owner p k ≡ m → of f d (slice_get ws (owner p k)) ≡ f new
+  is_own : {X : Type 0} (f : MemberView → X) (d : X) (k : ℕ) → owner p k ≡ m → of f d (slice_get ws (owner p k)) ≡ f new
   is_own f d k own = ap (λ (h : ℕ). of f d (slice_get ws h)) own ∙ ap (of f d) (views.set_same vs m v new at)
 
-  is_other : {X : Type 0} (f : CoreView → X) (d : X) (k : ℕ) → (owner p k ≡ m → ⊥) → of f d (slice_get ws (owner p k)) ≡ of f d (slice_get vs (owner p k))
+  is_other : {X : Type 0} (f : MemberView → X) (d : X) (k : ℕ) → (owner p k ≡ m → ⊥) → of f d (slice_get ws (owner p k)) ≡ of f d (slice_get vs (owner p k))
   is_other f d k ne = ap (of f d) (views.set_other vs m v new at (owner p k) ne)
 
   spent_in : (k : ℕ) → IsSpent w m k → IsSpentIn v k
@@ -114,10 +114,10 @@ module _ (p : Place) (o : Option ℕ) (slots : BTreeMap (ℕ × ℕ) Slot) (mail
   told_was k n own = was_own (λ v. has v.told.items k n) false k own
 
   in_dead_list : (k n : ℕ) → dead' m k n ≡ has (v.dead.items ++ names) k n
-  in_dead_list k n = ap (of (λ (v : CoreView). has v.dead.items k n) false) (views.set_same vs m v new at) ∙ ap (λ (xs : List EntryName). has xs k n) dead_more
+  in_dead_list k n = ap (of (λ (v : MemberView). has v.dead.items k n) false) (views.set_same vs m v new at) ∙ ap (λ (xs : List EntryName). has xs k n) dead_more
 
   dead_was : (k n : ℕ) → w.dead m k n ≡ has v.dead.items k n
-  dead_was k n = ap (of (λ (v : CoreView). has v.dead.items k n) false) at
+  dead_was k n = ap (of (λ (v : MemberView). has v.dead.items k n) false) at
 
   is_tidy : IsTidy w m last' told' dead'
   is_tidy = record {
@@ -144,7 +144,7 @@ module _ (p : Place) (o : Option ℕ) (slots : BTreeMap (ℕ × ℕ) Slot) (mail
         λ t. elim (in_either v.dead.items names k n (sym (in_dead_list k n) ∙ t)) [ inl old ↦ inl (dead_was k n ∙ old) | inr fresh ↦ inr (refl, in_tells k n fresh) ],
         λ q. in_dead_list k n ∙ elim q [ inl old ↦ in_front v.dead.items names k n (sym (dead_was k n) ∙ old) | inr itself ↦ in_back v.dead.items names k n (tells_in k n itself.1) ],
       )
-      | inr ne ↦ let same = ap (of (λ (v : CoreView). has v.dead.items k n) false) (views.set_other vs m v new at h ne) in (λ t. inl (sym same ∙ t), λ q. elim q [ inl old ↦ same ∙ old | inr itself ↦ absurd (ne itself.0) ])
+      | inr ne ↦ let same = ap (of (λ (v : MemberView). has v.dead.items k n) false) (views.set_other vs m v new at h ne) in (λ t. inl (sym same ∙ t), λ q. elim q [ inl old ↦ same ∙ old | inr itself ↦ absurd (ne itself.0) ])
     ];
   }
 

@@ -11,7 +11,7 @@ use Rattle.group_laws.specs.State as laws
 use Rattle.group_laws.specs.State.{Group}
 use Rattle.group_board.specs.declared.names.Notices.{Notices}
 use Rattle.group_board.specs.Mailing.{notices_of}
-use Rattle.group_machine.specs.declared.state.CoreView.{CoreView}
+use Rattle.group_machine.specs.declared.state.MemberView.{MemberView}
 use Rattle.group_machine.specs.declared.state.GroupState.{GroupState}
 
 -- how pairs of numbers are ordered
@@ -26,15 +26,15 @@ of f d (Some v) = f v
 abbrev pub no_notices : laws.Notices
 no_notices = record { dead = []; gone = [] }
 
-abbrev pub last_in : CoreView → ℕ → ℕ
+abbrev pub last_in : MemberView → ℕ → ℕ
 last_in v k = unwrap_or (get nat_cmp v.last k) 0
 
-abbrev pub mailed_in : CoreView → ℕ → laws.Notices
+abbrev pub mailed_in : MemberView → ℕ → laws.Notices
 mailed_in v b = unwrap_or (option_map notices_of (get nat_cmp v.mailed b)) no_notices
 
 -- the group at this place with this holder, slots, mailboxes and views
 abbrev pub group_at : Place → Option ℕ → BTreeMap (ℕ × ℕ) Slot → BTreeMap (ℕ × ℕ) Notices
-    → List CoreView → Group
+    → List MemberView → Group
 group_at p holder slots mail vs =
     record {
       place = p;
@@ -68,7 +68,7 @@ abbrev pub group_of : GroupState → Group
 group_of g = group_at (place_of g) g.holder g.slots g.mail g.views.items
 
 -- nothing is known, and nothing was done
-pub record IsEmptyView (v : CoreView) : Type 0 where
+pub record IsEmptyView (v : MemberView) : Type 0 where
   pub kept : v.kept.items ≡ []
   pub flying : v.flying.items ≡ []
   pub taken : IsEmpty v.taken

@@ -13,7 +13,7 @@ use Rattle.group_laws.specs.Finishes.{finishes_in, cell_after}
 use Rattle.group_laws.specs.Runs.Kind.{Split as Splits, Join as Joins, Post as Posts, Lock as Locks, Look as Looks, LookMail as Looks_mail, Take as Takes, Unlock as Unlocks, Commit as Commits, Mark as Marks, Finish as Finishes, Fail as Fails, Withdraw as Withdraws, Doom as Dooms, Retire as Retires, Send as Sends, Receive as Receives}
 use Rattle.group_machine.specs.declared.kinds.Kind.{Kind}
 use Rattle.group_machine.specs.declared.kinds.Kind.TheVariants as kinds
-use Rattle.group_machine.specs.declared.kinds.Step.{Step}
+use Rattle.group_machine.specs.declared.kinds.MemberStep.{MemberStep}
 use Rattle.group_machine.specs.declared.kinds.StepError.{StepError}
 use Rattle.group_machine.specs.declared.kinds.StepError.TheVariants as faults
 use Rattle.group_machine.specs.declared.kinds.StepsError.{StepsError}
@@ -46,17 +46,17 @@ IsMade w m (kinds.Send to n) u = IsStep w m (Sends to (notices_of n)) u
 IsMade w m (kinds.Receive from) u = IsStep w m (Receives from) u
 
 -- What a call that tries a step makes of a state: the step, or nothing where it isn't enabled.
-abbrev pub MakesStep : Bool → GroupState → Step → GroupState → Type 0
+abbrev pub MakesStep : Bool → GroupState → MemberStep → GroupState → Type 0
 MakesStep true g s h = IsMade (group_of g) s.member s.kind (group_of h)
 MakesStep false g s h = (h ≡ g) × ((u : Group) → IsMade (group_of g) s.member s.kind u → ⊥)
 
-abbrev pub IsOutcome : GroupState → Step → Result GroupState StepError → Type 0
+abbrev pub IsOutcome : GroupState → MemberStep → Result GroupState StepError → Type 0
 IsOutcome g s (Ok h) = MakesStep true g s h
 IsOutcome g s (Err (faults.NotEnabled h)) = MakesStep false g s h
 IsOutcome g s (Err faults.Memory) = Unit {0}
 
 -- the steps lead from w to u
-abbrev pub AreMade : Group → List Step → Group → Type 0
+abbrev pub AreMade : Group → List MemberStep → Group → Type 0
 AreMade w [] u = u ≡ w
 AreMade w (x ∷ xs) u = (mid : Group) × IsMade w x.member x.kind mid × AreMade mid xs u
 
@@ -102,18 +102,18 @@ step_of w m (kinds.Send to n) u s = s
 step_of w m (kinds.Receive from) u s = s
 
 -- the run of the laws that these steps are
-abbrev pub kinds_of : (w : Group) (steps : List Step) (u : Group) → AreMade w steps u
+abbrev pub kinds_of : (w : Group) (steps : List MemberStep) (u : Group) → AreMade w steps u
     → List (ℕ × runs.Kind)
 kinds_of w [] u r = []
 kinds_of w (x ∷ xs) u r = (x.member, kind_of w x.member x.kind r.0 r.1) ∷ kinds_of r.0 xs u r.2
 
-abbrev pub run_of : (w : Group) (steps : List Step) (u : Group) (r : AreMade w steps u)
+abbrev pub run_of : (w : Group) (steps : List MemberStep) (u : Group) (r : AreMade w steps u)
     → Runs w (kinds_of w steps u r) u
 run_of w [] u r = r
 run_of w (x ∷ xs) u r = (r.0, step_of w x.member x.kind r.0 r.1, run_of r.0 xs u r.2)
 
 -- The steps lead to h. There each key's cell is what its finished changes left, each of them what its key's last post offered, the invariant holds, whatever a crash leaves is safe, and no block serves two values.
-pub record IsReached (g : GroupState) (steps : List Step) (h : GroupState) : Type 0 where
+pub record IsReached (g : GroupState) (steps : List MemberStep) (h : GroupState) : Type 0 where
   pub made : AreMade (group_of g) steps (group_of h)
   pub cells : (k : ℕ) → (group_of h).cell k
       ≡ cell_after k (finishes_in (group_of g) (kinds_of (group_of g) steps (group_of h) made)
@@ -128,9 +128,9 @@ pub record IsReached (g : GroupState) (steps : List Step) (h : GroupState) : Typ
   pub distinct : Distinct (group_of h)
 
 -- what a call that makes all steps answers
-abbrev pub IsRun : GroupState → List Step → Result GroupState StepsError → Type 0
+abbrev pub IsRun : GroupState → List MemberStep → Result GroupState StepsError → Type 0
 IsRun g steps (Ok h) = IsReached g steps h
 IsRun g steps (Err (stops.NotEnabled at h)) = IsReached g (take at steps) h
-    × ((next : Step) × (slice_get steps at ≡ Some next)
+    × ((next : MemberStep) × (slice_get steps at ≡ Some next)
     × ((u : Group) → IsMade (group_of h) next.member next.kind u → ⊥))
 IsRun g steps (Err stops.Memory) = Unit {0}

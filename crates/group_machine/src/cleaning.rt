@@ -14,7 +14,7 @@ ghost use Rattle.group_machine.specs.Deaths.{IsDeadIn, MayTell};
 
 use crate::member_places::owner_of;
 use crate::sets::{entries_but, has_all, has_name, names_but, take_out};
-use crate::state::{CoreView, GroupState};
+use crate::state::{MemberView, GroupState};
 use crate::tables::{has_member, saw};
 use crate::tidy_rules::{is_dead, tidy};
 use fs_model::Memory;
@@ -124,7 +124,7 @@ pub fn retire(
 }
 
 /// Whether the member may tell another that this entry in its log is dead.
-fn may_tell(state: &GroupState, member: u32, view: &CoreView, name: &EntryName, to: u32) -> bool
+fn may_tell(state: &GroupState, member: u32, view: &MemberView, name: &EntryName, to: u32) -> bool
     ensures { IsTrue result ↔ MayTell (place_of state.now) member view.now to name.now.key
         name.now.version }
 {
@@ -143,7 +143,7 @@ fn may_tell(state: &GroupState, member: u32, view: &CoreView, name: &EntryName, 
 fn may_tell_all(
     state: &GroupState,
     member: u32,
-    view: &CoreView,
+    view: &MemberView,
     names: &[EntryName],
     to: u32,
 ) -> bool
@@ -159,7 +159,7 @@ fn may_tell_all(
 }
 
 /// Whether an entry left the own log and is of the other member's keys.
-fn may_report(state: &GroupState, view: &CoreView, name: &EntryName, to: u32) -> bool
+fn may_report(state: &GroupState, view: &MemberView, name: &EntryName, to: u32) -> bool
     ensures { IsTrue result ↔ ((has view.now.leaving.items name.now.key name.now.version ≡ true)
         × (owner (place_of state.now) name.now.key ≡ to)) }
 {
@@ -168,7 +168,7 @@ fn may_report(state: &GroupState, view: &CoreView, name: &EntryName, to: u32) ->
 }
 
 /// Whether these entries left the own log and are of the other member's keys.
-fn may_report_all(state: &GroupState, view: &CoreView, names: &[EntryName], to: u32) -> bool
+fn may_report_all(state: &GroupState, view: &MemberView, names: &[EntryName], to: u32) -> bool
     ensures { IsTrue result ↔ ((k n : ℕ) → has names.now k n ≡ true
         → (has view.now.leaving.items k n ≡ true) × (owner (place_of state.now) k ≡ to)) }
 {

@@ -9,19 +9,19 @@ ghost use Rattle.group_laws.specs.OpeningImages.{IsBlank};
 ghost use Rattle.group_machine.specs.Shows.{group_of, place_of, IsEmptyView};
 
 use crate::member_places::owner_of;
-use crate::state::{CoreView, GroupState};
+use crate::state::{MemberView, GroupState};
 use chunk_map::layouts::Layout;
 use fs_model::Memory;
 use fs_model::model::{Key, Value, Version};
 use std::alloc::Global;
 use std::collections::BTreeMap;
 
-impl CoreView {
+impl MemberView {
     /// The view of a member that did nothing yet, on an empty part. It takes no memory.
-    pub fn empty(alloc: Global) -> CoreView
+    pub fn empty(alloc: Global) -> MemberView
         ensures { IsEmptyView result }
     {
-        CoreView {
+        MemberView {
             kept: Vec::new(alloc),
             flying: Vec::new(alloc),
             taken: BTreeMap::new(alloc),
@@ -45,13 +45,13 @@ impl CoreView {
 }
 
 /// So many views of members that did nothing yet.
-fn empty_views(alloc: Global, count: u32) -> Result<Vec<CoreView>, Memory>
+fn empty_views(alloc: Global, count: u32) -> Result<Vec<MemberView>, Memory>
     ensures count { IfOk result (λ views. length views.items ≡ count) }
     ensures empty { IfOk result (λ views. AllByRecursion IsEmptyView views.items) }
 {
     let mut views = Vec::new(alloc);
     for _ in 0..count {
-        views.push(CoreView::empty(alloc))?;
+        views.push(MemberView::empty(alloc))?;
     }
     Ok(views)
 }

@@ -73,7 +73,7 @@ pub enum Kind {
 
 /// What a member does, and which.
 #[derive(Drop)]
-pub struct Step {
+pub struct MemberStep {
     /// The one whose step it is.
     pub member: u32,
     /// With the data that this kind of step takes.

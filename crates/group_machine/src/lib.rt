@@ -18,6 +18,6 @@ mod state;
 mod tables;
 mod tidy_rules;
 
-pub use kinds::{Kind, Step, StepError, StepsError};
+pub use kinds::{Kind, MemberStep, StepError, StepsError};
 pub use machine::{all_steps, step};
-pub use state::{CoreView, GroupState};
+pub use state::{MemberView, GroupState};

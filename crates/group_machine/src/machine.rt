@@ -9,7 +9,7 @@ ghost use Rattle.group_machine.specs.declared.kinds.Kind.TheVariants as kinds;
 
 use crate::cleaning::{doom, receive, retire, send};
 use crate::finishing::finish;
-use crate::kinds::{Kind, Step, StepError, StepsError};
+use crate::kinds::{Kind, MemberStep, StepError, StepsError};
 use crate::leader_steps::{commit, lock, look_at_mail, look_at_slot, take, unlock};
 use crate::post_step::post;
 use crate::return_steps::{fail, mark, withdraw};
@@ -84,7 +84,7 @@ fn post_change(
 }
 
 /// Makes a step where it is enabled, and says whether it was. Where it was not, the state is as it was.
-fn make(alloc: Global, state: &mut GroupState, step: &Step) -> Result<bool, Memory>
+fn make(alloc: Global, state: &mut GroupState, step: &MemberStep) -> Result<bool, Memory>
     ensures { IfOk result (λ made. MakesStep made state.old step.now state.new) }
 {
     let member = step.member;
@@ -122,7 +122,7 @@ fn make(alloc: Global, state: &mut GroupState, step: &Step) -> Result<bool, Memo
 }
 
 /// Makes one step. Where its condition does not hold, the state comes back as it was.
-pub fn step(alloc: Global, state: GroupState, step: &Step) -> Result<GroupState, StepError>
+pub fn step(alloc: Global, state: GroupState, step: &MemberStep) -> Result<GroupState, StepError>
     ensures { IsOutcome state step.now result }
 {
     let mut state = state;
@@ -137,7 +137,7 @@ pub fn step(alloc: Global, state: GroupState, step: &Step) -> Result<GroupState,
 /// invariant holds: whatever a crash leaves of it recovers each key's cell or the one that its posted change
 /// leaves, and no block serves two values. Each cell is what the finished changes of its key left, in order, and each
 /// of these left what its key's last post offered.
-pub fn all_steps(alloc: Global, state: GroupState, steps: &[Step]) -> Result<GroupState, StepsError>
+pub fn all_steps(alloc: Global, state: GroupState, steps: &[MemberStep]) -> Result<GroupState, StepsError>
     requires { Lawful (group_of state) }
     ensures { IsRun state steps.now result }
 {

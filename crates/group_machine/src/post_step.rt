@@ -16,7 +16,7 @@ ghost use Rattle.group_machine.specs.Makes.{Makes};
 
 use crate::copies::copy_entry;
 use crate::member_places::{is_apart, lies_in, owner_of, units_of};
-use crate::state::{CoreView, GroupState};
+use crate::state::{MemberView, GroupState};
 use crate::tables::has_member;
 use chunk_map::layout_sizes::{LONGEST_VALUE, SHORTEST_IN_BLOCK};
 use fs_model::Memory;
@@ -68,7 +68,7 @@ fn is_empty(state: &GroupState, member: u32, slot: u32) -> bool
 }
 
 /// Whether the key has no change under way, and the entry's version is its next one.
-fn is_next(view: &CoreView, entry: &Entry) -> bool
+fn is_next(view: &MemberView, entry: &Entry) -> bool
     ensures { IsTrue result ↔ ((get nat_cmp view.now.pending entry.now.key ≡ None)
         × (entry.now.version ≡ last_in view.now entry.now.key + 1)) }
 {
@@ -77,7 +77,7 @@ fn is_next(view: &CoreView, entry: &Entry) -> bool
 }
 
 /// Whether a delete has something to delete.
-fn is_useful(view: &CoreView, entry: &Entry) -> bool
+fn is_useful(view: &MemberView, entry: &Entry) -> bool
     ensures { IsTrue result ↔ (entry.now.body ≡ Tombstone → get nat_cmp view.now.cell entry.now.key
         ≢ None) }
 {

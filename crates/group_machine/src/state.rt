@@ -10,7 +10,7 @@ use std::collections::BTreeMap;
 
 /// What one member of a group knows and promised.
 #[derive(Drop)]
-pub struct CoreView {
+pub struct MemberView {
     /// The entries that are certain in the own log.
     pub kept: Vec<Entry>,
     /// Those that were taken and not committed.
@@ -64,6 +64,6 @@ pub struct GroupState {
     /// The full mailboxes by sender and receiver.
     pub mail: BTreeMap<(u32, u32), Notices>,
     /// The views by member, one for each.
-    pub views: Vec<CoreView>,
+    pub views: Vec<MemberView>,
     ghost whole: { length views.items ≡ layout.group },
 }

@@ -11,7 +11,7 @@ ghost use Rattle.group_machine.specs.Shows.{group_of, place_of, pair_cmp, last_i
 ghost use Rattle.group_machine.specs.Deaths.{IsDeadIn, IsSpentIn, MustTell};
 
 use crate::member_places::owner_of;
-use crate::state::{CoreView, GroupState};
+use crate::state::{MemberView, GroupState};
 use fs_model::Memory;
 use fs_model::model::{Key, Version};
 use log_entry::entry::EntryName;
@@ -52,7 +52,7 @@ fn stands_nowhere(present: &BTreeMap<(Key, Version), u32>, key: Key) -> bool
 
 /// Whether an entry that stands is dead as the owner's view has it: a later change is finished, or it is the
 /// tombstone of a deleted key and no other entry of the key stands.
-pub fn is_dead(view: &CoreView, key: Key, version: Version) -> bool
+pub fn is_dead(view: &MemberView, key: Key, version: Version) -> bool
     ensures { IsTrue result ↔ IsDeadIn view.now key version }
 {
     let last = view.last.get(&key).copied().unwrap_or(0);
@@ -63,7 +63,7 @@ pub fn is_dead(view: &CoreView, key: Key, version: Version) -> bool
 }
 
 /// Whether a key is deleted, nothing of it stands in a log, and no change of it is under way.
-fn is_spent(view: &CoreView, key: Key) -> bool
+fn is_spent(view: &MemberView, key: Key) -> bool
     ensures { IsTrue result ↔ IsSpentIn view.now key }
 {
     !view.cell.contains_key(&key)
@@ -72,7 +72,7 @@ fn is_spent(view: &CoreView, key: Key) -> bool
 }
 
 /// Adds a key to a list where it is spent.
-fn add_spent(keys: &mut Vec<Key>, view: &CoreView, key: Key) -> Result<(), Memory>
+fn add_spent(keys: &mut Vec<Key>, view: &MemberView, key: Key) -> Result<(), Memory>
     ensures { OnOk result ((k : ℕ) → In k keys.new.items ↔ (In k keys.old.items
         ⊎ ((k ≡ key) × IsSpentIn view.now k))) }
 {
@@ -83,7 +83,7 @@ fn add_spent(keys: &mut Vec<Key>, view: &CoreView, key: Key) -> Result<(), Memor
 }
 
 /// The keys with a last version of which nothing is left.
-fn spent_keys(alloc: Global, view: &CoreView) -> Result<Vec<Key>, Memory>
+fn spent_keys(alloc: Global, view: &MemberView) -> Result<Vec<Key>, Memory>
     ensures only { IfOk result (λ keys. (k : ℕ) → In k keys.items → IsSpentIn view.now k) }
     ensures all { IfOk result (λ keys. (k v : ℕ) → get nat_cmp view.now.last k ≡ Some v
         → IsSpentIn view.now k → In k keys.items) }
@@ -100,7 +100,7 @@ fn add_untold(
     names: &mut Vec<EntryName>,
     state: &GroupState,
     member: u32,
-    view: &CoreView,
+    view: &MemberView,
     name: EntryName,
     home: u32,
 ) -> Result<(), Memory>
@@ -123,7 +123,7 @@ fn names_to_tell(
     alloc: Global,
     state: &GroupState,
     member: u32,
-    view: &CoreView,
+    view: &MemberView,
 ) -> Result<Vec<EntryName>, Memory>
     ensures { IfOk result (λ names. (k n : ℕ) → (has names.items k n ≡ true)
         ↔ MustTell (place_of state.now) member view.now k n) }

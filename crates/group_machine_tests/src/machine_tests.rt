@@ -1,12 +1,12 @@
 use chunk_map::Layout;
 use fs_model::Value;
 use group_board::{Change, Names, Notices};
-use group_machine::{GroupState, Kind, Step, StepsError, all_steps, step};
+use group_machine::{GroupState, Kind, MemberStep, StepsError, all_steps, step};
 use log_entry::{Body, Entry, EntryName};
 use std::test::Fail;
 
-fn add(steps: &mut Vec<Step>, member: u32, kind: Kind) -> Result<(), Fail> {
-    steps.push(Step { member, kind })?;
+fn add(steps: &mut Vec<MemberStep>, member: u32, kind: Kind) -> Result<(), Fail> {
+    steps.push(MemberStep { member, kind })?;
     Ok(())
 }
 
@@ -89,18 +89,18 @@ fn where_stopped(outcome: Result<GroupState, StepsError>) -> Option<Stop> {
 }
 
 /// The leader looks at slot 0 of a member, whose word this is, and takes what it offers.
-fn add_take(steps: &mut Vec<Step>, leader: u32, member: u32, word: u64) -> Result<(), Fail> {
+fn add_take(steps: &mut Vec<MemberStep>, leader: u32, member: u32, word: u64) -> Result<(), Fail> {
     add(steps, leader, Kind::Look { word })?;
     add(steps, leader, Kind::Take { member, slot: 0 })
 }
 
-fn add_finish(steps: &mut Vec<Step>, member: u32, word: u64) -> Result<(), Fail> {
+fn add_finish(steps: &mut Vec<MemberStep>, member: u32, word: u64) -> Result<(), Fail> {
     add(steps, member, Kind::Look { word })?;
     add(steps, member, Kind::Finish { slot: 0 })
 }
 
 /// Three cores post, and core 0 takes all three changes.
-fn add_batch(rt: &HostRuntime, steps: &mut Vec<Step>) -> Result<(), Fail> {
+fn add_batch(rt: &HostRuntime, steps: &mut Vec<MemberStep>) -> Result<(), Fail> {
     add(steps, 0, put(rt, 0, 1, b'a')?)?;
     add(steps, 1, put(rt, 1, 1, b'b')?)?;
     add(steps, 2, put(rt, 2, 1, b'c')?)?;
@@ -156,7 +156,7 @@ fn a_mark_before_the_commit(rt: HostRuntime) -> Result<(), Fail> {
 }
 
 /// The leader takes the change of a member and gives the lock back. The word is that of the member's slot 0.
-fn add_lead(steps: &mut Vec<Step>, leader: u32, member: u32, word: u64) -> Result<(), Fail> {
+fn add_lead(steps: &mut Vec<MemberStep>, leader: u32, member: u32, word: u64) -> Result<(), Fail> {
     add(steps, leader, Kind::Lock)?;
     add_take(steps, leader, member, word)?;
     add(steps, leader, Kind::Unlock)
@@ -164,7 +164,7 @@ fn add_lead(steps: &mut Vec<Step>, leader: u32, member: u32, word: u64) -> Resul
 
 /// A change of a member from its post to its finish.
 fn add_change(
-    steps: &mut Vec<Step>,
+    steps: &mut Vec<MemberStep>,
     leader: u32,
     member: u32,
     word: u64,
@@ -179,7 +179,7 @@ fn add_change(
 
 fn add_clean(
     rt: &HostRuntime,
-    steps: &mut Vec<Step>,
+    steps: &mut Vec<MemberStep>,
     member: u32,
     key: u64,
     version: u32,
@@ -191,7 +191,7 @@ fn add_clean(
 }
 
 /// Of one core, key 1 put and deleted.
-fn add_put_and_delete(rt: &HostRuntime, steps: &mut Vec<Step>) -> Result<(), Fail> {
+fn add_put_and_delete(rt: &HostRuntime, steps: &mut Vec<MemberStep>) -> Result<(), Fail> {
     add_change(steps, 0, 0, 2, put(rt, 1, 1, b'x')?)?;
     add_change(steps, 0, 0, 2, posted(rt, 1, 2, Body::Tombstone))
 }
@@ -236,7 +236,7 @@ fn nothing_told(rt: &HostRuntime) -> Result<Notices, Fail> {
 
 /// One member tells another; the word is that of the mailbox between them.
 fn add_send(
-    steps: &mut Vec<Step>,
+    steps: &mut Vec<MemberStep>,
     from: u32,
     to: u32,
     word: u64,
@@ -246,7 +246,7 @@ fn add_send(
     add(steps, from, Kind::Send { to, notices })
 }
 
-fn add_receive(steps: &mut Vec<Step>, from: u32, to: u32, word: u64) -> Result<(), Fail> {
+fn add_receive(steps: &mut Vec<MemberStep>, from: u32, to: u32, word: u64) -> Result<(), Fail> {
     add(steps, to, Kind::Look { word })?;
     add(steps, to, Kind::Receive { from })
 }
@@ -310,7 +310,7 @@ fn a_mailbox_in_each_direction(rt: HostRuntime) -> Result<(), Fail> {
 }
 
 /// Core 1 of three posts a value with a block, takes it back, and puts it again.
-fn add_first_change(rt: &HostRuntime, steps: &mut Vec<Step>) -> Result<(), Fail> {
+fn add_first_change(rt: &HostRuntime, steps: &mut Vec<MemberStep>) -> Result<(), Fail> {
     add(steps, 1, Kind::Split)?;
     add(steps, 1, Kind::Join)?;
     add(steps, 1, put_long(rt, 1)?)?;
@@ -322,7 +322,7 @@ fn add_first_change(rt: &HostRuntime, steps: &mut Vec<Step>) -> Result<(), Fail>
 }
 
 /// It puts a short value over it, cleans its log, hears of core 2 and tells core 0, and cannot write its third change.
-fn add_later_steps(rt: &HostRuntime, steps: &mut Vec<Step>) -> Result<(), Fail> {
+fn add_later_steps(rt: &HostRuntime, steps: &mut Vec<MemberStep>) -> Result<(), Fail> {
     add_change(steps, 1, 1, 12, put(rt, 1, 2, b'y')?)?;
     add_clean(rt, steps, 1, 1, 1)?;
     add_send(steps, 2, 1, 35, nothing_told(rt)?)?;
@@ -335,7 +335,7 @@ fn add_later_steps(rt: &HostRuntime, steps: &mut Vec<Step>) -> Result<(), Fail> 
 }
 
 /// The state after these steps, each made by a call of its own.
-fn after_each(rt: &HostRuntime, state: GroupState, steps: &[Step]) -> Option<GroupState> {
+fn after_each(rt: &HostRuntime, state: GroupState, steps: &[MemberStep]) -> Option<GroupState> {
     let mut state = state;
     for next in steps {
         match step(rt.alloc(), state, next) {
@@ -399,7 +399,7 @@ fn a_change_comes_back(rt: HostRuntime) -> Result<(), Fail> {
 fn one_step(rt: HostRuntime) -> Result<(), Fail> {
     let layout = Layout::new(2, 1, 4, 4096)?;
     let state = GroupState::empty(rt.alloc(), &layout, 1)?;
-    let first = Step {
+    let first = MemberStep {
         member: 0,
         kind: put(&rt, 3, 1, b'z')?,
     };

@@ -25,9 +25,9 @@ const ROUNDS: u32 = 1000;
 const MOST_LOADS: u64 = 1_000_000_000;
 
 /// Two cores of one group on an empty region.
-struct Pair;
+struct TwoCores;
 
-impl Opening for Pair {
+impl Opening for TwoCores {
     ghost words = { pair_words };
 
     ghost bytes = { 36864 };
@@ -402,7 +402,7 @@ fn both<R: Threads + Sync>(
 
 #[test]
 fn two_threads_post_and_one_takes_both(rt: HostRuntime) -> Result<(), Fail> {
-    let mut table = GroupTable::open::<Pair>(rt.alloc(), 2)?;
+    let mut table = GroupTable::open::<TwoCores>(rt.alloc(), 2)?;
     let tokens = table.seats(rt.alloc())?;
     let puts = (put(&rt, 0)?, put(&rt, 1)?);
     let Some(tokens) = two_of(tokens) else {

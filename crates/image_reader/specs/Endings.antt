@@ -6,7 +6,7 @@ use Rattle.fs_text.specs.Streams.{Gives, IsAtEnd, Takes, TakesPrefix}
 use Rattle.fs_text.specs.Output.{pairs_text}
 use Rattle.image_reader.specs.declared.ending.Ending.{Ending}
 use Rattle.image_reader.specs.declared.ending.Ending.TheVariants.{Shown, SourceFault, SinkFault, Faulty, Memory}
-use Rattle.image_reader.specs.declared.image_reading.Found.TheVariants as images
+use Rattle.image_reader.specs.declared.image_reading.ImageContents.TheVariants as images
 use Rattle.image_reader.specs.Shown.{ShowsBytes}
 
 abbrev pub exit_code : Ending → ℕ

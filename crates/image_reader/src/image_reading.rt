@@ -13,7 +13,7 @@ use store_image::Fault;
 
 /// What an image says.
 #[derive(Drop)]
-pub enum Found {
+pub enum ImageContents {
     /// It is not sound, and this is the first rule that it breaks.
     Faulty(Fault),
     /// It is sound, and these are its live pairs by rising key.
@@ -21,22 +21,22 @@ pub enum Found {
 }
 
 // What an image of these words says, where there are as many as the length asks.
-fn read_words(alloc: Global, words: &[u64], bytes: u64) -> Result<Found, Memory>
+fn read_words(alloc: Global, words: &[u64], bytes: u64) -> Result<ImageContents, Memory>
     requires { bytes % 8 ≡ 0 → SUPERBLOCK_BYTES ≤ bytes → bytes ≤ MOST_BYTES
         → length words.now ≡ bytes / 8 }
     ensures { IfOk result (λ found. ShowsWords found bytes (λ w. slice_index words.now w)) }
 {
     match read_layout(words, bytes) {
-        Err(rule) => Ok(Found::Faulty(Fault::NotARegion { rule })),
+        Err(rule) => Ok(ImageContents::Faulty(Fault::NotARegion { rule })),
         Ok(_) => match first_fault(alloc, words, bytes)? {
-            Some(fault) => Ok(Found::Faulty(fault)),
-            None => Ok(Found::Sound(recovered_cells(alloc, words)?)),
+            Some(fault) => Ok(ImageContents::Faulty(fault)),
+            None => Ok(ImageContents::Sound(recovered_cells(alloc, words)?)),
         },
     }
 }
 
 /// What the bytes of a region say: the first rule of soundness that they break, or the live pairs.
-pub fn read_image(alloc: Global, bytes: &[u8]) -> Result<Found, Memory>
+pub fn read_image(alloc: Global, bytes: &[u8]) -> Result<ImageContents, Memory>
     ensures { IfOk result (λ found. ShowsBytes found bytes.now) }
 {
     let words = words_of(alloc, bytes)?;

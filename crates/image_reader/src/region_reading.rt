@@ -5,7 +5,7 @@ ghost use Rattle.image_reader.specs.declared.ending.Ending.TheVariants as ending
 ghost use Rattle.image_reader.specs.Endings.{Tells};
 
 use crate::ending::Ending;
-use crate::image_reading::{Found, read_image};
+use crate::image_reading::{ImageContents, read_image};
 use fs_text::{OutError, ReadError, Sink, Source, read_all, write_pairs};
 use pm_region::MOST_BYTES;
 use std::alloc::Global;
@@ -27,8 +27,8 @@ pub fn read_region<S: Source, O: Sink>(alloc: Global, source: &mut S, sink: &mut
     };
     match read_image(alloc, &bytes) {
         Err(_) => Ending::Memory,
-        Ok(Found::Faulty(fault)) => Ending::Faulty(fault),
-        Ok(Found::Sound(pairs)) => match write_pairs(alloc, sink, &pairs) {
+        Ok(ImageContents::Faulty(fault)) => Ending::Faulty(fault),
+        Ok(ImageContents::Sound(pairs)) => match write_pairs(alloc, sink, &pairs) {
             Ok(()) => Ending::Shown,
             Err(OutError::SinkFault) => Ending::SinkFault,
             Err(OutError::Memory) => Ending::Memory,

@@ -85,7 +85,7 @@ enum Call {
 
 // What it answers: of a change, the block of the value before.
 #[derive(Clone, Copy, Debug, PartialEq, Eq)]
-enum Answer {
+enum CallAnswer {
     Nothing,
     Unknown,
     Deleted,
@@ -97,12 +97,12 @@ enum Answer {
     Forgotten,
 }
 
-fn look(index: &CoreIndex, key: Key) -> Answer {
+fn look(index: &CoreIndex, key: Key) -> CallAnswer {
     match index.look(key) {
-        Look::Unknown => Answer::Unknown,
-        Look::Deleted => Answer::Deleted,
-        Look::Embedded(_) => Answer::Embedded,
-        Look::Block(pointer) => Answer::Block(pointer),
+        Look::Unknown => CallAnswer::Unknown,
+        Look::Deleted => CallAnswer::Deleted,
+        Look::Embedded(_) => CallAnswer::Embedded,
+        Look::Block(pointer) => CallAnswer::Block(pointer),
     }
 }
 
@@ -113,10 +113,10 @@ fn has_value(index: &CoreIndex, key: Key, bytes: &[u8]) -> bool {
     }
 }
 
-fn next(index: &CoreIndex, key: Key) -> Answer {
+fn next(index: &CoreIndex, key: Key) -> CallAnswer {
     match index.next_version(key, false) {
-        Ok(version) => Answer::Version(version),
-        Err(spent) => Answer::Spent(spent.last),
+        Ok(version) => CallAnswer::Version(version),
+        Err(spent) => CallAnswer::Spent(spent.last),
     }
 }
 
@@ -126,36 +126,36 @@ fn changed(
     key: Key,
     body: Body,
     home: u32,
-) -> Result<Answer, Fail> {
+) -> Result<CallAnswer, Fail> {
     match change(alloc, index, key, body, home)? {
-        Some(pointer) => Ok(Answer::Block(pointer)),
-        None => Ok(Answer::Nothing),
+        Some(pointer) => Ok(CallAnswer::Block(pointer)),
+        None => Ok(CallAnswer::Nothing),
     }
 }
 
-fn notice(index: &mut CoreIndex, home: u32) -> Answer {
+fn notice(index: &mut CoreIndex, home: u32) -> CallAnswer {
     match index.next_notice(home) {
-        Some(name) => Answer::Name(name.key, name.version),
-        None => Answer::Nothing,
+        Some(name) => CallAnswer::Name(name.key, name.version),
+        None => CallAnswer::Nothing,
     }
 }
 
-fn gone(index: &mut CoreIndex, name: EntryName) -> Answer {
+fn gone(index: &mut CoreIndex, name: EntryName) -> CallAnswer {
     index.gone(name);
-    Answer::Nothing
+    CallAnswer::Nothing
 }
 
 // Forgets the key where that may be.
-fn forget(index: &mut CoreIndex, key: Key) -> Answer {
+fn forget(index: &mut CoreIndex, key: Key) -> CallAnswer {
     if index.forgettable(key) {
         index.forget(key);
-        Answer::Forgotten
+        CallAnswer::Forgotten
     } else {
-        Answer::Nothing
+        CallAnswer::Nothing
     }
 }
 
-fn make(alloc: Global, index: &mut CoreIndex, call: Call) -> Result<Answer, Fail> {
+fn make(alloc: Global, index: &mut CoreIndex, call: Call) -> Result<CallAnswer, Fail> {
     match call {
         Call::Look(key) => Ok(look(index, key)),
         Call::Next(key) => Ok(next(index, key)),
@@ -171,8 +171,8 @@ fn make(alloc: Global, index: &mut CoreIndex, call: Call) -> Result<Answer, Fail
 fn first_other(
     alloc: Global,
     index: &mut CoreIndex,
-    calls: &[(Call, Answer)],
-) -> Result<Option<(usize, Answer)>, Fail> {
+    calls: &[(Call, CallAnswer)],
+) -> Result<Option<(usize, CallAnswer)>, Fail> {
     for (place, (call, expected)) in calls.iter().enumerate() {
         let found = make(alloc, index, *call)?;
         if found != *expected {
@@ -187,14 +187,14 @@ fn are_live(alloc: Global, index: &CoreIndex, names: &[EntryName]) -> Result<boo
     Ok(live.as_slice() == names)
 }
 
-const AS_THE_RECORDS_SAY: [(Call, Answer); 7] = [
-    (Call::Look(7), Answer::Embedded),
-    (Call::Look(5), Answer::Deleted),
-    (Call::Look(9), Answer::Block(17)),
-    (Call::Look(1), Answer::Unknown),
-    (Call::Next(7), Answer::Version(4)),
-    (Call::Next(1), Answer::Version(1)),
-    (Call::Next(9), Answer::Spent(1_048_574)),
+const AS_THE_RECORDS_SAY: [(Call, CallAnswer); 7] = [
+    (Call::Look(7), CallAnswer::Embedded),
+    (Call::Look(5), CallAnswer::Deleted),
+    (Call::Look(9), CallAnswer::Block(17)),
+    (Call::Look(1), CallAnswer::Unknown),
+    (Call::Next(7), CallAnswer::Version(4)),
+    (Call::Next(1), CallAnswer::Version(1)),
+    (Call::Next(9), CallAnswer::Spent(1_048_574)),
 ];
 
 #[test]
@@ -210,24 +210,24 @@ fn as_the_records_say(rt: HostRuntime) -> Result<(), Fail> {
 
 // Version 3 of key 7 dies by the next change, and the next but one gives back the block of the next. The delete is told
 // only when no other entry of its key stands.
-const DEATHS: [(Call, Answer); 17] = [
-    (Call::Notice(0), Answer::Nothing),
-    (Call::Notice(1), Answer::Name(7, 2)),
-    (Call::Notice(1), Answer::Nothing),
-    (Call::Put(7, 33, 9), Answer::Nothing),
-    (Call::Look(7), Answer::Block(33)),
-    (Call::Notice(0), Answer::Name(7, 3)),
-    (Call::Notice(0), Answer::Nothing),
-    (Call::Delete(7, 1), Answer::Block(33)),
-    (Call::Look(7), Answer::Deleted),
-    (Call::Notice(9), Answer::Name(7, 4)),
-    (Call::Notice(1), Answer::Nothing),
-    (Call::Gone(7, 2), Answer::Nothing),
-    (Call::Gone(7, 4), Answer::Nothing),
-    (Call::Notice(1), Answer::Nothing),
-    (Call::Gone(7, 3), Answer::Nothing),
-    (Call::Notice(1), Answer::Name(7, 5)),
-    (Call::Notice(1), Answer::Nothing),
+const DEATHS: [(Call, CallAnswer); 17] = [
+    (Call::Notice(0), CallAnswer::Nothing),
+    (Call::Notice(1), CallAnswer::Name(7, 2)),
+    (Call::Notice(1), CallAnswer::Nothing),
+    (Call::Put(7, 33, 9), CallAnswer::Nothing),
+    (Call::Look(7), CallAnswer::Block(33)),
+    (Call::Notice(0), CallAnswer::Name(7, 3)),
+    (Call::Notice(0), CallAnswer::Nothing),
+    (Call::Delete(7, 1), CallAnswer::Block(33)),
+    (Call::Look(7), CallAnswer::Deleted),
+    (Call::Notice(9), CallAnswer::Name(7, 4)),
+    (Call::Notice(1), CallAnswer::Nothing),
+    (Call::Gone(7, 2), CallAnswer::Nothing),
+    (Call::Gone(7, 4), CallAnswer::Nothing),
+    (Call::Notice(1), CallAnswer::Nothing),
+    (Call::Gone(7, 3), CallAnswer::Nothing),
+    (Call::Notice(1), CallAnswer::Name(7, 5)),
+    (Call::Notice(1), CallAnswer::Nothing),
 ];
 
 #[test]
@@ -238,15 +238,15 @@ fn each_death_is_told_once(rt: HostRuntime) -> Result<(), Fail> {
     Ok(())
 }
 
-const FORGOTTEN: [(Call, Answer); 8] = [
-    (Call::Notice(2), Answer::Name(5, 4)),
-    (Call::Forget(5), Answer::Nothing),
-    (Call::Gone(5, 4), Answer::Nothing),
-    (Call::Forget(1), Answer::Nothing),
-    (Call::Forget(5), Answer::Forgotten),
-    (Call::Look(5), Answer::Unknown),
-    (Call::Put(5, 1, 2), Answer::Nothing),
-    (Call::Next(5), Answer::Version(2)),
+const FORGOTTEN: [(Call, CallAnswer); 8] = [
+    (Call::Notice(2), CallAnswer::Name(5, 4)),
+    (Call::Forget(5), CallAnswer::Nothing),
+    (Call::Gone(5, 4), CallAnswer::Nothing),
+    (Call::Forget(1), CallAnswer::Nothing),
+    (Call::Forget(5), CallAnswer::Forgotten),
+    (Call::Look(5), CallAnswer::Unknown),
+    (Call::Put(5, 1, 2), CallAnswer::Nothing),
+    (Call::Next(5), CallAnswer::Version(2)),
 ];
 
 #[test]
@@ -295,12 +295,12 @@ fn enter_value(
     enter(alloc, index, key, version, &Body::Embedded(value), home)
 }
 
-const DELETED: [(Call, Answer); 5] = [
-    (Call::Look(3), Answer::Deleted),
-    (Call::Look(4), Answer::Unknown),
-    (Call::Look(6), Answer::Block(17)),
-    (Call::Next(8), Answer::Version(7)),
-    (Call::Forget(3), Answer::Nothing),
+const DELETED: [(Call, CallAnswer); 5] = [
+    (Call::Look(3), CallAnswer::Deleted),
+    (Call::Look(4), CallAnswer::Unknown),
+    (Call::Look(6), CallAnswer::Block(17)),
+    (Call::Next(8), CallAnswer::Version(7)),
+    (Call::Forget(3), CallAnswer::Nothing),
 ];
 
 #[test]
@@ -314,19 +314,19 @@ fn deleted_keys_are_known(rt: HostRuntime) -> Result<(), Fail> {
 }
 
 // Key 3 is changed before its home is asked, and waits all the same.
-const DELETES_OF_THE_START: [(Call, Answer); 12] = [
-    (Call::Notice(9), Answer::Nothing),
-    (Call::Notice(2), Answer::Name(5, 4)),
-    (Call::Notice(2), Answer::Nothing),
-    (Call::Put(3, 1, 1), Answer::Nothing),
-    (Call::Notice(1), Answer::Name(3, 2)),
-    (Call::Gone(8, 6), Answer::Nothing),
-    (Call::Notice(1), Answer::Nothing),
-    (Call::Forget(8), Answer::Forgotten),
-    (Call::Look(8), Answer::Unknown),
-    (Call::Gone(5, 4), Answer::Nothing),
-    (Call::Put(5, 2, 2), Answer::Nothing),
-    (Call::Notice(2), Answer::Nothing),
+const DELETES_OF_THE_START: [(Call, CallAnswer); 12] = [
+    (Call::Notice(9), CallAnswer::Nothing),
+    (Call::Notice(2), CallAnswer::Name(5, 4)),
+    (Call::Notice(2), CallAnswer::Nothing),
+    (Call::Put(3, 1, 1), CallAnswer::Nothing),
+    (Call::Notice(1), CallAnswer::Name(3, 2)),
+    (Call::Gone(8, 6), CallAnswer::Nothing),
+    (Call::Notice(1), CallAnswer::Nothing),
+    (Call::Forget(8), CallAnswer::Forgotten),
+    (Call::Look(8), CallAnswer::Unknown),
+    (Call::Gone(5, 4), CallAnswer::Nothing),
+    (Call::Put(5, 2, 2), CallAnswer::Nothing),
+    (Call::Notice(2), CallAnswer::Nothing),
 ];
 
 #[test]
@@ -350,19 +350,19 @@ fn with_values(alloc: Global) -> Result<CoreIndex, Fail> {
     Ok(index)
 }
 
-const CHANGES: [(Call, Answer); 5] = [
-    (Call::Look(9), Answer::Embedded),
-    (Call::Next(9), Answer::Version(6)),
-    (Call::Put(9, 33, 1), Answer::Nothing),
-    (Call::Delete(6, 1), Answer::Block(17)),
-    (Call::Gone(11, 2), Answer::Nothing),
+const CHANGES: [(Call, CallAnswer); 5] = [
+    (Call::Look(9), CallAnswer::Embedded),
+    (Call::Next(9), CallAnswer::Version(6)),
+    (Call::Put(9, 33, 1), CallAnswer::Nothing),
+    (Call::Delete(6, 1), CallAnswer::Block(17)),
+    (Call::Gone(11, 2), CallAnswer::Nothing),
 ];
 
-const TOLD_THEN: [(Call, Answer); 4] = [
-    (Call::Notice(2), Answer::Name(9, 5)),
-    (Call::Notice(2), Answer::Name(5, 4)),
-    (Call::Notice(2), Answer::Nothing),
-    (Call::Notice(0), Answer::Name(6, 1)),
+const TOLD_THEN: [(Call, CallAnswer); 4] = [
+    (Call::Notice(2), CallAnswer::Name(9, 5)),
+    (Call::Notice(2), CallAnswer::Name(5, 4)),
+    (Call::Notice(2), CallAnswer::Nothing),
+    (Call::Notice(0), CallAnswer::Name(6, 1)),
 ];
 
 #[test]
@@ -391,7 +391,7 @@ fn room_is_given_back(rt: HostRuntime) -> Result<(), Fail> {
         index.give_back(key);
         assert_eq!(rt; index.room(key), 0);
     }
-    assert_eq!(rt; look(&index, 6), Answer::Unknown);
+    assert_eq!(rt; look(&index, 6), CallAnswer::Unknown);
     assert!(rt; has_value(&index, 7, b"abc"));
     Ok(())
 }

@@ -7,7 +7,7 @@ use std::test::*;
 
 // How many were stored, found, absent and deleted.
 #[derive(Clone, Copy)]
-struct Counts {
+struct AnswerCounts {
     stored: u64,
     value: u64,
     absent: u64,
@@ -15,7 +15,7 @@ struct Counts {
 }
 
 // Plays a request on the lengths of the values that there are, by key, and counts its answer.
-fn play(lengths: &mut Vec<Option<usize>>, counts: &mut Counts, request: Request) {
+fn play(lengths: &mut Vec<Option<usize>>, counts: &mut AnswerCounts, request: Request) {
     let Some(length) = lengths.get_mut(request.key() as usize) else {
         return;
     };
@@ -36,11 +36,11 @@ fn play(lengths: &mut Vec<Option<usize>>, counts: &mut Counts, request: Request)
 }
 
 // What a load on an empty store leaves: the lengths of the values, by key, and what was answered.
-fn played(alloc: Global, start: u64, count: u64) -> Result<(Vec<Option<usize>>, Counts), Memory>
+fn played(alloc: Global, start: u64, count: u64) -> Result<(Vec<Option<usize>>, AnswerCounts), Memory>
     requires { count < 2 ^ 63 }
 {
     let mut lengths = Vec::from_elem(alloc, None, 10_000)?;
-    let mut counts = Counts {
+    let mut counts = AnswerCounts {
         stored: 0,
         value: 0,
         absent: 0,

@@ -2,7 +2,7 @@
 use Rattle.std.proofs.Common.{◌≡◌, ℕ, suc, ◌+◌, ◌^◌, ◌<◌, ◌≤◌, List, [], ◌∷◌, ◌++◌, length, length-append, map, Bool, true, false, Ok, Err, refl, sym, ◌∙◌, ap, subst, append-nil, append_assoc, arith}
 use Rattle.fs_model.specs.declared.model.Reply.{Reply}
 use Rattle.fs_model.specs.declared.model.Request.{Request}
-use Rattle.fs_text.specs.declared.line.Tally.{Tally}
+use Rattle.fs_text.specs.declared.line.LoadTally.{LoadTally}
 use Rattle.pm_region.specs.State.{State}
 use Rattle.pm_region.specs.Split.{Refuses}
 use Rattle.pm_region.specs.declared.split.AttachError.{AttachError}
@@ -41,7 +41,7 @@ pub map_both : {X Y : Type 0} (f : X → Y) (xs ys : List X) → map f (xs ++ ys
 map_both f [] ys = refl
 map_both f (x ∷ xs) ys = ap (λ l. f x ∷ l) (map_both f xs ys)
 
-module _ {T : Type 0} (tally : T → Tally) where
+module _ {T : Type 0} (tally : T → LoadTally) where
   abbrev pub counting : State → T → List Reply → Bool → State → T → Type 0
   counting s old rs heard t new = (t ≡ s) × CountsMore (tally old) rs heard (tally new)
 

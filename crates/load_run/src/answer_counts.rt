@@ -6,11 +6,11 @@ ghost use Rattle.load_tally.specs.Tallied.{IsWithin, tally_of};
 
 use engine_core::types::Stamped;
 use fs_model::Reply;
-use fs_text::Tally;
+use fs_text::LoadTally;
 use load_tally::add_reply;
 
 // Counts an answer. A request without one is stopped.
-fn add_answer(tally: &mut Tally, answer: &Option<Stamped>)
+fn add_answer(tally: &mut LoadTally, answer: &Option<Stamped>)
     requires within { IsWithin tally.old }
     requires room { tally.old.requests + 1 < 2 ^ 64 }
     ensures counts { (rs : List replies.Reply) → tally.old ≡ tally_of rs []
@@ -25,7 +25,7 @@ fn add_answer(tally: &mut Tally, answer: &Option<Stamped>)
 }
 
 /// Counts the next answers, behind those that were counted.
-pub fn add_answers(tally: &mut Tally, answers: &[Option<Stamped>])
+pub fn add_answers(tally: &mut LoadTally, answers: &[Option<Stamped>])
     requires within { IsWithin tally.old }
     requires room { tally.old.requests + length answers.now < 2 ^ 64 }
     ensures counts { (rs : List replies.Reply) → tally.old ≡ tally_of rs []

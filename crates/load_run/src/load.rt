@@ -11,7 +11,7 @@ use crate::made_requests::LoadRequests;
 use crate::tally_outlet::TallyOutlet;
 use core_worker::Gate;
 use engine_core::run_outcome::Outcome;
-use fs_text::Tally;
+use fs_text::LoadTally;
 use pm_region::{AttachError, ReadRegion, SplitRegion};
 use recover::Recovered;
 use std::alloc::Global;
@@ -28,7 +28,7 @@ pub struct LoadRun {
     pub outcome: Outcome,
     /// Of their replies. Where memory ran out in a window, it has not those of that window and of what was to come
     /// behind it. Of live pairs it has none.
-    pub tally: Tally,
+    pub tally: LoadTally,
 }
 
 /// Runs so many requests of a load that begins at `start`: they are made and dealt window by window, and the replies of

@@ -5,7 +5,7 @@ ghost use Rattle.load_run.specs.Counted.{CountsMore};
 
 use crate::answer_counts::add_answers;
 use engine_core::types::Stamped;
-use fs_text::Tally;
+use fs_text::LoadTally;
 use load_tally::nothing;
 use pm_region::SplitRegion;
 use std::alloc::Global;
@@ -15,7 +15,7 @@ use thread_engine::outlet::Outlet;
 #[derive(Clone, Copy, Debug)]
 pub struct TallyOutlet {
     /// Of the replies so far. Of live pairs it has none.
-    pub tally: Tally,
+    pub tally: LoadTally,
     ghost within: { IsWithin tally },
 }
 

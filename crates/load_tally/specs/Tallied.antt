@@ -3,7 +3,7 @@ use Rattle.std.specs.Prelude.{ℕ, ◌≤◌, List, length, Bool, true, false, c
 use Rattle.fs_model.specs.declared.model.Pair.{Pair}
 use Rattle.fs_model.specs.declared.model.Reply.{Reply}
 use Rattle.fs_model.specs.declared.model.Reply.TheVariants.{Stored, Value, Absent, Deleted, Full, VersionsSpent, TooLong, Stopped}
-use Rattle.fs_text.specs.declared.line.Tally.{Tally}
+use Rattle.fs_text.specs.declared.line.LoadTally.{LoadTally}
 
 abbrev pub is_stored : Reply → Bool
 is_stored Stored = true
@@ -36,7 +36,7 @@ abbrev pub bytes_of : List Pair → ℕ
 bytes_of pairs = min (sum_by (λ p. length p.value) pairs) most_bytes
 
 -- none of a tally's kinds has more replies than there are
-pub record IsWithin (t : Tally) : Type 0 where
+pub record IsWithin (t : LoadTally) : Type 0 where
   pub stored : t.stored ≤ t.requests
   pub value : t.value ≤ t.requests
   pub absent : t.absent ≤ t.requests
@@ -44,7 +44,7 @@ pub record IsWithin (t : Tally) : Type 0 where
   pub refused : t.refused ≤ t.requests
 
 -- how many replies there are, and of each kind; how many pairs, and how long their values are together
-abbrev pub tally_of : List Reply → List Pair → Tally
+abbrev pub tally_of : List Reply → List Pair → LoadTally
 tally_of replies pairs = record {
   requests = length replies;
   stored = count_by is_stored replies;

@@ -4,14 +4,14 @@ ghost use Rattle.fs_model.specs.declared.model.Reply as replies_of;
 ghost use Rattle.load_tally.specs.Tallied.{IsWithin, tally_of, bytes_of};
 
 use fs_model::{Pair, Reply};
-use fs_text::Tally;
+use fs_text::LoadTally;
 
 /// The tally of no requests, on a region without a live pair.
-pub fn nothing() -> Tally
+pub fn nothing() -> LoadTally
     ensures none { result ≡ tally_of [] [] }
     ensures within { IsWithin result }
 {
-    Tally {
+    LoadTally {
         requests: 0,
         stored: 0,
         value: 0,
@@ -24,7 +24,7 @@ pub fn nothing() -> Tally
 }
 
 /// Counts the next reply, behind those that were counted.
-pub fn add_reply(tally: &mut Tally, reply: &Reply)
+pub fn add_reply(tally: &mut LoadTally, reply: &Reply)
     requires within { IsWithin tally.old }
     requires room { tally.old.requests + 1 < 2 ^ 64 }
     ensures counts { (rs : List replies_of.Reply) → tally.old ≡ tally_of rs []
@@ -43,7 +43,7 @@ pub fn add_reply(tally: &mut Tally, reply: &Reply)
 }
 
 /// Counts the next replies, behind those that were counted.
-pub fn add_replies(tally: &mut Tally, replies: &[Reply])
+pub fn add_replies(tally: &mut LoadTally, replies: &[Reply])
     requires within { IsWithin tally.old }
     requires room { tally.old.requests + length replies.now < 2 ^ 64 }
     ensures counts { (rs : List replies_of.Reply) → tally.old ≡ tally_of rs []
@@ -69,7 +69,7 @@ fn bytes_together(pairs: &[Pair]) -> u64
 
 /// Counts the live pairs that the region has behind the replies that were counted. The bytes of their values stand still
 /// at the type's end.
-pub fn add_pairs(tally: &mut Tally, pairs: &[Pair])
+pub fn add_pairs(tally: &mut LoadTally, pairs: &[Pair])
     ensures { (rs : List replies_of.Reply) → tally.old ≡ tally_of rs []
         → tally.new ≡ tally_of rs pairs.now }
 {

@@ -3,11 +3,11 @@ ghost use Rattle.load_tally.specs.Tallied.{tally_of};
 
 use super::*;
 use fs_model::{Pair, Reply, Value};
-use fs_text::Tally;
+use fs_text::LoadTally;
 use std::test::*;
 
 // The tally of replies that come in two parts, and of the pairs behind them.
-fn tallied(front: &[Reply], back: &[Reply], pairs: &[Pair]) -> Tally
+fn tallied(front: &[Reply], back: &[Reply], pairs: &[Pair]) -> LoadTally
     requires { length front.now + length back.now < 2 ^ 64 }
     ensures { result ≡ tally_of (front.now ++ back.now) pairs.now }
 {

@@ -9,7 +9,7 @@ mod copying;
 mod counting;
 mod reading_start;
 mod searching;
-mod tallying;
+mod chunk_tally;
 mod types;
 
 pub use choosing::victim;
@@ -17,5 +17,5 @@ pub use clearing::Clearing;
 pub use copying::copy_live;
 pub use counting::to_copy;
 pub use log_standing::Standing;
-pub use tallying::tally_of;
+pub use chunk_tally::tally_of;
 pub use types::{Cleared, Victim};

@@ -6,7 +6,7 @@ ghost use Rattle.fs_text.specs.Streams.{Takes, TakesPrefix};
 ghost use Rattle.query_text.specs.Answers.{last_line, page_text, count_text};
 
 use fs_model::{Key, Pair};
-use fs_text::pending_text::Pending;
+use fs_text::pending_text::PendingText;
 use fs_text::{OutError, Sink, write_pairs};
 use std::alloc::{AllocError, Global};
 
@@ -19,7 +19,7 @@ fn write_text<O: Sink>(alloc: Global, sink: &mut O, text: &[u8]) -> Result<(), O
         → Rose (O.fault_count sink.old) (O.fault_count sink.new) }
     ensures count { O.fault_count sink.old ≤ O.fault_count sink.new }
 {
-    let mut pending = Pending::new(alloc)?;
+    let mut pending = PendingText::new(alloc)?;
     pending.put(sink, text)?;
     pending.finish(sink)?;
     Ok(())

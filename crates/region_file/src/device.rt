@@ -4,7 +4,7 @@ ghost use Rattle.std.specs.Prelude.{◌≡◌, ℕ, [], ◌∷◌, IfOk, OnOk, O
 ghost use Rattle.region_file.specs.Calls.{refused};
 
 use crate::calls::Calls;
-use crate::system::{self, Place};
+use crate::system::{self, FilePlace};
 use pm_region::RegionFault;
 use std::fs::File;
 use std::os::unix::fs::FileExt;
@@ -51,11 +51,11 @@ pub fn find_place<R: Files<File = File>>(
     rt: &R,
     path: &str,
     tried: &mut Calls,
-) -> Result<Place, RegionFault>
+) -> Result<FilePlace, RegionFault>
     ensures kept { OnOk result (tried.new ≡ tried.old) }
     ensures err { OnErr result (tried.new.made ≡ refused ∷ tried.old.made) }
 {
-    match Place::find(rt, path) {
+    match FilePlace::find(rt, path) {
         Ok(place) => Ok(place),
         Err(_) => {
             tried.note(&[REFUSED, 0], &[]);
@@ -99,7 +99,7 @@ impl Device {
     pub fn begin<R: Files<File = File>>(
         rt: &R,
         path: &str,
-        place: &Place,
+        place: &FilePlace,
         tried: &mut Calls,
     ) -> Result<Device, RegionFault>
         ensures ok { IfOk result (λ d. d.calls.made ≡ emptied path.now ∷ []) }
@@ -254,7 +254,7 @@ impl Device {
         rt: &R,
         own: &str,
         path: &str,
-        place: &Place,
+        place: &FilePlace,
     ) -> Result<(), RegionFault>
         ensures ok { OnOk result (self.new.calls.made ≡ placed path.now ∷ self.old.calls.made) }
         ensures err { OnErr result (self.new.calls.made ≡ failed ∷ self.old.calls.made) }
@@ -269,7 +269,7 @@ impl Device {
     }
 
     /// Makes the names in the folder of this place certain.
-    pub fn keep_name(&mut self, place: &Place) -> Result<(), RegionFault>
+    pub fn keep_name(&mut self, place: &FilePlace) -> Result<(), RegionFault>
         ensures ok { OnOk result (self.new.calls.made ≡ named ∷ self.old.calls.made) }
         ensures err { OnErr result (self.new.calls.made ≡ failed ∷ self.old.calls.made) }
     {

@@ -6,7 +6,7 @@ ghost use Rattle.region_file.specs.Filed.{beside, calls_on, looked, HasFailed, H
 use crate::calls::Calls;
 use crate::device::{Device, find_place};
 use crate::file_words::FileWords;
-use crate::system::Place;
+use crate::system::FilePlace;
 use pm_region::byte_words::word_count;
 use pm_region::{AttachError, MOST_BYTES, MOST_WORDS, RegionFault, WORD_BYTES};
 use std::alloc::{AllocError, Global};
@@ -98,7 +98,7 @@ fn put_in_place<R: Files<File = File>>(
     rt: &R,
     path: &str,
     own: &str,
-    place: &Place,
+    place: &FilePlace,
     bytes: &[u8],
     device: &mut Device,
 ) -> Result<(), RegionFault>
@@ -119,7 +119,7 @@ fn fill<R: Files<File = File>>(
     rt: &R,
     path: &str,
     own: &str,
-    place: &Place,
+    place: &FilePlace,
     bytes: &[u8],
     device: &mut Device,
 ) -> Result<(), RegionFault>

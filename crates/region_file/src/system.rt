@@ -11,14 +11,14 @@ const LAST_STREAM: i32 = 2;
 
 /// The old file of a name, locked, if there is one, and the open folder in which it lies.
 #[derive(Drop)]
-pub struct Place {
+pub struct FilePlace {
     folder: File,
     old: Option<File>,
 }
 
-impl Place {
+impl FilePlace {
     /// Finds and locks the place of this name, before anything is changed there.
-    pub fn find<R: Files<File = File>>(rt: &R, path: &str) -> io::Result<Place> {
+    pub fn find<R: Files<File = File>>(rt: &R, path: &str) -> io::Result<FilePlace> {
         let folder = File::open(rt, folder_of(path))?;
         let old = match rt.symlink_metadata(path) {
             Ok(found) if found.is_file() => Some(locked(rt, path, true)?),
@@ -26,7 +26,7 @@ impl Place {
             Err(e) if e.kind() == ErrorKind::NotFound => None,
             Err(e) => return Err(e),
         };
-        Ok(Place { folder, old })
+        Ok(FilePlace { folder, old })
     }
 
     /// A file of this name, empty and locked, with the owner and the rights of the old one. What lies there is what a

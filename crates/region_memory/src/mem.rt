@@ -11,7 +11,7 @@ ghost use Rattle.region_memory.specs.Mem.{ArePlanned, mem_plan};
 use crate::crash_image::{ImageError, Pick};
 use crate::history::History;
 use crate::part::Part;
-use crate::plan::{Counts, Faults, FenceNumber, fences_of};
+use crate::plan::{RegionCounts, Faults, FenceNumber, fences_of};
 use crate::volume::Volume;
 use fs_model::Memory;
 use pm_region::{
@@ -121,7 +121,7 @@ impl Part for MemPiece {
 #[derive(Drop)]
 pub struct MemRegion {
     volume: Volume,
-    counts: Counts,
+    counts: RegionCounts,
     fences: u64,
     fails: Vec<u64>,
 }
@@ -148,7 +148,7 @@ impl MemRegion {
         let fails = fences_of(alloc, &plan.fences, 0)?;
         Ok(MemRegion {
             volume,
-            counts: Counts {
+            counts: RegionCounts {
                 faults: 0,
                 refusals: 0,
                 opens: 0,
@@ -187,7 +187,7 @@ fn without_plan(alloc: Global, volume: Volume) -> MemRegion
 {
     MemRegion {
         volume,
-        counts: Counts {
+        counts: RegionCounts {
             faults: 0,
             refusals: 0,
             opens: 0,

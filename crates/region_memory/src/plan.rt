@@ -29,7 +29,7 @@ pub struct Faults {
 /// The counts of a region: of faults, of refused calls of attach, create and split, and of all these calls and
 /// revalidations.
 #[derive(Drop)]
-pub struct Counts {
+pub struct RegionCounts {
     /// Each call that failed counts: attach, create, split, revalidate and fence.
     pub faults: u64,
     /// Each attach, create and split that failed counts.
@@ -40,7 +40,7 @@ pub struct Counts {
     pub plan: Faults,
 }
 
-impl Counts {
+impl RegionCounts {
     /// Counts an attach, create or split, which fails by the plan.
     pub fn open(&mut self) -> Result<(), AttachError>
         ensures fault { OnErr result ((result ≡ Err AttachError.RegionFault)

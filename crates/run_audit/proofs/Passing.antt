@@ -5,7 +5,7 @@ use Rattle.std.specs.List.{AllByRecursion}
 use Rattle.std.proofs.lemmas.List.{append-nil, take_at, nil_from_length}
 use Rattle.fs_text.specs.Input.{lines_of}
 use Rattle.fs_text.specs.Output.{ended}
-use Rattle.run_audit.specs.declared.first_line.FirstLine.{FirstLine}
+use Rattle.run_audit.specs.declared.first_line.PartedLine.{PartedLine}
 use Rattle.run_audit.specs.declared.parting.Parts.{Parts}
 use Rattle.run_audit.specs.Parting.{IsParted, IsPartedAtReplies}
 use Rattle.run_audit.specs.Replies.{is_replies, before_replies, from_replies}
@@ -52,7 +52,7 @@ whole_line p line w one =
           ∙ sym (append_assoc (lines_of p) ((line, true) ∷ []) (lines_of more)) ∙ ap (λ l. l ++ lines_of more) (sym alone),
     )
 
-pub passed_line : (bytes rest : List ℕ) (lines : ℕ) (x : FirstLine) → Passed bytes rest lines → 0 < length rest → IsParted rest x → bytes_eq x.text.now (codes "replies") ≡ false
+pub passed_line : (bytes rest : List ℕ) (lines : ℕ) (x : PartedLine) → Passed bytes rest lines → 0 < length rest → IsParted rest x → bytes_eq x.text.now (codes "replies") ≡ false
     → Passed bytes x.rest.now (lines + 1)
 passed_line bytes rest lines x p some parted other = elim p.whole [
   | inl w ↦ by_end w x.ended refl
@@ -91,7 +91,7 @@ IsStop rest = (before_replies (lines_of rest) ≡ []) × (from_replies (lines_of
 pub stop_nothing : (rest : List ℕ) → length rest ≡ 0 → IsStop rest
 stop_nothing rest h = rw (nil_from_length rest h) (refl, refl)
 
-pub stop_replies : (rest : List ℕ) (x : FirstLine) → IsParted rest x → bytes_eq x.text.now (codes "replies") ≡ true → IsStop rest
+pub stop_replies : (rest : List ℕ) (x : PartedLine) → IsParted rest x → bytes_eq x.text.now (codes "replies") ≡ true → IsStop rest
 stop_replies rest x parted here = rw (parted.lines, here) (refl, refl)
 
 pub passed_all : (bytes rest : List ℕ) (lines : ℕ) (x : Parts) → Passed bytes rest lines → IsStop rest

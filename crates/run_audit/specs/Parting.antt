@@ -9,7 +9,7 @@ use Rattle.fs_text.specs.declared.input_limits.TheConstants.{LONGEST_LINE, MOST_
 use Rattle.fs_text.specs.declared.line.Line.{Line}
 use Rattle.fs_text.specs.Input.{lines_of, input_of}
 use Rattle.fs_text.specs.Output.{ended, reply_line, replies_text}
-use Rattle.run_audit.specs.declared.first_line.FirstLine.{FirstLine}
+use Rattle.run_audit.specs.declared.first_line.PartedLine.{PartedLine}
 use Rattle.run_audit.specs.declared.parting.Parts.{Parts}
 use Rattle.run_audit.specs.declared.audit_input.AuditInput.{AuditInput}
 use Rattle.run_audit.specs.declared.reply_lines.TheConstants.{MOST_REPLIES}
@@ -20,7 +20,7 @@ abbrev pub HasNoNewline : List ℕ → Type 0
 HasNoNewline bytes = AllByRecursion (λ b. b ≡ 10 → ⊥) bytes
 
 -- A text that isn't empty is its first line and the rest.
-pub record IsParted (bytes : List ℕ) (x : FirstLine) : Type 0 where
+pub record IsParted (bytes : List ℕ) (x : PartedLine) : Type 0 where
   pub lines : lines_of bytes ≡ (x.text.now, x.ended) ∷ lines_of x.rest.now
   pub line : x.ended ≡ true → bytes ≡ ended x.text.now ++ x.rest.now
   pub last : x.ended ≡ false → (bytes ≡ x.text.now) × (x.rest.now ≡ [])

@@ -7,21 +7,21 @@ use Rattle.fs_model.specs.declared.model.Pair.{Pair}
 use Rattle.fs_model.specs.declared.model.Request.{Request}
 use Rattle.fs_model.specs.declared.model.Reply.{Reply}
 use Rattle.fs_model.specs.Lawful.{IsLawfulFor, asked, cell_left, is_stopped}
-use Rattle.run_audit.specs.declared.standing.Standing.{Standing}
+use Rattle.run_audit.specs.declared.standing.KeyState.{KeyState}
 
 -- a key's cell, and whether the store has stopped serving it
 abbrev pub State : Type 0
 State = Option (List ℕ) × Bool
 
-abbrev pub shown : Standing → State
+abbrev pub shown : KeyState → State
 shown s = (option_copied s.value, s.stopped)
 
 -- that of a key which the table has
-abbrev pub entry_at : {S : Type 0} → HashMap ℕ Standing S → ℕ → Option State
+abbrev pub entry_at : {S : Type 0} → HashMap ℕ KeyState S → ℕ → Option State
 entry_at table k = option_map shown (get nat_eq table k)
 
 -- a key that the table lacks has no value
-abbrev pub state_at : {S : Type 0} → HashMap ℕ Standing S → ℕ → State
+abbrev pub state_at : {S : Type 0} → HashMap ℕ KeyState S → ℕ → State
 state_at table k = unwrap_or (entry_at table k) (None, false)
 
 -- at the start nothing is stopped
@@ -29,7 +29,7 @@ abbrev pub started : List ℕ → State
 started v = (Some v, false)
 
 -- the cell's key has its value, where the table lacked the key
-abbrev pub Enters : {S : Type 0} → HashMap ℕ Standing S → HashMap ℕ Standing S → Pair → Type 0
+abbrev pub Enters : {S : Type 0} → HashMap ℕ KeyState S → HashMap ℕ KeyState S → Pair → Type 0
 Enters old new cell = (k : ℕ) → entry_at new k ≡ option_or (entry_at old k)
     (if cell.key == k then Some (started cell.value) else None)
 

@@ -6,7 +6,7 @@ ghost use Rattle.fs_model.specs.declared.model.Reply.{Reply};
 ghost use Rattle.run_audit.specs.FirstFault.{cells_in, Judges};
 ghost use Rattle.run_audit.specs.Shares.{is_of, is_before, earlier, AreOfShares, IsFaultAmong};
 
-use crate::share::{Share, first_fault};
+use crate::share::{KeyShare, first_fault};
 use crate::verdict::{StartCell, Verdict};
 use fs_model::{Memory, Reply, Request};
 use std::alloc::Global;
@@ -70,7 +70,7 @@ fn faults_of_shares<R: Threads + Sync>(
             ensures { IfOk result (IsFaultAmong (cells_in start.entry.now) (is_of workers number)
                 (zip trace.entry.now replies.entry.now)) }
         {
-            let share = Share {
+            let share = KeyShare {
                 number,
                 count: workers,
             };

@@ -6,7 +6,7 @@ use memchr::memchr;
 
 /// The first line of a text, without its newline.
 #[derive(Clone, Copy)]
-pub struct FirstLine<'a> {
+pub struct PartedLine<'a> {
     /// Its bytes.
     pub text: &'a [u8],
     /// Whether it has a newline.
@@ -16,7 +16,7 @@ pub struct FirstLine<'a> {
 }
 
 /// Parts a text that isn't empty after its first line.
-pub fn first_line(bytes: &[u8]) -> FirstLine<'_>
+pub fn first_line(bytes: &[u8]) -> PartedLine<'_>
     requires { 0 < length bytes.now }
     ensures parted { IsParted bytes.now result }
     ensures shorter { length result.rest.now < length bytes.now }
@@ -24,12 +24,12 @@ pub fn first_line(bytes: &[u8]) -> FirstLine<'_>
         + length result.rest.now ≡ length bytes.now }
 {
     match memchr(b'\n', bytes) {
-        Some(end) => FirstLine {
+        Some(end) => PartedLine {
             text: &bytes[..end],
             ended: true,
             rest: &bytes[end + 1..],
         },
-        None => FirstLine {
+        None => PartedLine {
             text: bytes,
             ended: false,
             rest: &bytes[bytes.len()..],
@@ -37,7 +37,7 @@ pub fn first_line(bytes: &[u8]) -> FirstLine<'_>
     }
 }
 
-impl FirstLine<'_> {
+impl PartedLine<'_> {
     /// How many bytes it takes with its newline.
     pub fn size(&self) -> u64
         requires { length self.now.text.now < 2 ^ 63 }

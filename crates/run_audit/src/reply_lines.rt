@@ -64,7 +64,7 @@ pub fn read_reply(alloc: Global, text: &[u8]) -> Result<Option<Reply>, Memory>
 
 /// Where a line stands.
 #[derive(Clone, Copy)]
-pub struct Place {
+pub struct LinePlace {
     /// Its number in the input, from 1 on.
     pub number: u64,
     /// The bytes of the input up to and with it.
@@ -74,7 +74,7 @@ pub struct Place {
 }
 
 // The line breaks a rule.
-fn broken(place: Place, rule: u32) -> InputError
+fn broken(place: LinePlace, rule: u32) -> InputError
     ensures { result ≡ InputError.BadInput place.number rule }
 {
     InputError::BadInput {
@@ -84,7 +84,7 @@ fn broken(place: Place, rule: u32) -> InputError
 }
 
 // The reply of a line, or the first rule that it breaks. The text has no newline.
-fn reply_there(alloc: Global, place: Place, text: &[u8]) -> Result<Reply, InputError>
+fn reply_there(alloc: Global, place: LinePlace, text: &[u8]) -> Result<Reply, InputError>
     ensures exact { Answers result (numbered place.number
         (reply_at place.bytes place.replies text.now)) }
     ensures no_fault { IsErrOf result InputError.SourceFault → ⊥ }
@@ -118,7 +118,7 @@ fn replies_of_lines(
     ensures no_fault { IsErrOf result InputError.SourceFault → ⊥ }
 {
     let mut replies = Vec::new(alloc);
-    let mut place = Place {
+    let mut place = LinePlace {
         number,
         bytes,
         replies: 0,

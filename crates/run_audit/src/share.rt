@@ -6,25 +6,25 @@ ghost use Rattle.fs_model.specs.Lawful.{MayReply};
 ghost use Rattle.run_audit.specs.FirstFault.{cells_in};
 ghost use Rattle.run_audit.specs.Shares.{shown, started, state_at, entry_at, state_after, Enters, Moves, is_of, IsFaultAmong};
 
-use crate::standing::Standing;
+use crate::standing::KeyState;
 use crate::verdict::StartCell;
 use fs_model::{Key, Memory, Reply, Request};
 use std::alloc::Global;
 use std::collections::HashMap;
 
 /// How the keys of a share stand.
-type Table<'a> = HashMap<Key, Standing<'a>>;
+type Table<'a> = HashMap<Key, KeyState<'a>>;
 
 /// The keys of one of so many shares.
 #[derive(Clone, Copy)]
-pub struct Share {
+pub struct KeyShare {
     /// Which one, counted from 0.
     pub number: u32,
     /// How many there are.
     pub count: u32,
 }
 
-impl Share {
+impl KeyShare {
     /// Whether a key is one of the share.
     fn has(self, key: Key) -> bool
         requires { 0 < self.count }
@@ -35,12 +35,12 @@ impl Share {
 }
 
 // How the key stands.
-fn standing<'a>(table: &Table<'a>, key: Key) -> Standing<'a>
+fn standing<'a>(table: &Table<'a>, key: Key) -> KeyState<'a>
     ensures { shown result ≡ state_at table.now key }
 {
     match table.get(&key) {
         Some(standing) => *standing,
-        None => Standing::fresh(),
+        None => KeyState::fresh(),
     }
 }
 
@@ -49,13 +49,13 @@ fn enter<'a>(table: &mut Table<'a>, cell: &'a StartCell) -> Result<(), Memory>
     ensures { OnOk result (Enters table.old table.new cell.now) }
 {
     if table.get(&cell.key).is_none() {
-        let _ = table.insert(cell.key, Standing::with_value(cell.value.bytes()))?;
+        let _ = table.insert(cell.key, KeyState::with_value(cell.value.bytes()))?;
     }
     Ok(())
 }
 
 // How the keys of the share stand at the start.
-fn start_table<'a>(alloc: Global, start: &'a [StartCell], share: Share) -> Result<Table<'a>, Memory>
+fn start_table<'a>(alloc: Global, start: &'a [StartCell], share: KeyShare) -> Result<Table<'a>, Memory>
     requires { 0 < share.count }
     ensures { IfOk result (λ table. (k : ℕ) → is_of share.count share.number k ≡ true
         → state_at table k ≡ (cells_in start.now k, false)) }
@@ -93,7 +93,7 @@ pub fn first_fault(
     start: &[StartCell],
     trace: &[Request],
     replies: &[Reply],
-    share: Share,
+    share: KeyShare,
 ) -> Result<Option<u64>, Memory>
     requires { 0 < share.count }
     ensures { IfOk result (IsFaultAmong (cells_in start.now) (is_of share.count share.number)

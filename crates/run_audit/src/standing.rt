@@ -8,7 +8,7 @@ use fs_model::{Reply, Request};
 
 /// The value of a key, or none, and whether the store has stopped serving the key.
 #[derive(Clone, Copy)]
-pub struct Standing<'a> {
+pub struct KeyState<'a> {
     /// Where it was put, or where the start has it.
     pub value: Option<&'a [u8]>,
     /// Whether a reply was `Stopped`.
@@ -101,22 +101,22 @@ fn is_refusal(reply: &Reply) -> bool
     }
 }
 
-impl<'a> Standing<'a> {
+impl<'a> KeyState<'a> {
     /// That of a key without a value.
-    pub fn fresh() -> Standing<'a>
+    pub fn fresh() -> KeyState<'a>
         ensures { shown result ≡ (None, false) }
     {
-        Standing {
+        KeyState {
             value: None,
             stopped: false,
         }
     }
 
     /// That of a key with this value at the start.
-    pub fn with_value(value: &'a [u8]) -> Standing<'a>
+    pub fn with_value(value: &'a [u8]) -> KeyState<'a>
         ensures { shown result ≡ started value.now }
     {
-        Standing {
+        KeyState {
             value: Some(value),
             stopped: false,
         }
@@ -134,26 +134,26 @@ impl<'a> Standing<'a> {
     }
 
     /// How the key stands after a request that was answered so.
-    pub fn after(self, request: &'a Request, reply: &Reply) -> Standing<'a>
+    pub fn after(self, request: &'a Request, reply: &Reply) -> KeyState<'a>
         ensures { shown result ≡ state_after request.now reply.now (shown self.entry) }
     {
         let stopped = self.stopped || is_stopped(reply);
         if is_refusal(reply) {
-            return Standing {
+            return KeyState {
                 value: self.value,
                 stopped,
             };
         }
         match request {
-            Request::Put { value, .. } => Standing {
+            Request::Put { value, .. } => KeyState {
                 value: Some(value.bytes()),
                 stopped,
             },
-            Request::Get { .. } => Standing {
+            Request::Get { .. } => KeyState {
                 value: self.value,
                 stopped,
             },
-            Request::Delete { .. } => Standing {
+            Request::Delete { .. } => KeyState {
                 value: None,
                 stopped,
             },

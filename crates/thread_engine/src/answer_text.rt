@@ -7,7 +7,7 @@ ghost use Rattle.engine_core.specs.Reports.{reply_in};
 
 use engine_core::types::Stamped;
 use fs_model::Reply;
-use fs_text::pending_text::Pending;
+use fs_text::pending_text::PendingText;
 use fs_text::{OutError, Sink, SinkFault};
 use std::alloc::Global;
 
@@ -32,7 +32,7 @@ fn parts_of(answer: &Option<Stamped>) -> (&str, &[u8])
 
 // Puts the line of an answer, and its newline.
 fn put_answer<O: Sink>(
-    pending: &mut Pending,
+    pending: &mut PendingText,
     sink: &mut O,
     answer: &Option<Stamped>,
 ) -> Result<(), SinkFault>
@@ -64,7 +64,7 @@ pub fn write_answers<O: Sink>(
         → Rose (O.fault_count sink.old) (O.fault_count sink.new) }
     ensures count { O.fault_count sink.old ≤ O.fault_count sink.new }
 {
-    let mut pending = Pending::new(alloc)?;
+    let mut pending = PendingText::new(alloc)?;
     for answer in answers {
         put_answer(&mut pending, sink, answer)?;
     }

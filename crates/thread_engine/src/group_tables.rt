@@ -12,7 +12,7 @@ ghost use Rattle.thread_engine.specs.Manned.{IsManned, AreManned};
 
 use atomic_board::{GroupTable, SeatToken};
 use chunk_map::Geometry;
-use engine_core::openings::{Found, Numbered, Of, On};
+use engine_core::openings::{FoundRegion, Numbered, Of, On};
 use fs_model::Memory;
 use group_board::Opening;
 use pm_region::ReadRegion;
@@ -83,7 +83,7 @@ fn open_each<O: Opening>(alloc: Global, members: u32, groups: u32) -> Result<Gro
 }
 
 // The region is passed since what is known of its words must be said of what is passed.
-fn open_on<F: Found, R: ReadRegion>(
+fn open_on<F: FoundRegion, R: ReadRegion>(
     alloc: Global,
     _region: &R,
     layout: Geometry,

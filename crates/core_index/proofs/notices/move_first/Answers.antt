@@ -1,6 +1,6 @@
 use Rattle.std.proofs.Common.{◌≡◌, ◌<◌, ℕ, length, get_or, Option, Some, None, sym, ◌∙◌, ap, subst, arith, rules, vec_len, slice_set}
 use Rattle.std.proofs.lemmas.List.{get_or_read}
-use Rattle.core_index.specs.declared.notices.Node.{Node}
+use Rattle.core_index.specs.declared.notices.NoticeNode.{NoticeNode}
 use Rattle.core_index.specs.Noted.{node_with, bare, chain_of, AreChains}
 use Rattle.core_index.proofs.NoticeLaws.{first_of, chain_below, chains_moved}
 use Rattle.core_index.proofs.notices.move_first.Goals as goal
@@ -38,7 +38,7 @@ returns-clause-chains c =
     let in_to : c.chain_of-to.result < length hs = omega (arith, to, below, nine) in
     let next : c.index-2.result.now ≡ get_or hs (chain_of home) None = get_or_read hs c.chain_of-to.result c.index-2.result.now in_to c.index-2.ensures None ∙ ap (λ (k : ℕ). get_or hs k None) to in
     let read : c.index.result.now ≡ get_or ns c.args.first bare = get_or_read ns c.args.first c.index.result.now first.within c.index.ensures bare in
-    let n : Node = node_with c.args.name home c.index-2.result.now in
+    let n : NoticeNode = node_with c.args.name home c.index-2.result.now in
     let moved = chains_moved ns hs c.args.from c.args.first n c.requires.chains c.requires.from c.requires.first c.requires.other next in
     subst (λ (k : ℕ). AreChains (slice_set ns c.args.first n) (slice_set (slice_set hs c.args.from c.index.result.now.next) k (Some c.args.first))) (sym to)
-    (subst (λ (o : Option ℕ). AreChains (slice_set ns c.args.first n) (slice_set (slice_set hs c.args.from o) (chain_of home) (Some c.args.first))) (sym (ap (λ (m : Node). m.next) read)) moved)
+    (subst (λ (o : Option ℕ). AreChains (slice_set ns c.args.first n) (slice_set (slice_set hs c.args.from o) (chain_of home) (Some c.args.first))) (sym (ap (λ (m : NoticeNode). m.next) read)) moved)

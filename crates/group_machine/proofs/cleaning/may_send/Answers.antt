@@ -3,7 +3,7 @@ use Rattle.store_image.specs.Facts.{In}
 use Rattle.log_entry.specs.declared.entry.EntryName.{EntryName}
 use Rattle.group_laws.specs.Updates.{has}
 use Rattle.group_laws.specs.declared.types.Seen.TheVariants.{Mail as SeenMail}
-use Rattle.group_machine.specs.declared.state.CoreView.{CoreView}
+use Rattle.group_machine.specs.declared.state.MemberView.{MemberView}
 use Rattle.group_machine.specs.Shows.{group_of, place_of, of}
 use Rattle.group_machine.proofs.Made.{view_at}
 use Rattle.group_machine.proofs.Own.{tell_in, in_tell}
@@ -29,9 +29,9 @@ returns c =
     let v = c.index-view.result.now in
     let low = c.if-not-has_member.ensures.0 refl in
     let at = view_at g m v low c.index-view.ensures in
-    let looked = ap (of (λ (v : CoreView). v.looked.items) []) at in
+    let looked = ap (of (λ (v : MemberView). v.looked.items) []) at in
     let seen : In (SeenMail m c.args.to false) ((group_of g).looked m) = subst (In (SeenMail m c.args.to false)) (c.deref.ensures.value ∙ sym looked) (c.if-not-saw.ensures.0 refl) in
-    let leaving : (k n : ℕ) → (group_of g).leaving m k n ≡ has v.leaving.items k n = λ k n. ap (of (λ (v : CoreView). has v.leaving.items k n) false) at in (
+    let leaving : (k n : ℕ) → (group_of g).leaving m k n ≡ has v.leaving.items k n = λ k n. ap (of (λ (v : MemberView). has v.leaving.items k n) false) at in (
       λ t. record {
         member = low;
         receiver = c.if-not-has_member-2.ensures.0 refl;

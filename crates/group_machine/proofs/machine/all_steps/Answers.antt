@@ -1,7 +1,7 @@
 use Rattle.std.proofs.Common.{Some, List, take, sym, ap, ◌∙◌, subst}
 use Rattle.std.proofs.lemmas.Option.{slice_get-get_or}
 use Rattle.std.proofs.lemmas.List.{take_all}
-use Rattle.group_machine.specs.declared.kinds.Step.{Step}
+use Rattle.group_machine.specs.declared.kinds.MemberStep.{MemberStep}
 use Rattle.group_machine.specs.Shows.{group_of}
 use Rattle.group_machine.specs.Steps.{AreMade, IsMade}
 use Rattle.group_machine.proofs.Runs.{made_keeps, made_more, reached, stopped}
@@ -14,7 +14,7 @@ loop-i-preserved c =
     let x = c.index-steps-i.result in
     record {
       made = made_more (group_of c.args.state) c.args.steps.now c.loop-i.i x (group_of c.loop-i.state) (group_of c.make.new.state) c.loop-i-test.true old.made
-          (subst (λ (y : Step). IsMade (group_of c.loop-i.state) y.member y.kind (group_of c.make.new.state)) c.index-steps-i.is made);
+          (subst (λ (y : MemberStep). IsMade (group_of c.loop-i.state) y.member y.kind (group_of c.make.new.state)) c.index-steps-i.is made);
       lawful = made_keeps (group_of c.loop-i.state) x.member x.kind (group_of c.make.new.state) old.lawful made;
     }
 
@@ -31,4 +31,4 @@ pub returns : goal.returns
 returns c =
     let old = c.loop-i.invariant in
     let all = take_all c.loop-i.i c.args.steps.now c.loop-i-test.false in
-    reached c.args.state c.args.steps.now c.loop-i.state c.requires (subst (λ (xs : List Step). AreMade (group_of c.args.state) xs (group_of c.loop-i.state)) all old.made) old.lawful
+    reached c.args.state c.args.steps.now c.loop-i.state c.requires (subst (λ (xs : List MemberStep). AreMade (group_of c.args.state) xs (group_of c.loop-i.state)) all old.made) old.lawful

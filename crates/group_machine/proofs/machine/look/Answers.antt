@@ -2,7 +2,7 @@ use Rattle.std.proofs.Common.{ℕ, refl, inl, inr, sym, subst, ◌∙◌}
 use Rattle.group_laws.specs.Runs.{Kind as Law, IsStep}
 use Rattle.group_laws.specs.Runs.Kind.{Look, LookMail}
 use Rattle.group_machine.specs.declared.kinds.Kind.TheVariants as kinds
-use Rattle.group_machine.specs.declared.kinds.Step.{Step}
+use Rattle.group_machine.specs.declared.kinds.MemberStep.{MemberStep}
 use Rattle.group_machine.specs.Shows.{group_of}
 use Rattle.group_machine.specs.Makes.{Makes}
 use Rattle.group_machine.specs.Steps.{MakesStep}
@@ -16,7 +16,7 @@ returns-in-Some-Slot c =
     let m = c.args.member in
     let a = c.in-Some-Slot.owner in
     let t = c.in-Some-Slot.slot in
-    let s : Step = record { member = m; kind = kinds.Look c.args.word } in
+    let s : MemberStep = record { member = m; kind = kinds.Look c.args.word } in
     let law : Law = Look a t in
     let h = c.look_at_slot.new.state in
     let is = rw (c.in-Some-Slot.field-0-is, c.group.ensures) at c.in-Some-Slot.ensures in
@@ -32,7 +32,7 @@ returns-in-Some-Mail c =
     let m = c.args.member in
     let a = c.in-Some-Mail.from in
     let b = c.in-Some-Mail.to in
-    let s : Step = record { member = m; kind = kinds.Look c.args.word } in
+    let s : MemberStep = record { member = m; kind = kinds.Look c.args.word } in
     let law : Law = LookMail a b in
     let h = c.look_at_mail.new.state in
     let is = rw (c.in-Some-Mail.field-0-is, c.group.ensures) at c.in-Some-Mail.ensures in

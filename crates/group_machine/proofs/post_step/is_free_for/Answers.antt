@@ -2,7 +2,7 @@ use Rattle.std.proofs.Common.{◌≡◌, ℕ, length, arith, refl, None, ap, sym
 use Rattle.std.specs.Ordering.{nat_cmp}
 use Rattle.std.specs.BTreeMap.{get}
 use Rattle.group_laws.specs.Places.{units, LiesIn, Apart}
-use Rattle.group_machine.specs.declared.state.CoreView.{CoreView}
+use Rattle.group_machine.specs.declared.state.MemberView.{MemberView}
 use Rattle.group_machine.specs.Shows.{group_of, place_of, of}
 use Rattle.group_machine.proofs.Made.{view_at}
 use Rattle.group_machine.proofs.post_step.is_free_for.Goals as goal
@@ -17,7 +17,7 @@ returns c =
     let size : c.units_of-count.result ≡ units (length value) = c.units_of-count.ensures ∙ ap (λ (xs : List ℕ). units (length xs)) c.bytes-length.ensures in
     let long = ap length c.bytes-length.ensures in
     let at = view_at g m v c.requires c.index.ensures in
-    let blocks : (q : ℕ) → (group_of g).blocks m q ≡ get nat_cmp v.blocks q = λ q. ap (of (λ (v : CoreView). get nat_cmp v.blocks q) None) at in
+    let blocks : (q : ℕ) → (group_of g).blocks m q ≡ get nat_cmp v.blocks q = λ q. ap (of (λ (v : MemberView). get nat_cmp v.blocks q) None) at in
     let lies : LiesIn (place_of g) m p (units (length value)) = subst (λ (n : ℕ). LiesIn (place_of g) m p n) size (c.if-not-lies_in.ensures.0 refl) in (
       λ t. (
         (omega (arith, long), omega (arith, long)),

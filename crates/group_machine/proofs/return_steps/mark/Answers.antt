@@ -2,7 +2,7 @@ use Rattle.std.proofs.Common.{refl, [], sym, ◌∙◌, ap, subst}
 use Rattle.store_image.specs.Facts.{In}
 use Rattle.group_laws.specs.Steps.{CanMark}
 use Rattle.group_machine.specs.Shows.{place_of, group_of, of}
-use Rattle.group_machine.specs.declared.state.CoreView.{CoreView}
+use Rattle.group_machine.specs.declared.state.MemberView.{MemberView}
 use Rattle.group_machine.proofs.Made.{view_at}
 use Rattle.group_machine.proofs.Leaders.{mark_is}
 use Rattle.group_machine.proofs.return_steps.mark.Goals as goal
@@ -16,7 +16,7 @@ returns c =
     let low = c.if-not-has_member.ensures.0 refl in
     let seen = view_at g m c.index.result.now low c.index.ensures in
     let at = view_at g m v low c.index_mut-view.ensures.value in
-    let kept : In e ((group_of g).kept m) = subst (In e) (c.deref.ensures.value ∙ sym (ap (of (λ (v : CoreView). v.kept.items) []) seen)) (c.if-not-contains.ensures.0 refl) in
+    let kept : In e ((group_of g).kept m) = subst (In e) (c.deref.ensures.value ∙ sym (ap (of (λ (v : MemberView). v.kept.items) []) seen)) (c.if-not-contains.ensures.0 refl) in
     let can : CanMark (group_of g) m c.args.owner c.args.slot e = record { member = low; slot = c.if-not-has_slot.ensures.0 refl; taken = sym c.in_ok-entry.ensures ∙ c.in-Some.is; kept = kept } in (
       e,
       can,

@@ -4,7 +4,7 @@ use Rattle.std.specs.BTreeMap.{get}
 use Rattle.log_entry.specs.declared.entry.EntryName.{EntryName}
 use Rattle.store_image.specs.Facts.{In}
 use Rattle.group_laws.specs.Updates.{has}
-use Rattle.group_machine.specs.declared.state.CoreView.{CoreView}
+use Rattle.group_machine.specs.declared.state.MemberView.{MemberView}
 use Rattle.group_machine.specs.Shows.{place_of}
 use Rattle.group_machine.specs.Deaths.{IsSpentIn, MustTell}
 use Rattle.group_machine.proofs.Made.{view_at}
@@ -22,9 +22,9 @@ returns c =
     let same : read ≡ v = cc (at, seen) in
     let spent = c.in_ok-spent.spent.items in
     let names = c.in_ok-names.names.items in
-    let only : (k : ℕ) → In k spent → IsSpentIn v k = λ k i. subst (λ (v : CoreView). IsSpentIn v k) same (c.in_ok-spent.ensures.only k i) in
-    let all : (k x : ℕ) → get nat_cmp v.last k ≡ Some x → IsSpentIn v k → In k spent = subst (λ (v : CoreView). (k x : ℕ) → get nat_cmp v.last k ≡ Some x → IsSpentIn v k → In k spent) same c.in_ok-spent.ensures.all in
-    let must : (k n : ℕ) → (has names k n ≡ true → MustTell (place_of g) m v k n) × (MustTell (place_of g) m v k n → has names k n ≡ true) = subst (λ (v : CoreView). (k n : ℕ) → (has names k n ≡ true → MustTell (place_of g) m v k n) × (MustTell (place_of g) m v k n → has names k n ≡ true)) same c.in_ok-names.ensures in
+    let only : (k : ℕ) → In k spent → IsSpentIn v k = λ k i. subst (λ (v : MemberView). IsSpentIn v k) same (c.in_ok-spent.ensures.only k i) in
+    let all : (k x : ℕ) → get nat_cmp v.last k ≡ Some x → IsSpentIn v k → In k spent = subst (λ (v : MemberView). (k x : ℕ) → get nat_cmp v.last k ≡ Some x → IsSpentIn v k → In k spent) same c.in_ok-spent.ensures.all in
+    let must : (k n : ℕ) → (has names k n ≡ true → MustTell (place_of g) m v k n) × (MustTell (place_of g) m v k n → has names k n ≡ true) = subst (λ (v : MemberView). (k n : ℕ) → (has names k n ≡ true → MustTell (place_of g) m v k n) × (MustTell (place_of g) m v k n → has names k n ≡ true)) same c.in_ok-names.ensures in
     let gone : (k : ℕ) → In k spent → get nat_cmp c.forget.new.last k ≡ None = λ k i. c.forget.ensures.gone k (subst (In k) (sym c.deref.ensures.value) i) in
     let kept : (k : ℕ) → (In k spent → ⊥) → get nat_cmp c.forget.new.last k ≡ get nat_cmp v.last k = λ k away. c.forget.ensures.kept k (λ i. away (subst (In k) c.deref.ensures.value i)) in
     let told = c.in_ok-extend_from_slice.ensures.items ∙ ap (λ (xs : List EntryName). v.told.items ++ xs) c.deref-2.ensures.value in

@@ -2,7 +2,7 @@ use Rattle.std.proofs.Common.{◌≡◌, ◌+◌, ◌-◌, ◌<◌, ℕ, length,
 use Rattle.std.proofs.lemmas.List.{get_or_read}
 use Rattle.core_index.specs.Noted.{Book, Noted, node_with, home_at, chain_of}
 use Rattle.core_index.proofs.NoticeLaws.{first_of, free_home, never_full, some_from, put_book, put_noted, noted_here}
-use Rattle.core_index.proofs.notices.Notices.push.Goals as goal
+use Rattle.core_index.proofs.notices.DeathNotices.push.Goals as goal
 
 pub unwrap-first-requires : goal.unwrap-first-requires
 unwrap-first-requires c =

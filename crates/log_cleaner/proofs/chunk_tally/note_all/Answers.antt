@@ -1,7 +1,7 @@
 use Rattle.std.proofs.Common.{refl, ◌∙◌}
 use Rattle.core_log.proofs.Clients.{may_start}
 use Rattle.log_cleaner.proofs.TallyLaws.{below_starts, below_on, tally_starts, tally_on}
-use Rattle.log_cleaner.proofs.tallying.note_all.Goals as goal
+use Rattle.log_cleaner.proofs.chunk_tally.note_all.Goals as goal
 
 pub loop-found-init : goal.loop-found-init
 loop-found-init g c =

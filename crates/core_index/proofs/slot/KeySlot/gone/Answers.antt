@@ -1,10 +1,10 @@
 use Rattle.std.proofs.Common.{◌≡◌, List, Option, sym, ap, subst, arith, rules}
 use Rattle.core_index.specs.declared.types.Standee.{Standee}
-use Rattle.core_index.specs.declared.types.Standing.{Standing}
+use Rattle.core_index.specs.declared.types.StandingEntry.{StandingEntry}
 use Rattle.core_index.specs.Records.{KeyRecord, last_of, others}
 use Rattle.core_index.specs.Slots.{Place, known_with, alive_at, count_of, count_dead, died, OnlyDead}
 use Rattle.core_index.proofs.SlotLaws.{gone_only, gone_count, gone_slot}
-use Rattle.core_index.proofs.slot.Slot.gone.Goals as goal
+use Rattle.core_index.proofs.slot.KeySlot.gone.Goals as goal
 
 pub invariant_of-self : goal.invariant_of-self
 invariant_of-self c = gone_slot c.self.inside.head c.self.inside.standing c.take_out.new.self c.args.version c.self.inside.room c.self.inside.alive _ c.self.invariant c.take_out.ensures.items c.take_out.ensures.top c.take_out.ensures.room (search rules)
@@ -29,7 +29,7 @@ returns-clause-mortal c =
     let count = gone_count o ss v in
     let dead : c.died.result ≡ died v (last_of (known_with o ss)) (alive_at (known_with o ss)) (alive_at (known_with o (others v ss))) = search rules in
     let a : count_dead c.died.result ≡ count_dead (died v (last_of (known_with o ss)) (alive_at (known_with o ss)) (alive_at (known_with o (others v ss)))) = ap count_dead dead in
-    let b : count_of (alive_at (known_with o c.take_out.new.self.items)) ≡ count_of (alive_at (known_with o (others v ss))) = ap (λ (xs : List Standing). count_of (alive_at (known_with o xs))) c.take_out.ensures.items in
+    let b : count_of (alive_at (known_with o c.take_out.new.self.items)) ≡ count_of (alive_at (known_with o (others v ss))) = ap (λ (xs : List StandingEntry). count_of (alive_at (known_with o xs))) c.take_out.ensures.items in
     let d : count_of (alive_at (known_with o ss)) ≡ count_of (alive_at c.args.self.now.known) = ap (λ (p : Place). count_of (alive_at p.known)) c.self.view_is in
     let e : c.self.inside.room ≡ c.args.self.now.room = ap (λ (p : Place). p.room) c.self.view_is in
     omega (arith, count, a, b, d, e)

@@ -2,7 +2,7 @@ use Rattle.std.proofs.Common.{◌++◌, [], sym, subst}
 use Rattle.std.proofs.lemmas.Result.{on_ok_weaker, on_err_weaker}
 use Rattle.fs_text.specs.Streams.{TakesUpTo}
 use Rattle.fs_text.proofs.Streaming.{takes_more, up_to_all, prefix_then, prefix_longer, on_err_any}
-use Rattle.fs_text.proofs.pending_text.Pending.put.Goals as goal
+use Rattle.fs_text.proofs.pending_text.PendingText.put.Goals as goal
 
 pub returns-in_err-send-clause-err : goal.returns-in_err-send-clause-err
 returns-in_err-send-clause-err g c =

@@ -3,7 +3,7 @@ use Rattle.core_index.specs.declared.types.Standee.{Standee}
 use Rattle.core_index.specs.Records.{KeyRecord, standing_with, is_dead, last_of}
 use Rattle.core_index.specs.Slots.{Place, record_with, known_with, AreBelow, alive_at, home_alive, dead_by, OnlyDead}
 use Rattle.core_index.proofs.SlotLaws.{settled_only, settled_alive, settled_below}
-use Rattle.core_index.proofs.slot.Slot.settle.Goals as goal
+use Rattle.core_index.proofs.slot.KeySlot.settle.Goals as goal
 
 pub invariant_of-self : goal.invariant_of-self
 invariant_of-self c =

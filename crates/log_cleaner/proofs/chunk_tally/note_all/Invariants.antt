@@ -4,7 +4,7 @@ use Rattle.core_log.specs.Log.{LogState, tail_in}
 use Rattle.core_log.specs.Walking.{IsReadable, entries_in}
 use Rattle.log_standing.specs.Tallies.{TallyState}
 use Rattle.log_cleaner.proofs.TallyLaws.{IsBelow, Tallying}
-use Rattle.log_cleaner.proofs.tallying.note_all.Given as goal
+use Rattle.log_cleaner.proofs.chunk_tally.note_all.Given as goal
 
 pub record SoFar (s : State) (log : LogState) (j place : ℕ) (t old : TallyState) : Type 0 where
   pub readable : IsReadable s log j place

@@ -2,7 +2,7 @@ use Rattle.std.proofs.Common.{◌≡◌, sym, ap, subst, arith}
 use Rattle.core_index.specs.Records.{Awaits}
 use Rattle.core_index.specs.Slots.{Place, known_with, alive_at, count_of, TellsOne}
 use Rattle.core_index.proofs.SlotLaws.{told_slot, told_one, told_alive}
-use Rattle.core_index.proofs.slot.Slot.tell.Goals as goal
+use Rattle.core_index.proofs.slot.KeySlot.tell.Goals as goal
 
 pub invariant_of-self : goal.invariant_of-self
 invariant_of-self c = told_slot c.self.inside.head c.self.inside.standing c.tell.new.self c.args.version c.self.inside.room c.self.inside.alive c.self.invariant c.tell.ensures.items c.tell.ensures.top c.tell.ensures.room

@@ -1,9 +1,9 @@
 use Rattle.std.proofs.Common.{◌≡◌, ◌+◌, ◌-◌, ◌<◌, ⊎_elim, inl, inr, ℕ, List, length, get_or, Option, Some, None, refl, sym, ◌∙◌, ap, subst, arith, rules, vec_len, slice_set}
 use Rattle.std.proofs.lemmas.List.{get_or_read, length-set}
-use Rattle.core_index.specs.declared.notices.Node.{Node}
+use Rattle.core_index.specs.declared.notices.NoticeNode.{NoticeNode}
 use Rattle.core_index.specs.Noted.{Book, Noted, node_with, bare, name_at, home_at, next_at, chain_of, IsFor, AreChains, one_used, count_used}
 use Rattle.core_index.proofs.NoticeLaws.{first_of, none_of, chain_below, chains_over, for_home, used_home, taken_count, taken_book, taken_noted}
-use Rattle.core_index.proofs.notices.Notices.take.Goals as goal
+use Rattle.core_index.proofs.notices.DeathNotices.take.Goals as goal
 
 pub returns-in_default-clause-none : goal.returns-in_default-clause-none
 returns-in_default-clause-none c = λ name noted.
@@ -38,7 +38,7 @@ place_for-requires c =
     let ch = inv.chains.each a None lt in
     let f = c.in-Some.first in
     let first = first_of ns (get_or hs a None) f a ch (sym read ∙ c.in-Some.is) in
-    subst (λ (xs : List Node). f < length xs) (sym c.deref.ensures.value) first.within
+    subst (λ (xs : List NoticeNode). f < length xs) (sym c.deref.ensures.value) first.within
 
 pub write_over-name-requires-clause-first : goal.write_over-name-requires-clause-first
 write_over-name-requires-clause-first c =
@@ -77,12 +77,12 @@ move_first-requires-clause-chains c =
     let f = c.in-Some.first in
     let first = first_of ns (get_or hs a None) f a ch (sym read ∙ c.in-Some.is) in
     let k = c.in-Some-place_for.place in
-    let at : IsFor ns home k = subst (λ (xs : List Node). IsFor xs home k) c.deref.ensures.value c.in-Some-place_for.ensures.found in
+    let at : IsFor ns home k = subst (λ (xs : List NoticeNode). IsFor xs home k) c.deref.ensures.value c.in-Some-place_for.ensures.found in
     let at_k : home_at ns k ≡ Some home = for_home (home_at ns k) home (at.here bare) in
     let ms = c.write_over-name.new.nodes.items in
     let over : ms ≡ slice_set ns k (node_with (name_at ns f) (home_at ns f) (next_at ns k)) = c.write_over-name.ensures.nodes in
     let class : chain_of (home_at ns f) ≡ chain_of (home_at ns k) = first.class ∙ a_is ∙ sym (ap chain_of at_k) in
-    subst (λ (xs : List Node). AreChains xs hs) (sym over) (chains_over ns hs k (node_with (name_at ns f) (home_at ns f) (next_at ns k)) inv.chains at.within refl class)
+    subst (λ (xs : List NoticeNode). AreChains xs hs) (sym over) (chains_over ns hs k (node_with (name_at ns f) (home_at ns f) (next_at ns k)) inv.chains at.within refl class)
 
 pub overflow_sub-self : goal.overflow_sub-self
 overflow_sub-self c =
@@ -101,7 +101,7 @@ overflow_sub-self c =
     let f = c.in-Some.first in
     let first = first_of ns (get_or hs a None) f a ch (sym read ∙ c.in-Some.is) in
     let k = c.in-Some-place_for.place in
-    let at : IsFor ns home k = subst (λ (xs : List Node). IsFor xs home k) c.deref.ensures.value c.in-Some-place_for.ensures.found in
+    let at : IsFor ns home k = subst (λ (xs : List NoticeNode). IsFor xs home k) c.deref.ensures.value c.in-Some-place_for.ensures.found in
     let at_k : home_at ns k ≡ Some home = for_home (home_at ns k) home (at.here bare) in
     let ms = c.write_over-name.new.nodes.items in
     let over : ms ≡ slice_set ns k (node_with (name_at ns f) (home_at ns f) (next_at ns k)) = c.write_over-name.ensures.nodes in
@@ -132,7 +132,7 @@ invariant_of-self c =
     let f = c.in-Some.first in
     let first = first_of ns (get_or hs a None) f a ch (sym read ∙ c.in-Some.is) in
     let k = c.in-Some-place_for.place in
-    let at : IsFor ns home k = subst (λ (xs : List Node). IsFor xs home k) c.deref.ensures.value c.in-Some-place_for.ensures.found in
+    let at : IsFor ns home k = subst (λ (xs : List NoticeNode). IsFor xs home k) c.deref.ensures.value c.in-Some-place_for.ensures.found in
     let at_k : home_at ns k ≡ Some home = for_home (home_at ns k) home (at.here bare) in
     let ms = c.write_over-name.new.nodes.items in
     let over : ms ≡ slice_set ns k (node_with (name_at ns f) (home_at ns f) (next_at ns k)) = c.write_over-name.ensures.nodes in
@@ -164,7 +164,7 @@ returns-clause-others c = λ h n noted.
     let f = c.in-Some.first in
     let first = first_of ns (get_or hs a None) f a ch (sym read ∙ c.in-Some.is) in
     let k = c.in-Some-place_for.place in
-    let at : IsFor ns home k = subst (λ (xs : List Node). IsFor xs home k) c.deref.ensures.value c.in-Some-place_for.ensures.found in
+    let at : IsFor ns home k = subst (λ (xs : List NoticeNode). IsFor xs home k) c.deref.ensures.value c.in-Some-place_for.ensures.found in
     let at_k : home_at ns k ≡ Some home = for_home (home_at ns k) home (at.here bare) in
     let ms = c.write_over-name.new.nodes.items in
     let over : ms ≡ slice_set ns k (node_with (name_at ns f) (home_at ns f) (next_at ns k)) = c.write_over-name.ensures.nodes in
@@ -197,7 +197,7 @@ returns-clause-less c =
     let f = c.in-Some.first in
     let first = first_of ns (get_or hs a None) f a ch (sym read ∙ c.in-Some.is) in
     let k = c.in-Some-place_for.place in
-    let at : IsFor ns home k = subst (λ (xs : List Node). IsFor xs home k) c.deref.ensures.value c.in-Some-place_for.ensures.found in
+    let at : IsFor ns home k = subst (λ (xs : List NoticeNode). IsFor xs home k) c.deref.ensures.value c.in-Some-place_for.ensures.found in
     let at_k : home_at ns k ≡ Some home = for_home (home_at ns k) home (at.here bare) in
     let ms = c.write_over-name.new.nodes.items in
     let over : ms ≡ slice_set ns k (node_with (name_at ns f) (home_at ns f) (next_at ns k)) = c.write_over-name.ensures.nodes in
