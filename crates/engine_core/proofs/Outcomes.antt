@@ -23,8 +23,7 @@ use Rattle.engine_core.specs.declared.types.Stamped.{Stamped}
 use Rattle.engine_core.specs.declared.run_report.Finish.{Finish}
 use Rattle.engine_core.specs.declared.run_report.Refusal.{Refusal}
 use Rattle.engine_core.specs.Answers.{ShowsAnswer, IsCause, ShowsCause, reply_to, kept_at, is_read}
-use Rattle.engine_core.specs.declared.run_report.Report.{Report}
-use Rattle.engine_core.specs.Reports.{reply_in, finish_in, refusal_in, refusal_of, finishes_in, refusals_in, told_by, ShowsWhy, IsReport, ReportsOn}
+use Rattle.engine_core.specs.Reports.{reply_in, finish_in, refusal_in, refusal_of, finishes_in, refusals_in, told_by, ShowsWhy, Listed, IsReport, ReportsOn}
 
 -- what a get found is no finish, no refusal and no stop, and a get may be answered so
 record Quiet (q : Request) (r : Reply) : Type 0 where
@@ -251,7 +250,7 @@ abbrev MayStop : Engine → List Request → Type 0
 MayStop e more = AllAnswered e → more ≡ [] → HasStopped e
 
 -- A report on the answers that an engine keeps is one on the state that it shows.
-pub reports_by : (s : State) (o : Origin) (e : Engine) (ks : List (Option Stamped)) (r : Report) → Promised o e → length ks ≡ length e.given → ((n : ℕ) → ShowsAnswer (IsTelling s) (slice_get e.given n) (e.answer n) (kept_at ks n)) → e.region ≡ s → IsReport ks r → ReportsOn s o e r
+pub reports_by : (s : State) (o : Origin) (e : Engine) (ks : List (Option Stamped)) (r : Listed) → Promised o e → length ks ≡ length e.given → ((n : ℕ) → ShowsAnswer (IsTelling s) (slice_get e.given n) (e.answer n) (kept_at ks n)) → e.region ≡ s → IsReport ks r → ReportsOn s o e r
 reports_by s o e ks r P count shown region R = record {
   told_is = told;
   known = λ telling. R.replies ∙ kept_replies (IsTelling s) e.answer e.given ks (length e.given) (refl, sym count) from telling;
@@ -274,5 +273,5 @@ reports_by s o e ks r P count shown region R = record {
       (subst (λ qs. Answers (IsTelling e.region) (start_of o) qs (told_of e) (MayStop e []) (replies_from e.answer 0 (length qs))) (append-nil e.given) (P.replies []))
 
 -- the same where a replay stands
-pub reports_on : (s : State) (o : Origin) (e : Engine) (ks : List (Option Stamped)) (r : Report) → Stands o e → length ks ≡ length e.given → ((n : ℕ) → ShowsAnswer (IsTelling s) (slice_get e.given n) (e.answer n) (kept_at ks n)) → e.region ≡ s → IsReport ks r → ReportsOn s o e r
+pub reports_on : (s : State) (o : Origin) (e : Engine) (ks : List (Option Stamped)) (r : Listed) → Stands o e → length ks ≡ length e.given → ((n : ℕ) → ShowsAnswer (IsTelling s) (slice_get e.given n) (e.answer n) (kept_at ks n)) → e.region ≡ s → IsReport ks r → ReportsOn s o e r
 reports_on s o e ks r S count shown region R = reports_by s o e ks r (promised o e S) count shown region R

@@ -5,7 +5,7 @@ use Rattle.std.specs.Global.{Global}
 use Rattle.std.proofs.lemmas.List.{map-append}
 use Rattle.engine_core.specs.declared.types.Stamped.{Stamped}
 use Rattle.engine_core.specs.declared.run_report.Report.{Report}
-use Rattle.engine_core.specs.Reports.{reply_in, finish_in, refusal_in, finishes_in, refusals_in, Adds, IsReport, IsBlank, HasRoomFor, HasRoom, FillsAll, IsWithin}
+use Rattle.engine_core.specs.Reports.{reply_in, finish_in, refusal_in, finishes_in, refusals_in, Adds, listed, IsReport, IsBlank, HasRoomFor, HasRoom, FillsAll, IsWithin}
 
 -- one answer more, of any list that is made number by number
 module _ {X : Type 0} (one : ℕ → Option Stamped → List X) (all : ℕ → List (Option Stamped) → List X) (none : (n : ℕ) → all n [] ≡ []) (some : (n : ℕ) (x : Option Stamped) (xs : List (Option Stamped)) → all n (x ∷ xs) ≡ one n x ++ all (n + 1) xs) where
@@ -21,7 +21,7 @@ length_map : {X Y : Type 0} (f : X → Y) (xs : List X) → length (map f xs) �
 length_map f [] = refl
 length_map f (x ∷ xs) = let r = length_map f xs in omega (arith, r)
 
-pub report_more : (xs : List (Option Stamped)) (x : Option Stamped) (old new : Report) → IsReport xs old → Adds old new x → IsReport (xs ++ x ∷ []) new
+pub report_more : (xs : List (Option Stamped)) (x : Option Stamped) (old new : Report) → IsReport xs (listed old) → Adds old new x → IsReport (xs ++ x ∷ []) (listed new)
 report_more xs x old new R A =
     let count : length old.replies.items ≡ 0 + length xs = ap length R.replies ∙ length_map reply_in xs ∙ omega arith in
     record {
@@ -31,7 +31,7 @@ report_more xs x old new R A =
     }
 
 -- a report on nothing
-pub blank_report : (r : Report) → IsBlank r → IsReport [] r
+pub blank_report : (r : Report) → IsBlank r → IsReport [] (listed r)
 blank_report r B = record { replies = B.replies; finishes = B.finishes; refusals = B.refusals }
 
 none_in : {X : Type 0} (v : Vec X Global) (n : ℕ) → v.items ≡ [] → vec_len v ≤ n

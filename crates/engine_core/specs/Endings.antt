@@ -2,6 +2,7 @@
 use Rattle.std.specs.Prelude.{Bool, Result, Ok, Err, if◌then◌else◌}
 use Rattle.fs_model.specs.declared.memory.Memory.{Memory}
 use Rattle.engine_core.specs.declared.run_report.Report.{Report}
+use Rattle.engine_core.specs.Reports.{Listed}
 use Rattle.engine_core.specs.declared.run_outcome.End.{End}
 use Rattle.engine_core.specs.declared.run_outcome.End.TheVariants as ends
 use Rattle.engine_core.specs.declared.run_outcome.Outcome.{Outcome}
@@ -19,5 +20,9 @@ outcome_by r end = record {
   end = end;
 }
 
-abbrev pub report_in : Outcome → Report
-report_in x = record { replies = x.replies; finishes = x.finishes; refusals = x.refusals }
+abbrev pub listed_in : Outcome → Listed
+listed_in x = record {
+  replies = x.replies.items;
+  finishes = x.finishes.items;
+  refusals = x.refusals.items;
+}

@@ -59,10 +59,31 @@ pub record Adds (old new : Report) (answer : Option Stamped) : Type 0 where
   pub refusals : new.refusals.items ≡ old.refusals.items
       ++ refusal_in (length old.replies.items) answer
 
-pub record IsReport (answers : List (Option Stamped)) (r : Report) : Type 0 where
-  pub replies : r.replies.items ≡ map reply_in answers
-  pub finishes : r.finishes.items ≡ finishes_in 0 answers
-  pub refusals : r.refusals.items ≡ refusals_in 0 answers
+-- what a report lists
+pub record Listed : Type 0 where
+  pub replies : List Reply
+  pub finishes : List Finish
+  pub refusals : List Refusal
+
+abbrev pub listed : Report → Listed
+listed r = record {
+  replies = r.replies.items;
+  finishes = r.finishes.items;
+  refusals = r.refusals.items;
+}
+
+-- the same of answers that are kept by number
+abbrev pub listed_of : List (Option Stamped) → Listed
+listed_of answers = record {
+  replies = map reply_in answers;
+  finishes = finishes_in 0 answers;
+  refusals = refusals_in 0 answers;
+}
+
+pub record IsReport (answers : List (Option Stamped)) (x : Listed) : Type 0 where
+  pub replies : x.replies ≡ map reply_in answers
+  pub finishes : x.finishes ≡ finishes_in 0 answers
+  pub refusals : x.refusals ≡ refusals_in 0 answers
 
 -- nothing is in it
 pub record IsBlank (r : Report) : Type 0 where
@@ -104,13 +125,13 @@ as_told finishes refusals = record {
   refusals = map (λ x. (x.request, reply_to x.why)) refusals;
 }
 
-abbrev pub told_by : Report → Told
-told_by r = as_told r.finishes.items r.refusals.items
+abbrev pub told_by : Listed → Told
+told_by x = as_told x.finishes x.refusals
 
 -- The report is that of a state, and its replies are some that the state may give: those that it has, where the region tells.
-pub record ReportsOn (s : State) (o : Origin) (e : Engine) (r : Report) : Type 0 where
-  pub told_is : told_by r ≡ told_of e
-  pub known : IsTelling s → r.replies.items ≡ replies_of e
+pub record ReportsOn (s : State) (o : Origin) (e : Engine) (x : Listed) : Type 0 where
+  pub told_is : told_by x ≡ told_of e
+  pub known : IsTelling s → x.replies ≡ replies_of e
   pub answers : Answers (IsTelling s) (start_of o) e.given (told_of e)
-      (AllAnswered e → HasStopped e) r.replies.items
-  pub counts : AllByRecursion (ShowsWhy e.given) r.refusals.items
+      (AllAnswered e → HasStopped e) x.replies
+  pub counts : AllByRecursion (ShowsWhy e.given) x.refusals

@@ -2,7 +2,7 @@
 ghost use Rattle.std.specs.Prelude.{◌≡◌, ℕ, ◌+◌, ◌<◌, ◌≤◌, [], ◌∷◌, ◌++◌, length, vec_len, vec_capacity, IfOk, OnOk};
 ghost use Rattle.fs_model.specs.declared.model.Reply.TheVariants as replies;
 ghost use Rattle.fs_model.specs.Lawful.{is_finish};
-ghost use Rattle.engine_core.specs.Reports.{IsReport, Adds, IsBlank, HasRoomFor, HasRoom, Fills, FillsAll, finish_of, refusal_of};
+ghost use Rattle.engine_core.specs.Reports.{listed, IsReport, Adds, IsBlank, HasRoomFor, HasRoom, Fills, FillsAll, finish_of, refusal_of};
 
 use crate::types::Stamped;
 use core_room::Shortage;
@@ -39,7 +39,8 @@ pub struct Report {
     pub refusals: Vec<Refusal>,
 }
 
-fn is_finish(reply: &Reply) -> bool
+/// Whether a change was made: the reply is Stored or Deleted.
+pub fn is_finish(reply: &Reply) -> bool
     ensures { result ≡ is_finish reply.now }
 {
     match reply {
@@ -64,8 +65,8 @@ fn note_finish(finishes: &mut Vec<Finish>, request: u64, answer: &Stamped)
     }
 }
 
-// Notes a refusal, where there is a cause.
-fn note_refusal(refusals: &mut Vec<Refusal>, request: u64, cause: Option<Shortage>)
+/// Notes a refusal, where there is a cause, for which there is room.
+pub fn note_refusal(refusals: &mut Vec<Refusal>, request: u64, cause: Option<Shortage>)
     requires room { vec_len refusals.old < vec_capacity refusals.old }
     ensures notes { refusals.new.items ≡ refusals.old.items ++ refusal_of request cause }
     ensures fills { Fills refusals.old refusals.new }
@@ -122,7 +123,7 @@ impl Report {
 pub fn report_on(answers: Vec<Option<Stamped>>, mut report: Report) -> Report
     requires blank { IsBlank report }
     requires room { HasRoomFor (length answers.items) report }
-    ensures { IsReport answers.items result }
+    ensures { IsReport answers.items (listed result) }
 {
     for answer in answers {
         report.add(answer);

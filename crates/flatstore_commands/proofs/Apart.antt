@@ -10,11 +10,11 @@ use Rattle.recover.specs.declared.types.Recovered.{Recovered}
 use Rattle.engine_laws.specs.Engine.{Engine}
 use Rattle.engine_laws.specs.Parts.{AllLicensed}
 use Rattle.engine_laws.specs.Stands.{Origin}
-use Rattle.engine_core.specs.declared.run_outcome.Outcome.{Outcome}
+use Rattle.engine_core.specs.declared.run_outcome.End.{End}
 use Rattle.engine_core.specs.RunStarts.{StandsAsFound}
-use Rattle.engine_core.specs.Endings.{report_in}
-use Rattle.engine_core.specs.Reports.{ReportsOn, as_told, told_by}
+use Rattle.engine_core.specs.Reports.{Listed, ReportsOn, listed_of, finishes_in, refusals_in, as_told, told_by}
 use Rattle.thread_engine.specs.RanApart.{RanApart, Rejoined}
+use Rattle.flatstore_commands.specs.Finished.{finishes_of}
 use Rattle.flatstore_commands.specs.Attaching.{Asks, GoesOnBy}
 use Rattle.flatstore_commands.specs.LastStates.{told_in}
 use Rattle.flatstore_commands.specs.ThreadRuns.{CoresRan}
@@ -25,7 +25,11 @@ use Rattle.flatstore_commands.proofs.Standing.{origin_cores}
 use Rattle.flatstore_commands.proofs.Staying.{asks_stays, asks_later}
 
 module _ (old s t : State) (found word : ℕ → ℕ) (A : Attached old s s.frame.bytes found) (once : IsOpenedOnceMore old s) (granted : s.frame.refusals ≡ old.frame.refusals) (low : old.faults ≤ s.faults) (refused : Bool)
-    (recovered : Recovered) (stands : StandsAsFound s word recovered) (asked : List Request) (x : Outcome) (R : RanApart s word refused recovered asked t x) where
+    (recovered : Recovered) (stands : StandsAsFound s word recovered) (asked : List Request) (end : End) (R : RanApart s word refused recovered asked t end) where
+  -- what its answers list
+  abbrev pub x : Listed
+  x = listed_of R.kept
+
   abbrev pub o : Origin
   o = R.origin
 
@@ -71,7 +75,7 @@ module _ (old s t : State) (found word : ℕ → ℕ) (A : Attached old s s.fram
         long = λ n a is why q asked. C.long [] n q a is why asked;
       }
 
-  pub known : Known old found cores asked o f x
+  pub known : Known old found cores asked o f end x
   known = record {
     attached = subst (λ (z : State). Attached old z z.frame.bytes found) (sym began) A;
     origin = R.begins.is;
@@ -86,7 +90,7 @@ module _ (old s t : State) (found word : ℕ → ℕ) (A : Attached old s s.fram
     more = [];
     given = sym R.given ∙ sym all_given;
     all_given = λ not_cut. refl;
-    reports = subst (λ z. ReportsOn z o f (report_in x)) (sym R.region) R.reports;
+    reports = subst (λ z. ReportsOn z o f x) (sym R.region) R.reports;
     done = R.done;
     fault = R.fault;
     whole = R.complete;
@@ -118,8 +122,8 @@ module _ (old s t : State) (found word : ℕ → ℕ) (A : Attached old s s.fram
   licensed_last = subst (λ z. IsTelling z → AllLicensed f.layout f.group (cell_now z)) (sym R.region) R.licensed
 
   -- of a report on it
-  module _ (r : CommandReport) (finishes : r.finishes.items ≡ x.finishes.items) (refusals : r.refusals.items ≡ x.refusals.items) where
-    pub report_told : told_in r ≡ told_by (report_in x)
+  module _ (r : CommandReport) (finishes : finishes_of r.finishes ≡ finishes_in 0 R.kept) (refusals : r.refusals.items ≡ refusals_in 0 R.kept) where
+    pub report_told : told_in r ≡ told_by x
     report_told i = as_told (finishes i) (refusals i)
 
     abbrev pub cores_ran : CoresRan old t found refused cores asked r
@@ -133,7 +137,7 @@ module _ (old s t : State) (found word : ℕ → ℕ) (A : Attached old s s.fram
         origin = o;
         begins = R.begins;
         words = subst (λ (z : State). IsTelling z → (w : ℕ) → w < z.frame.bytes / 8 → o.found w ≡ found w) began
-            (words_found old t found cores asked o f x known stays later);
+            (words_found old t found cores asked o f end x known stays later);
         count = count;
       };
       given = R.given;
@@ -144,8 +148,8 @@ module _ (old s t : State) (found word : ℕ → ℕ) (A : Attached old s s.fram
       kept = R.kept;
       keeps = R.keeps;
       once = R.once;
-      finishes = finishes ∙ R.report.finishes;
-      refusals = refusals ∙ R.report.refusals;
+      finishes = finishes;
+      refusals = refusals;
       told_is = report_told ∙ R.reports.told_is;
       licensed = subst (λ z. IsTelling z → AllLicensed f.layout f.group (cell_now z)) R.region licensed_last;
     }

@@ -9,6 +9,7 @@ pub mod Serving
 pub mod Running
 pub mod Replaying
 pub mod Refused
+pub mod FinishesNoted
 pub mod Apart
 pub mod ThreadRunning
 pub mod LoadServing

@@ -24,13 +24,12 @@ use Rattle.engine_laws.specs.Engine.{Engine}
 use Rattle.engine_laws.specs.Stands.{Origin}
 use Rattle.engine_core.specs.declared.run_outcome.End.{End}
 use Rattle.engine_core.specs.declared.run_outcome.End.TheVariants as ends
-use Rattle.engine_core.specs.declared.run_outcome.Outcome.{Outcome}
 use Rattle.engine_core.specs.RunStarts.{StandsAsFound}
-use Rattle.engine_core.specs.Endings.{report_in}
-use Rattle.engine_core.specs.Reports.{reply_in, told_by}
+use Rattle.engine_core.specs.Reports.{Listed, reply_in, listed_of, finishes_in, refusals_in, told_by}
 use Rattle.load_requests.specs.Generated.{requests_of_load}
 use Rattle.load_run.specs.declared.load.LoadRun.{LoadRun}
 use Rattle.load_tally.specs.Tallied.{tally_of}
+use Rattle.flatstore_commands.specs.Finished.{finishes_of, finishes_from}
 use Rattle.flatstore_commands.specs.Attaching.{Asks, AttachesBy, AsksBehind, MayRejoin}
 use Rattle.flatstore_commands.specs.Ends.{SourceUse, SinkUse, IsAllOut, CountsFaults}
 use Rattle.flatstore_commands.specs.LastStates.{told_in}
@@ -48,6 +47,8 @@ use Rattle.flatstore_commands.specs.declared.report.Status.TheVariants as status
 use Rattle.flatstore_commands.specs.declared.report.CommandReport.{CommandReport}
 use Rattle.flatstore_commands.specs.declared.run_threads.NotRun.{NotRun}
 use Rattle.flatstore_commands.specs.declared.run_threads.NotRun.TheVariants.{Refused, Unsplit}
+use Rattle.flatstore_commands.proofs.ThreadRunning.{memory_of}
+use Rattle.flatstore_commands.proofs.FinishesNoted.{finishes_noted}
 use Rattle.flatstore_commands.proofs.Apart as apart
 use Rattle.flatstore_commands.proofs.Attached.{found_fault}
 use Rattle.flatstore_commands.proofs.Refused.{served_by, none_serves}
@@ -193,7 +194,7 @@ module _ (old s t : State) (found word : ℕ → ℕ) (A : Attached old s s.fram
   unsplit_by (Refused status) h is = absurd (early_apart status h statuses.RegionFault refl (λ q. cc q) is)
   unsplit_by Unsplit h is = (still_attached, subst (λ n. Rose n t.frame.refusals) granted h.3)
 
-  module _ (r : CommandReport) (status : r.status ≡ status_for why) (begun_is : r.began ≡ has_begun why) (fin : r.finishes.items ≡ []) (ref : r.refusals.items ≡ []) (cut : r.complete ≡ false) (unplaced : r.in_place ≡ false) (sink : SinkUse) (same : sink.now ≡ sink.before) (word' : ℕ → ℕ)
+  module _ (r : CommandReport) (status : r.status ≡ status_for why) (begun_is : r.began ≡ has_begun why) (fin : finishes_of r.finishes ≡ []) (ref : r.refusals.items ≡ []) (cut : r.complete ≡ false) (unplaced : r.in_place ≡ false) (sink : SinkUse) (same : sink.now ≡ sink.before) (word' : ℕ → ℕ)
       (refused : Bool) (start count : ℕ) where
     begun_then : r.began ≡ true → has_begun why ≡ true
     begun_then begun = sym begun_is ∙ begun
@@ -273,17 +274,21 @@ module _ (All Front : List Reply → Type 0) (old t : State) (found : ℕ → �
 -- All cores ran.
 module _ (old s left t : State) (found word word' : ℕ → ℕ) (A : Attached old s s.frame.bytes found) (once : IsOpenedOnceMore old s) (granted : s.frame.refusals ≡ old.frame.refusals) (low : old.faults ≤ s.faults) (refused : Bool) (start count : ℕ) (sink : SinkUse) (y : LoadRun)
     (P : Loaded s word refused start count left y) (tells : (w : ℕ) → IsTelling t → lasts t w ≡ word' w) where
-  abbrev x : Outcome
-  x = y.outcome
+  abbrev end : End
+  end = y.outcome.end
+
+  -- what its answers list
+  abbrev x : Listed
+  x = listed_of P.ran.ran.kept
 
   abbrev made : List Request
   made = requests_of_load start count
 
   abbrev o : Origin
-  o = P.ran.origin
+  o = P.ran.ran.origin
 
   abbrev f : Engine
-  f = P.ran.last
+  f = P.ran.ran.last
 
   abbrev cores : ℕ
   cores = P.recovered.layout.cores
@@ -294,13 +299,13 @@ module _ (old s left t : State) (found word word' : ℕ → ℕ) (A : Attached o
   abbrev Front : List Reply → Type 0
   Front = TakesTallyFront word' sink
 
-  known : serving.Known old found cores made o f x
-  known = apart.known old s left found word A once granted low refused P.recovered P.stands made x P.ran
+  known : serving.Known old found cores made o f end x
+  known = apart.known old s left found word A once granted low refused P.recovered P.stands made end P.ran.ran
 
-  module _ (r : CommandReport) (W : HasTallied t.frame.bytes word' x sink r.in_place r.status) (asks : Asks r.complete r.in_place left t) (finishes : r.finishes.items ≡ x.finishes.items) (refusals : r.refusals.items ≡ x.refusals.items) (begun : r.began ≡ true)
-      (complete_is : r.complete ≡ is_ended x.end) (kept_back : r.in_place ≡ false → sink.now ≡ sink.before) where
+  module _ (r : CommandReport) (W : (replies : List Reply) → (is_ended end ≡ true → y.tally ≡ tally_of replies []) → HasTallied t.frame.bytes word' replies end sink r.in_place r.status) (asks : Asks r.complete r.in_place left t) (finishes : finishes_of r.finishes ≡ finishes_from 0 y.outcome.notes.finished.items y.outcome.stamp) (refusals : r.refusals.items ≡ y.outcome.notes.refusals.items) (begun : r.began ≡ true)
+      (complete_is : r.complete ≡ is_ended end) (kept_back : r.in_place ≡ false → sink.now ≡ sink.before) where
     asks_last : Asks r.complete r.in_place f.region t
-    asks_last = subst (λ z. Asks r.complete r.in_place z t) (sym P.ran.region) asks
+    asks_last = subst (λ z. Asks r.complete r.in_place z t) (sym P.ran.ran.region) asks
 
     still : Stays f.region t
     still = asks_stays r.complete r.in_place f.region t asks_last
@@ -322,21 +327,21 @@ module _ (old s left t : State) (found word word' : ℕ → ℕ) (A : Attached o
     silent same replies = inl same
 
     -- the status tells what was written, or which rule the words break that were read behind the run
-    shown : (EndsAs (All x.replies.items) (Front x.replies.items) x.end sink r.in_place r.status)
-        ⊎ ((r.in_place ≡ true) × (is_ended x.end ≡ true) × (sink.now ≡ sink.before) × (fault : Fault) × (r.status ≡ fault_status fault) × (first_fault t.frame.bytes word' ≡ Some fault))
-    shown = by r.in_place refl W where
-      by : (p : Bool) → r.in_place ≡ p → HasTallied t.frame.bytes word' x sink p r.status
-          → (EndsAs (All x.replies.items) (Front x.replies.items) x.end sink p r.status) ⊎ ((r.in_place ≡ true) × (is_ended x.end ≡ true) × (sink.now ≡ sink.before) × (fault : Fault) × (r.status ≡ fault_status fault) × (first_fault t.frame.bytes word' ≡ Some fault))
+    shown : (EndsAs (All x.replies) (Front x.replies) end sink r.in_place r.status)
+        ⊎ ((r.in_place ≡ true) × (is_ended end ≡ true) × (sink.now ≡ sink.before) × (fault : Fault) × (r.status ≡ fault_status fault) × (first_fault t.frame.bytes word' ≡ Some fault))
+    shown = by r.in_place refl (W x.replies (λ whole. P.ran.tally (memory_of end whole))) where
+      by : (p : Bool) → r.in_place ≡ p → HasTallied t.frame.bytes word' x.replies end sink p r.status
+          → (EndsAs (All x.replies) (Front x.replies) end sink p r.status) ⊎ ((r.in_place ≡ true) × (is_ended end ≡ true) × (sink.now ≡ sink.before) × (fault : Fault) × (r.status ≡ fault_status fault) × (first_fault t.frame.bytes word' ≡ Some fault))
       by true is (inl w, whole) = inl (w, whole)
       by true is (inr w, whole) = inr (is, whole, w.0, w.1, w.2, w.3)
       by false is w = inl w.1
 
-    front_of : EndsAs (All x.replies.items) (Front x.replies.items) x.end sink r.in_place r.status → Front x.replies.items
+    front_of : EndsAs (All x.replies) (Front x.replies) end sink r.in_place r.status → Front x.replies
     front_of w = by r.in_place refl w where
-      whole_front : All x.replies.items → Front x.replies.items
+      whole_front : All x.replies → Front x.replies
       whole_front out = inr (out.0, out.1, ([], (out.0, sym (append-nil out.0), out.2)))
 
-      by : (p : Bool) → r.in_place ≡ p → EndsAs (All x.replies.items) (Front x.replies.items) x.end sink p r.status → Front x.replies.items
+      by : (p : Bool) → r.in_place ≡ p → EndsAs (All x.replies) (Front x.replies) end sink p r.status → Front x.replies
       by true is (inl w, any) = whole_front w.2
       by true is (inr (inl w), any) = elim w.2 [ inl all ↦ whole_front all.0 | inr some ↦ some.1 ]
       by true is (inr (inr (inl w)), any) = w.3
@@ -344,38 +349,44 @@ module _ (old s left t : State) (found word word' : ℕ → ℕ) (A : Attached o
       by false is w = inl (kept_back is)
 
     served : IsServed t found
-    served = serving.served old t found cores made o f x known still later
+    served = serving.served old t found cores made o f end x known still later
 
-    report_told : told_in r ≡ told_by (report_in x)
-    report_told = apart.report_told old s left found word A once granted low refused P.recovered P.stands made x P.ran r finishes refusals
+    finishes_are : finishes_of r.finishes ≡ finishes_in 0 P.ran.ran.kept
+    finishes_are = finishes ∙ finishes_noted left P.ran.ran.kept y.outcome P.ran.comes
 
-    held : is_ended x.end ≡ false → (sink.now ≡ sink.before) ⊎ (known.more ≡ [])
+    refusals_are : r.refusals.items ≡ refusals_in 0 P.ran.ran.kept
+    refusals_are = refusals ∙ P.ran.comes.noted.refusals
+
+    report_told : told_in r ≡ told_by x
+    report_told = apart.report_told old s left found word A once granted low refused P.recovered P.stands made end P.ran.ran r finishes_are refusals_are
+
+    held : is_ended end ≡ false → (sink.now ≡ sink.before) ⊎ (known.more ≡ [])
     unfolding known
-    held cut = inr (apart.none_more old s left found word A once granted low refused P.recovered P.stands made x P.ran)
+    held cut = inr (apart.none_more old s left found word A once granted low refused P.recovered P.stands made end P.ran.ran)
 
     abbrev cores_ran : CoresRan old left found refused cores made r
-    cores_ran = apart.cores_ran old s left found word A once granted low refused P.recovered P.stands made x P.ran r finishes refusals
+    cores_ran = apart.cores_ran old s left found word A once granted low refused P.recovered P.stands made end P.ran.ran r finishes_are refusals_are
 
     -- The tally was written, or what of it could be.
-    module _ (w : EndsAs (All x.replies.items) (Front x.replies.items) x.end sink r.in_place r.status) where
+    module _ (w : EndsAs (All x.replies) (Front x.replies) end sink r.in_place r.status) where
       serves_then : Serves All Front old t found made sink r
-      serves_then = serving.serves old t found cores made o f x known still later All Front sink silent r w (front_of w) held lost unasked report_told refusals begun complete_is
+      serves_then = serving.serves old t found cores made o f end x known still later All Front sink silent r w (front_of w) held lost unasked report_told refusals_are begun complete_is
 
       ends_then : r.status ≡ statuses.RegionFault → r.complete ≡ true
-      ends_then = serving.ends_then old t found cores made o f x known still later All Front sink silent r w (front_of w) held lost unasked report_told refusals begun complete_is
+      ends_then = serving.ends_then old t found cores made o f end x known still later All Front sink silent r w (front_of w) held lost unasked report_told refusals_are begun complete_is
 
       loud : is_quiet r.status ≡ false
-      loud = answered_loud (All x.replies.items) (Front x.replies.items) x.end sink r.status r.in_place w
+      loud = answered_loud (All x.replies) (Front x.replies) end sink r.status r.in_place w
 
       not_quiet : (status : Status) → is_quiet status ≡ true → r.status ≡ status → ⊥
       not_quiet status quiet is = both (is_quiet r.status) (ap is_quiet is ∙ quiet) loud
 
       faults_then : CountsFaults old t none sink r.status
-      faults_then = serving.counts_faults old t found cores made o f x known still later All Front sink silent r w (front_of w) held lost unasked report_told refusals begun complete_is none
+      faults_then = serving.counts_faults old t found cores made o f end x known still later All Front sink silent r w (front_of w) held lost unasked report_told refusals_are begun complete_is none
 
       due_then : IsTelling t → IsDueOfLoad old t found sink r
       due_then telling = by r.in_place w where
-        by : (p : Bool) → EndsAs (All x.replies.items) (Front x.replies.items) x.end sink p r.status → IsDueOfLoad old t found sink r
+        by : (p : Bool) → EndsAs (All x.replies) (Front x.replies) end sink p r.status → IsDueOfLoad old t found sink r
         by true (inl v, any) = inl (v.0 ∙ sym (ap status_by (served telling)))
         by true (inr (inl v), any) = inr (inr (inr (v.0, faults_then.region_fault v.0)))
         by true (inr (inr (inl v)), any) = inr (inr (inl (v.0, v.2)))
@@ -389,35 +400,35 @@ module _ (old s left t : State) (found word word' : ℕ → ℕ) (A : Attached o
         began = λ begun. served;
         run = λ run. begun;
         written = λ complete. begun;
-        whole = λ whole. complete_is ∙ ap is_ended (whole_end (All x.replies.items) (Front x.replies.items) x.end sink r.status r.in_place w whole);
+        whole = λ whole. complete_is ∙ ap is_ended (whole_end (All x.replies) (Front x.replies) end sink r.status r.in_place w whole);
         due = due_then;
         broken = λ begun is. both (is_quiet r.status) (broken_quiet r.status is) loud;
       }
 
-      loaded_then : x.end ≢ ends.Memory → LoadedOnThreads old left found word' refused cores made sink r
+      loaded_then : end ≢ ends.Memory → LoadedOnThreads old left found word' refused cores made sink r
       loaded_then not_cut = record {
         all = cores_ran;
         ended = record {
-          answered = (P.ran.done not_cut).answered;
-          drained = (P.ran.done not_cut).drained;
-          stops = λ fault here. P.ran.fault (fault_end (All x.replies.items) (Front x.replies.items) x.end sink r.status r.in_place w fault here);
-          goes = λ whole. P.ran.complete (whole_end (All x.replies.items) (Front x.replies.items) x.end sink r.status r.in_place w whole);
+          answered = (P.ran.ran.done not_cut).answered;
+          drained = (P.ran.ran.done not_cut).drained;
+          stops = λ fault here. P.ran.ran.fault (fault_end (All x.replies) (Front x.replies) end sink r.status r.in_place w fault here);
+          goes = λ whole. P.ran.ran.complete (whole_end (All x.replies) (Front x.replies) end sink r.status r.in_place w whole);
         };
-        begins = subst Front P.ran.report.replies (front_of w);
-        writes = λ here out. subst All P.ran.report.replies (all_written (All x.replies.items) (Front x.replies.items) x.end sink r.status r.in_place w here out);
+        begins = front_of w;
+        writes = λ here out. (all_written (All x.replies) (Front x.replies) end sink r.status r.in_place w here out);
       }
 
     -- The words that were read behind the run break a rule.
-    module _ (here : r.in_place ≡ true) (whole : is_ended x.end ≡ true) (same : sink.now ≡ sink.before) (fault : Fault) (is : r.status ≡ fault_status fault) (broken : first_fault t.frame.bytes word' ≡ Some fault) where
+    module _ (here : r.in_place ≡ true) (whole : is_ended end ≡ true) (same : sink.now ≡ sink.before) (fault : Fault) (is : r.status ≡ fault_status fault) (broken : first_fault t.frame.bytes word' ≡ Some fault) where
       abbrev blank : CommandReport
       blank = record r { status = statuses.Memory }
 
-      blank_ends : EndsAs (All x.replies.items) (Front x.replies.items) x.end sink r.in_place statuses.Memory
-      blank_ends = subst (λ p. EndsAs (All x.replies.items) (Front x.replies.items) x.end sink p statuses.Memory) (sym here) (inr (inr (inr (refl, whole, inl same))), whole)
+      blank_ends : EndsAs (All x.replies) (Front x.replies) end sink r.in_place statuses.Memory
+      blank_ends = subst (λ p. EndsAs (All x.replies) (Front x.replies) end sink p statuses.Memory) (sym here) (inr (inr (inr (refl, whole, inl same))), whole)
 
       serves_none : Serves All Front old t found made sink r
       serves_none = broken_serves All Front old t found made sink r fault is here
-          (serving.serves old t found cores made o f x known still later All Front sink silent blank blank_ends (inl same) held lost unasked report_told refusals begun complete_is)
+          (serving.serves old t found cores made o f end x known still later All Front sink silent blank blank_ends (inl same) held lost unasked report_told refusals_are begun complete_is)
 
       not_run : (status : Status) → is_of_region status ≡ false → r.status ≡ status → ⊥
       not_run status isnt e = fault_apart fault status isnt (sym is ∙ e)
@@ -440,12 +451,12 @@ module _ (old s left t : State) (found word word' : ℕ → ℕ) (A : Attached o
         broken = λ begun is_broken. (fault, is, broken, untold);
       }
 
-      loaded_none : x.end ≢ ends.Memory → LoadedOnThreads old left found word' refused cores made sink r
+      loaded_none : end ≢ ends.Memory → LoadedOnThreads old left found word' refused cores made sink r
       loaded_none not_cut = record {
         all = cores_ran;
         ended = record {
-          answered = (P.ran.done not_cut).answered;
-          drained = (P.ran.done not_cut).drained;
+          answered = (P.ran.ran.done not_cut).answered;
+          drained = (P.ran.ran.done not_cut).drained;
           stops = λ failed. absurd (not_run statuses.RegionFault refl failed);
           goes = λ whole. both (is_whole r.status) whole (ap is_whole is ∙ (fault_no_run fault).1);
         };
@@ -461,8 +472,8 @@ module _ (old s left t : State) (found word word' : ℕ → ℕ) (A : Attached o
 
     loaded : r.complete ≡ true → LoadedOnThreads old left found word' refused cores made sink r
     loaded complete = elim shown [ inl w ↦ loaded_then w not_cut | inr b ↦ loaded_none b.0 b.1 b.2 b.3 b.4 b.5 not_cut ] where
-      not_cut : x.end ≢ ends.Memory
-      not_cut m = both (is_ended x.end) (sym complete_is ∙ complete) (ap is_ended m)
+      not_cut : end ≢ ends.Memory
+      not_cut m = both (is_ended end) (sym complete_is ∙ complete) (ap is_ended m)
 
     whole_then : r.status ≡ statuses.RegionFault → r.complete ≡ true
     whole_then failed = elim shown [ inl w ↦ ends_then w failed | inr b ↦ absurd (not_run b.0 b.1 b.2 b.3 b.4 b.5 statuses.RegionFault refl failed) ]
@@ -481,15 +492,15 @@ module _ (old s left t : State) (found word word' : ℕ → ℕ) (A : Attached o
     load_fault is = elim shown [ inl w ↦ (faults_then w).region_fault is | inr b ↦ absurd (not_run b.0 b.1 b.2 b.3 b.4 b.5 statuses.RegionFault refl is) ]
 
     pub asked_behind : AsksBehind MayRejoin r s t
-    asked_behind = record { left = left; done = inl P.ran.rejoined; asks = asks }
+    asked_behind = record { left = left; done = inl P.ran.ran.rejoined; asks = asks }
 
     pub same_bytes : t.frame.bytes ≡ s.frame.bytes
-    same_bytes = (asks_stays r.complete r.in_place left t asks).bytes ∙ P.ran.rejoined.bytes
+    same_bytes = (asks_stays r.complete r.in_place left t asks).bytes ∙ P.ran.ran.rejoined.bytes
 
     pub loads : LoadsOnThreads old t found word' refused start count sink r
     loads = record {
       cores = cores;
-      cores_are = λ n told. serving.cores_found old t found cores made o f x known still later (known.was n (told_still f.region t still n told));
+      cores_are = λ n told. serving.cores_found old t found cores made o f end x known still later (known.was n (told_still f.region t still n told));
       order = order;
       serves = serves;
       kept_back = kept_back;

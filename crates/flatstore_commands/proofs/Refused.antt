@@ -26,6 +26,7 @@ use Rattle.headline.proofs.Clients.{recorded}
 use Rattle.engine_core.specs.declared.run_report.Refusal.{Refusal}
 use Rattle.engine_core.specs.Answers.{reply_to}
 use Rattle.engine_core.specs.Reports.{as_told, ShowsWhy}
+use Rattle.flatstore_commands.specs.Finished.{finishes_of}
 use Rattle.flatstore_commands.specs.Ends.{SourceUse, SinkUse}
 use Rattle.flatstore_commands.specs.LastStates.{told_in, AreRising, WindsDown}
 use Rattle.flatstore_commands.specs.Ordering.{GoesInOrder, KeepsOrder, IsServed, due, IsDue, IsFault, status_of, is_broken, is_of_region, is_of_line, is_of_run, is_whole}
@@ -118,7 +119,7 @@ module _ (old s : State) (found : ℕ → ℕ) (A : Attached old s s.frame.bytes
   served_by cores u telling = let h = u telling in let f = core_found telling h.0 in (f.0, sym h.1 ∙ f.1)
 
 -- What is so of a report that answers nothing, on a region that says what it said when it was attached, whatever the status.
-module _ (old s : State) (found : ℕ → ℕ) (A : Attached old s s.frame.bytes found) (r : CommandReport) (fin : r.finishes.items ≡ []) (ref : r.refusals.items ≡ []) (cut : r.complete ≡ false) (trace : List Request) where
+module _ (old s : State) (found : ℕ → ℕ) (A : Attached old s s.frame.bytes found) (r : CommandReport) (fin : finishes_of r.finishes ≡ []) (ref : r.refusals.items ≡ []) (cut : r.complete ≡ false) (trace : List Request) where
   abbrev none : Told
   none = record { finishes = []; refusals = [] }
 
@@ -205,7 +206,7 @@ module _ (old s : State) (found : ℕ → ℕ) (A : Attached old s s.frame.bytes
   apart_from other unlike e = both (answers_none other) (sym (ap answers_none e) ∙ is_none) unlike
 
   -- What a run that answered nothing promises, by the input that it read, if any.
-  module _ (r : CommandReport) (is : r.status ≡ status) (fin : r.finishes.items ≡ []) (ref : r.refusals.items ≡ []) (unbegun : r.began ≡ false) (cut : r.complete ≡ false) (unplaced : r.in_place ≡ false) (sink : SinkUse) (same : sink.now ≡ sink.before) (cores : ℕ) (input : List ℕ)
+  module _ (r : CommandReport) (is : r.status ≡ status) (fin : finishes_of r.finishes ≡ []) (ref : r.refusals.items ≡ []) (unbegun : r.began ≡ false) (cut : r.complete ≡ false) (unplaced : r.in_place ≡ false) (sink : SinkUse) (same : sink.now ≡ sink.before) (cores : ℕ) (input : List ℕ)
       (count : IsTelling s → cores ≡ found 2) (line : is_of_line r.status ≡ true → IsServed s found × IsReadOut source.coming source.left × (r.status ≡ status_of (input_of cores input))) (fault : r.status ≡ statuses.SourceFault → IsServed s found)
       (judged : IsTelling s → IsDue s.frame.bytes found input r.status ⊎ IsFault old s source sink r.status) where
     no_status : (other : Status) → answers_none other ≡ false → r.status ≡ other → ⊥
@@ -257,7 +258,7 @@ module _ (old s : State) (found : ℕ → ℕ) (A : Attached old s s.frame.bytes
       | inr y ↦ elim y [ inl f ↦ f.1 | inr m ↦ absurd (memory_source (sym m ∙ e)) ]
     ]
 
-  pub refused_serves : (r : CommandReport) → r.status ≡ status → r.finishes.items ≡ [] → r.refusals.items ≡ [] → r.began ≡ false → r.complete ≡ false → r.in_place ≡ false → (sink : SinkUse) → sink.now ≡ sink.before
+  pub refused_serves : (r : CommandReport) → r.status ≡ status → finishes_of r.finishes ≡ [] → r.refusals.items ≡ [] → r.began ≡ false → r.complete ≡ false → r.in_place ≡ false → (sink : SinkUse) → sink.now ≡ sink.before
       → (input : List ℕ) × (cores : ℕ) × IsInput source.coming input × GoesInOrder old s found source cores input sink r × Serves (TakesReplies sink) (TakesFront sink) old s found (asked_in cores input) sink r
   refused_serves r is fin ref unbegun cut unplaced sink same = by U where
     in_status : (input : List ℕ) → IsDue s.frame.bytes found input status ⊎ IsFault old s source sink status → IsDue s.frame.bytes found input r.status ⊎ IsFault old s source sink r.status
@@ -291,7 +292,7 @@ module _ (old s : State) (found : ℕ → ℕ) (A : Attached old s s.frame.bytes
   pub refused_fault : (r : CommandReport) → r.status ≡ status → r.status ≡ statuses.RegionFault → ⊥
   refused_fault r is failed = apart_from statuses.RegionFault refl (sym is ∙ failed)
 
-  pub refused_replays : (r : CommandReport) → r.status ≡ status → r.finishes.items ≡ [] → r.refusals.items ≡ [] → r.began ≡ false → r.complete ≡ false → r.in_place ≡ false → (sink : SinkUse) → sink.now ≡ sink.before
+  pub refused_replays : (r : CommandReport) → r.status ≡ status → finishes_of r.finishes ≡ [] → r.refusals.items ≡ [] → r.began ≡ false → r.complete ≡ false → r.in_place ≡ false → (sink : SinkUse) → sink.now ≡ sink.before
       → (input : List ℕ) × (cores : ℕ) × IsInput source.coming input × Replays old s found source cores input sink r
   refused_replays r is fin ref unbegun cut unplaced sink same =
       let x = refused_serves r is fin ref unbegun cut unplaced sink same in

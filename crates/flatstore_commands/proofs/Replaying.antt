@@ -13,9 +13,10 @@ use Rattle.engine_laws.specs.Promises.{AnyTurn}
 use Rattle.engine_laws.specs.Ran.{Ran}
 use Rattle.engine_core.specs.declared.run_outcome.End.TheVariants as ends
 use Rattle.engine_core.specs.declared.run_outcome.Outcome.{Outcome}
-use Rattle.engine_core.specs.Endings.{report_in}
+use Rattle.engine_core.specs.Endings.{listed_in}
 use Rattle.engine_core.specs.Reports.{ReportsOn, as_told, told_by}
 use Rattle.engine_laws.proofs.Clients.{ran_given}
+use Rattle.flatstore_commands.specs.Finished.{finishes_of}
 use Rattle.flatstore_commands.specs.Attaching.{Runs, Asks}
 use Rattle.flatstore_commands.specs.Ends.{SourceUse, SinkUse, CountsFaults}
 use Rattle.flatstore_commands.specs.LastStates.{told_in, RanTo}
@@ -83,7 +84,7 @@ module _ (old s t : State) (found word : ℕ → ℕ) (A : Attached old s s.fram
   low_stamp : (n : ℕ) → o.region.stamp ≤ n
   low_stamp n = let same = ap (λ (z : State). z.stamp) began in let stamp = A.stamp in omega (arith, same, stamp)
 
-  pub known : Known old found cores trace o f x
+  pub known : Known old found cores trace o f x.end (listed_in x)
   known = record {
     attached = subst (λ (z : State). Attached old z z.frame.bytes found) (sym began) A;
     origin = P.ran.begins.is;
@@ -98,7 +99,7 @@ module _ (old s t : State) (found word : ℕ → ℕ) (A : Attached old s s.fram
     more = P.ran.given.0;
     given = read_trace cores input P.lines P.ready.read.good ∙ P.ran.given.1;
     all_given = given_whole;
-    reports = subst (λ z. ReportsOn z o f (report_in x)) (sym P.ran.region) P.ran.reports;
+    reports = subst (λ z. ReportsOn z o f (listed_in x)) (sym P.ran.region) P.ran.reports;
     done = P.ran.done;
     fault = P.ran.fault;
     whole = P.ran.complete;
@@ -108,8 +109,8 @@ module _ (old s t : State) (found word : ℕ → ℕ) (A : Attached old s s.fram
 
   -- The report is on the last state of the run, behind which the region was asked whether it is in its place.
   module _ (u : State) (sink : SinkUse) (r : CommandReport) (W : HasAnswered x sink r.in_place r.status) (asks : Asks r.complete r.in_place t u)
-      (finishes : r.finishes.items ≡ x.finishes.items) (refusals : r.refusals.items ≡ x.refusals.items) (begun : r.began ≡ true) (complete_is : r.complete ≡ is_ended x.end) where
-    report_told : told_in r ≡ told_by (report_in x)
+      (finishes : finishes_of r.finishes ≡ x.finishes.items) (refusals : r.refusals.items ≡ x.refusals.items) (begun : r.began ≡ true) (complete_is : r.complete ≡ is_ended x.end) where
+    report_told : told_in r ≡ told_by (listed_in x)
     report_told i = as_told (finishes i) (refusals i)
 
     asks_last : Asks r.complete r.in_place f.region u
@@ -142,17 +143,17 @@ module _ (old s t : State) (found word : ℕ → ℕ) (A : Attached old s s.fram
 
     replays : Replays old u found source cores input sink r
     replays = record {
-      order = in_order old u found cores trace o f x known still later (TakesReplies sink) (TakesFront sink) sink (silent_front sink) r ended front held lost unasked report_told refusals begun complete_is source input P.lines P.ready.read.good P.ready.read.whole;
-      serves = serves old u found cores trace o f x known still later (TakesReplies sink) (TakesFront sink) sink (silent_front sink) r ended front held lost unasked report_told refusals begun complete_is;
+      order = in_order old u found cores trace o f x.end (listed_in x) known still later (TakesReplies sink) (TakesFront sink) sink (silent_front sink) r ended front held lost unasked report_told refusals begun complete_is source input P.lines P.ready.read.good P.ready.read.whole;
+      serves = serves old u found cores trace o f x.end (listed_in x) known still later (TakesReplies sink) (TakesFront sink) sink (silent_front sink) r ended front held lost unasked report_told refusals begun complete_is;
       kept_back = λ whole gone. unplaced_same x sink r.status r.in_place W gone;
-      ends = ends_then old u found cores trace o f x known still later (TakesReplies sink) (TakesFront sink) sink (silent_front sink) r ended front held lost unasked report_told refusals begun complete_is;
+      ends = ends_then old u found cores trace o f x.end (listed_in x) known still later (TakesReplies sink) (TakesFront sink) sink (silent_front sink) r ended front held lost unasked report_told refusals begun complete_is;
       run = λ whole. running.ran_to old s t found word A once granted P.recovered P.ready.stands cores input P.lines P.ready.read.good x P.ran count u (asks_stays r.complete r.in_place t u asks) r finishes refusals sink W complete_is whole
           (subst (λ b. Asks b r.in_place t u) whole asks);
       broke = λ began cut. running.breaks_off old s t found word A once granted P.recovered P.ready.stands cores input P.lines P.ready.read.good x P.ran count u (asks_stays r.complete r.in_place t u asks) r finishes refusals (cut_end x.end (sym complete_is ∙ cut)) (subst (λ b. Asks b r.in_place t u) cut asks);
     }
 
     pub replay_counts : CountsFaults old u source sink r.status
-    replay_counts = counts_faults old u found cores trace o f x known still later (TakesReplies sink) (TakesFront sink) sink (silent_front sink) r ended front held lost unasked report_told refusals begun complete_is source
+    replay_counts = counts_faults old u found cores trace o f x.end (listed_in x) known still later (TakesReplies sink) (TakesFront sink) sink (silent_front sink) r ended front held lost unasked report_told refusals begun complete_is source
 
     pub promise : (input : List ℕ) × (cores : ℕ) × IsInput source.coming input × Replays old u found source cores input sink r
     promise = (input, cores, P.ready.read.is_input, replays)

@@ -26,6 +26,7 @@ use Rattle.engine_core.specs.declared.types.Stamped.{Stamped}
 use Rattle.engine_laws.specs.Engine.{Answer}
 use Rattle.std.specs.List.{slice_get}
 use Rattle.group_engine.specs.Runs.{RunState, CoreMoves, first_state, with_request}
+use Rattle.flatstore_commands.specs.Finished.{finishes_of}
 use Rattle.flatstore_commands.specs.Attaching.{GoesOnFrom, Runs, Asks}
 use Rattle.flatstore_commands.specs.Ends.{SinkUse}
 use Rattle.flatstore_commands.specs.LastStates.{Starts, Opens, ReportsKept, ReportsAnswers, RanTo, BreaksOff}
@@ -79,7 +80,7 @@ module _ (old s t : State) (found word : ℕ → ℕ) (A : Attached old s s.fram
         (subst (λ n. Ran CoreMoves with_request n lines (first_state o P.workers) last) count (P.ran not_cut))
 
   -- Behind the last state it may have been asked whether it is in its place.
-  module _ (u : State) (still : Stays t u) (r : CommandReport) (finishes : r.finishes.items ≡ x.finishes.items) (refusals : r.refusals.items ≡ x.refusals.items) where
+  module _ (u : State) (still : Stays t u) (r : CommandReport) (finishes : finishes_of r.finishes ≡ x.finishes.items) (refusals : r.refusals.items ≡ x.refusals.items) where
     abbrev pub from : GoesOnFrom old last.engine.region u.frame.bytes found
     from = record {
       at = s;

@@ -30,9 +30,7 @@ use Rattle.engine_laws.specs.Ceasing.{HasCeased}
 use Rattle.engine_laws.specs.Reports.{told_of, replies_from, AllAnswered}
 use Rattle.engine_core.specs.declared.run_outcome.End.{End}
 use Rattle.engine_core.specs.declared.run_outcome.End.TheVariants as ends
-use Rattle.engine_core.specs.declared.run_outcome.Outcome.{Outcome}
-use Rattle.engine_core.specs.Endings.{report_in}
-use Rattle.engine_core.specs.Reports.{ReportsOn, ShowsWhy, told_by}
+use Rattle.engine_core.specs.Reports.{Listed, ReportsOn, ShowsWhy, told_by}
 use Rattle.engine_core.specs.Answers.{reply_to}
 use Rattle.engine_core.specs.declared.run_report.Refusal.{Refusal}
 use Rattle.flatstore_commands.specs.Ends.{SourceUse, SinkUse, CountsFaults}
@@ -63,7 +61,7 @@ get_front (x ∷ xs) ys zero q e = e
 get_front (x ∷ xs) ys (suc n) q e = get_front xs ys n q e
 
 -- What is known of a run on a region that was attached, by the requests that were begun, whoever made the moves of its cores.
-pub record Known (old : State) (found : ℕ → ℕ) (cores : ℕ) (trace : List Request) (o : Origin) (f : Engine) (x : Outcome) : Type 0 where
+pub record Known (old : State) (found : ℕ → ℕ) (cores : ℕ) (trace : List Request) (o : Origin) (f : Engine) (end : End) (x : Listed) : Type 0 where
   pub attached : Attached old o.region o.region.frame.bytes found
   pub low : old.faults ≤ o.region.faults
   pub kept : o.region.faults ≤ f.region.faults
@@ -77,16 +75,16 @@ pub record Known (old : State) (found : ℕ → ℕ) (cores : ℕ) (trace : List
   pub promised : Promised o f
   pub more : List Request
   pub given : trace ≡ f.given ++ more
-  pub all_given : x.end ≢ ends.Memory → more ≡ []
-  pub reports : ReportsOn f.region o f (report_in x)
-  pub done : x.end ≢ ends.Memory → IsDone o f
-  pub fault : x.end ≡ ends.RegionFault → HasStopped f
-  pub whole : x.end ≡ ends.Complete → (c : ℕ) → c < f.layout.cores → f.stopped c ≡ false
-  pub ceased : x.end ≡ ends.Memory → HasCeased f
+  pub all_given : end ≢ ends.Memory → more ≡ []
+  pub reports : ReportsOn f.region o f x
+  pub done : end ≢ ends.Memory → IsDone o f
+  pub fault : end ≡ ends.RegionFault → HasStopped f
+  pub whole : end ≡ ends.Complete → (c : ℕ) → c < f.layout.cores → f.stopped c ≡ false
+  pub ceased : end ≡ ends.Memory → HasCeased f
   pub causes : HasCauses o.found (f.given ++ more) f.answer
 
 -- The region says what it said in the last state, but for its counts.
-module _ (old t : State) (found : ℕ → ℕ) (cores : ℕ) (trace : List Request) (o : Origin) (f : Engine) (x : Outcome) (K : Known old found cores trace o f x)
+module _ (old t : State) (found : ℕ → ℕ) (cores : ℕ) (trace : List Request) (o : Origin) (f : Engine) (end : End) (x : Listed) (K : Known old found cores trace o f end x)
     (still : Stays f.region t) (later : (n : ℕ) → n ≤ f.region.faults → Rose n f.region.faults → Rose n t.faults) where
   abbrev s : State
   s = o.region
@@ -129,9 +127,9 @@ module _ (old t : State) (found : ℕ → ℕ) (cores : ℕ) (trace : List Reque
   trace_is = K.given
 
   -- of a report on it, and what was written
-  module _ (All Front : List Reply → Type 0) (sink : SinkUse) (silent : sink.now ≡ sink.before → (replies : List Reply) → Front replies) (r : CommandReport) (W : EndsAs (All x.replies.items) (Front x.replies.items) x.end sink r.in_place r.status)
-      (front : Front x.replies.items) (held : is_ended x.end ≡ false → (sink.now ≡ sink.before) ⊎ (K.more ≡ []))
-      (lost : r.complete ≡ true → r.in_place ≡ false → Rose old.faults t.faults) (unasked : r.complete ≡ false → f.region ≡ t) (report_told : told_in r ≡ told_by (report_in x)) (report_refused : r.refusals.items ≡ x.refusals.items) (report_began : r.began ≡ true) (report_complete : r.complete ≡ is_ended x.end) where
+  module _ (All Front : List Reply → Type 0) (sink : SinkUse) (silent : sink.now ≡ sink.before → (replies : List Reply) → Front replies) (r : CommandReport) (W : EndsAs (All x.replies) (Front x.replies) end sink r.in_place r.status)
+      (front : Front x.replies) (held : is_ended end ≡ false → (sink.now ≡ sink.before) ⊎ (K.more ≡ []))
+      (lost : r.complete ≡ true → r.in_place ≡ false → Rose old.faults t.faults) (unasked : r.complete ≡ false → f.region ≡ t) (report_told : told_in r ≡ told_by x) (report_refused : r.refusals.items ≡ x.refusals) (report_began : r.began ≡ true) (report_complete : r.complete ≡ is_ended end) where
     pub told_is : told_in r ≡ told_of f
     told_is = report_told ∙ K.reports.told_is
 
@@ -154,38 +152,38 @@ module _ (old t : State) (found : ℕ → ℕ) (cores : ℕ) (trace : List Reque
     abbrev FrontMayStop : Type 0
     FrontMayStop = r.complete ≡ true → Rose old.faults t.faults
 
-    pub ended : is_ended x.end ≡ true → x.end ≢ ends.Memory
-    ended is m = both (is_ended x.end) is (ap is_ended m)
+    pub ended : is_ended end ≡ true → end ≢ ends.Memory
+    ended is m = both (is_ended end) is (ap is_ended m)
 
-    completed : x.end ≡ ends.Complete → x.end ≢ ends.Memory
+    completed : end ≡ ends.Complete → end ≢ ends.Memory
     completed e m = cc (sym e ∙ m)
 
-    faulted : x.end ≡ ends.RegionFault → x.end ≢ ends.Memory
+    faulted : end ≡ ends.RegionFault → end ≢ ends.Memory
     faulted e m = cc (sym e ∙ m)
 
-    never : x.end ≡ ends.Complete → HasStopped f → ⊥
+    never : end ≡ ends.Complete → HasStopped f → ⊥
     never e h = both (f.stopped h.0) h.2 (K.whole e h.0 h.1)
 
     -- of a run that came to its end
-    module _ (not_cut : x.end ≢ ends.Memory) where
+    module _ (not_cut : end ≢ ends.Memory) where
       given_all : f.given ++ K.more ≡ f.given
       given_all = ap (λ m. f.given ++ m) (K.all_given not_cut) ∙ append-nil f.given
 
-      said_whole : (MayStop : Type 0) → (HasStopped f → MayStop) → Answers (IsTelling t) (cells_of found) trace (told_in r) MayStop x.replies.items
-      said_whole MayStop to = said_of MayStop (AllAnswered f → HasStopped f) x.replies.items
-          (subst (λ q. Answers (IsTelling f.region) (start_of o) q (told_of f) (AllAnswered f → HasStopped f) x.replies.items) (sym given_all) K.reports.answers) (λ h. to (h (K.done not_cut).answered))
+      said_whole : (MayStop : Type 0) → (HasStopped f → MayStop) → Answers (IsTelling t) (cells_of found) trace (told_in r) MayStop x.replies
+      said_whole MayStop to = said_of MayStop (AllAnswered f → HasStopped f) x.replies
+          (subst (λ q. Answers (IsTelling f.region) (start_of o) q (told_of f) (AllAnswered f → HasStopped f) x.replies) (sym given_all) K.reports.answers) (λ h. to (h (K.done not_cut).answered))
 
-      text_of : (MayStop : Type 0) → (HasStopped f → MayStop) → All x.replies.items → Says All (IsTelling t) (cells_of found) trace (told_in r) MayStop
-      text_of MayStop to out = (x.replies.items, said_whole MayStop to, out)
+      text_of : (MayStop : Type 0) → (HasStopped f → MayStop) → All x.replies → Says All (IsTelling t) (cells_of found) trace (told_in r) MayStop
+      text_of MayStop to out = (x.replies, said_whole MayStop to, out)
 
-      front_of : (MayStop : Type 0) → (HasStopped f → MayStop) → Front x.replies.items → Says Front (IsTelling t) (cells_of found) trace (told_in r) MayStop
-      front_of MayStop to out = (x.replies.items, said_whole MayStop to, out)
+      front_of : (MayStop : Type 0) → (HasStopped f → MayStop) → Front x.replies → Says Front (IsTelling t) (cells_of found) trace (told_in r) MayStop
+      front_of MayStop to out = (x.replies, said_whole MayStop to, out)
 
     abbrev Beginning : Type 0
     Beginning = Says Front (IsTelling t) (cells_of found) trace (told_in r) FrontMayStop
 
     -- of a run that didn't, each request without an answer counts as one that is stopped
-    cut_front : is_ended x.end ≡ false → sink.now ≡ sink.before → Beginning
+    cut_front : is_ended end ≡ false → sink.now ≡ sink.before → Beginning
     cut_front cut same = (
       replies_from f.answer 0 (length (f.given ++ K.more)),
       said_of FrontMayStop (AllAnswered f → K.more ≡ [] → HasStopped f) (replies_from f.answer 0 (length (f.given ++ K.more))) (K.promised.replies K.more) (λ any complete. both r.complete complete (report_complete ∙ cut)),
@@ -193,23 +191,23 @@ module _ (old t : State) (found : ℕ → ℕ) (cores : ℕ) (trace : List Reque
     )
 
     -- also where a part of it went out, and all were given
-    cut_text : is_ended x.end ≡ false → K.more ≡ [] → Beginning
+    cut_text : is_ended end ≡ false → K.more ≡ [] → Beginning
     cut_text cut none = (
-      x.replies.items,
-      said_of FrontMayStop (AllAnswered f → HasStopped f) x.replies.items
-          (subst (λ q. Answers (IsTelling f.region) (start_of o) q (told_of f) (AllAnswered f → HasStopped f) x.replies.items) (sym (ap (λ m. f.given ++ m) none ∙ append-nil f.given)) K.reports.answers)
+      x.replies,
+      said_of FrontMayStop (AllAnswered f → HasStopped f) x.replies
+          (subst (λ q. Answers (IsTelling f.region) (start_of o) q (told_of f) (AllAnswered f → HasStopped f) x.replies) (sym (ap (λ m. f.given ++ m) none ∙ append-nil f.given)) K.reports.answers)
           (λ any complete. both r.complete complete (report_complete ∙ cut)),
       front,
     )
 
-    begun : (ended_is : Bool) → is_ended x.end ≡ ended_is → Beginning
+    begun : (ended_is : Bool) → is_ended end ≡ ended_is → Beginning
     begun true is = front_of (ended is) FrontMayStop (λ h complete. risen h) front
     begun false cut = elim (held cut) [ inl same ↦ cut_front cut same | inr none ↦ cut_text cut none ]
 
     -- the statuses that it cannot have
     no_status : (Q : Status → Bool) → Q statuses.Done ≡ false → Q statuses.RegionFault ≡ false → Q statuses.SinkFault ≡ false → Q statuses.Memory ≡ false → Q r.status ≡ true → ⊥
     no_status Q done failed sunk memory is = by r.in_place W where
-      by : (p : Bool) → EndsAs (All x.replies.items) (Front x.replies.items) x.end sink p r.status → ⊥
+      by : (p : Bool) → EndsAs (All x.replies) (Front x.replies) end sink p r.status → ⊥
       by true (inl w, any) = both (Q r.status) is (ap Q w.0 ∙ done)
       by true (inr (inl w), any) = both (Q r.status) is (ap Q w.0 ∙ failed)
       by true (inr (inr (inl w)), any) = both (Q r.status) is (ap Q w.0 ∙ sunk)
@@ -219,7 +217,7 @@ module _ (old t : State) (found : ℕ → ℕ) (cores : ℕ) (trace : List Reque
 
     written : r.status ≡ statuses.Done → Says All (IsTelling t) (cells_of found) trace (told_in r) ⊥ × (sink.flushed ≡ true)
     written done = by r.in_place W where
-      by : (p : Bool) → EndsAs (All x.replies.items) (Front x.replies.items) x.end sink p r.status → Says All (IsTelling t) (cells_of found) trace (told_in r) ⊥ × (sink.flushed ≡ true)
+      by : (p : Bool) → EndsAs (All x.replies) (Front x.replies) end sink p r.status → Says All (IsTelling t) (cells_of found) trace (told_in r) ⊥ × (sink.flushed ≡ true)
       by true (inl w, any) = (text_of (completed w.1) ⊥ (never w.1) w.2, w.3)
       by true (inr (inl w), any) = cc (sym done ∙ w.0)
       by true (inr (inr (inl w)), any) = cc (sym done ∙ w.0)
@@ -229,7 +227,7 @@ module _ (old t : State) (found : ℕ → ℕ) (cores : ℕ) (trace : List Reque
 
     written_failed : r.status ≡ statuses.RegionFault → r.in_place ≡ true → (Rose sink.faults sink.faults' → ⊥) → Says All (IsTelling t) (cells_of found) trace (told_in r) (Rose old.faults t.faults) × (sink.flushed ≡ true)
     written_failed failed here steady = by r.in_place here W where
-      by : (p : Bool) → p ≡ true → EndsAs (All x.replies.items) (Front x.replies.items) x.end sink p r.status → Says All (IsTelling t) (cells_of found) trace (told_in r) (Rose old.faults t.faults) × (sink.flushed ≡ true)
+      by : (p : Bool) → p ≡ true → EndsAs (All x.replies) (Front x.replies) end sink p r.status → Says All (IsTelling t) (cells_of found) trace (told_in r) (Rose old.faults t.faults) × (sink.flushed ≡ true)
       by true is (inl w, any) = cc (sym failed ∙ w.0)
       by true is (inr (inl w), any) = elim w.2 [
         | inl all ↦ (text_of (faulted w.1) (Rose old.faults t.faults) risen all.0, all.1)
@@ -241,7 +239,7 @@ module _ (old t : State) (found : ℕ → ℕ) (cores : ℕ) (trace : List Reque
 
     written_sunk : r.status ≡ statuses.SinkFault → Says Front (IsTelling t) (cells_of found) trace (told_in r) ⊥
     written_sunk sunk = by r.in_place W where
-      by : (p : Bool) → EndsAs (All x.replies.items) (Front x.replies.items) x.end sink p r.status → Says Front (IsTelling t) (cells_of found) trace (told_in r) ⊥
+      by : (p : Bool) → EndsAs (All x.replies) (Front x.replies) end sink p r.status → Says Front (IsTelling t) (cells_of found) trace (told_in r) ⊥
       by true (inl w, any) = cc (sym sunk ∙ w.0)
       by true (inr (inl w), any) = cc (sym sunk ∙ w.0)
       by true (inr (inr (inl w)), any) = front_of (completed w.1) ⊥ (never w.1) w.3
@@ -249,9 +247,9 @@ module _ (old t : State) (found : ℕ → ℕ) (cores : ℕ) (trace : List Reque
       by false (inl cut) = cc (sym sunk ∙ cut.0)
       by false (inr out) = cc (sym sunk ∙ out.0)
 
-    whole_ends : is_whole r.status ≡ true → x.end ≡ ends.Complete
+    whole_ends : is_whole r.status ≡ true → end ≡ ends.Complete
     whole_ends whole = by r.in_place W where
-      by : (p : Bool) → EndsAs (All x.replies.items) (Front x.replies.items) x.end sink p r.status → x.end ≡ ends.Complete
+      by : (p : Bool) → EndsAs (All x.replies) (Front x.replies) end sink p r.status → end ≡ ends.Complete
       by true (inl w, any) = w.1
       by true (inr (inl w), any) = both (is_whole r.status) whole (ap is_whole w.0)
       by true (inr (inr (inl w)), any) = w.1
@@ -262,13 +260,13 @@ module _ (old t : State) (found : ℕ → ℕ) (cores : ℕ) (trace : List Reque
     -- Where the region was in its place, the run came to its end; where it was not, though the run did, that was a fault.
     asked_then : r.in_place ≡ true → r.complete ≡ true
     asked_then here = by r.in_place here W where
-      by : (p : Bool) → p ≡ true → EndsAs (All x.replies.items) (Front x.replies.items) x.end sink p r.status → r.complete ≡ true
+      by : (p : Bool) → p ≡ true → EndsAs (All x.replies) (Front x.replies) end sink p r.status → r.complete ≡ true
       by true is w = report_complete ∙ w.1
       by false is w = cc is
 
     kept_back : r.complete ≡ true → r.in_place ≡ false → r.status ≡ statuses.RegionFault
     kept_back complete gone = by r.in_place gone W where
-      by : (p : Bool) → p ≡ false → EndsAs (All x.replies.items) (Front x.replies.items) x.end sink p r.status → r.status ≡ statuses.RegionFault
+      by : (p : Bool) → p ≡ false → EndsAs (All x.replies) (Front x.replies) end sink p r.status → r.status ≡ statuses.RegionFault
       by true is w = cc (sym is)
       by false is (inl cut) = both r.complete complete (report_complete ∙ cut.1)
       by false is (inr out) = out.0
@@ -276,7 +274,7 @@ module _ (old t : State) (found : ℕ → ℕ) (cores : ℕ) (trace : List Reque
     -- a fault of the region that was counted
     failed_rose : r.status ≡ statuses.RegionFault → Rose old.faults t.faults
     failed_rose failed = by r.in_place refl W where
-      by : (p : Bool) → r.in_place ≡ p → EndsAs (All x.replies.items) (Front x.replies.items) x.end sink p r.status → Rose old.faults t.faults
+      by : (p : Bool) → r.in_place ≡ p → EndsAs (All x.replies) (Front x.replies) end sink p r.status → Rose old.faults t.faults
       by true is (inl w, any) = cc (sym failed ∙ w.0)
       by true is (inr (inl w), any) = risen (K.fault w.1)
       by true is (inr (inr (inl w)), any) = cc (sym failed ∙ w.0)
@@ -353,11 +351,11 @@ module _ (old t : State) (found : ℕ → ℕ) (cores : ℕ) (trace : List Reque
     -- The refusals are those of requests of the input.
     counts_then : AllByRecursion (ShowsWhy trace) r.refusals.items
     counts_then = subst (AllByRecursion (ShowsWhy trace)) (sym report_refused)
-        (subst (λ q. AllByRecursion (ShowsWhy q) x.refusals.items) (sym trace_is) (all_map (ShowsWhy f.given) (ShowsWhy (f.given ++ K.more)) (λ y why. (why.0, get_front f.given K.more y.request why.0 why.1, why.2)) x.refusals.items K.reports.counts))
+        (subst (λ q. AllByRecursion (ShowsWhy q) x.refusals) (sym trace_is) (all_map (ShowsWhy f.given) (ShowsWhy (f.given ++ K.more)) (λ y why. (why.0, get_front f.given K.more y.request why.0 why.1, why.2)) x.refusals K.reports.counts))
 
     -- there was no memory before the end
     short_then : r.complete ≡ false → WindsDown t r
-    short_then cut = record { state = f; region = unasked cut; ceased = K.ceased (cut_end x.end (sym report_complete ∙ cut)); told_is = told_is }
+    short_then cut = record { state = f; region = unasked cut; ceased = K.ceased (cut_end end (sym report_complete ∙ cut)); told_is = told_is }
 
     pub serves : Serves All Front old t found trace sink r
     serves = record {
@@ -366,7 +364,7 @@ module _ (old t : State) (found : ℕ → ℕ) (cores : ℕ) (trace : List Reque
       done = written;
       failed = written_failed;
       sunk = written_sunk;
-      begins = begun (is_ended x.end) refl;
+      begins = begun (is_ended end) refl;
       crash = λ sound. crash_then;
       last = recovers_all;
       rising = subst (λ (z : Told). AreRising (finished_in z) × AreRising (refused_in z)) (sym told_is) (rising is_finish (λ a. a.stamp) f.answer 0 (length f.given), rising is_told (λ a. a.reply) f.answer 0 (length f.given));
@@ -387,7 +385,7 @@ module _ (old t : State) (found : ℕ → ℕ) (cores : ℕ) (trace : List Reque
     } where
       sunk_rose : r.status ≡ statuses.SinkFault → Rose sink.faults sink.faults'
       sunk_rose sunk = by r.in_place W where
-        by : (p : Bool) → EndsAs (All x.replies.items) (Front x.replies.items) x.end sink p r.status → Rose sink.faults sink.faults'
+        by : (p : Bool) → EndsAs (All x.replies) (Front x.replies) end sink p r.status → Rose sink.faults sink.faults'
         by true (inl w, any) = cc (sym sunk ∙ w.0)
         by true (inr (inl w), any) = cc (sym sunk ∙ w.0)
         by true (inr (inr (inl w)), any) = w.2
@@ -398,7 +396,7 @@ module _ (old t : State) (found : ℕ → ℕ) (cores : ℕ) (trace : List Reque
     -- A call of the region that failed doesn't keep it from its end.
     pub ends_then : r.status ≡ statuses.RegionFault → r.complete ≡ true
     ends_then failed = by r.in_place W where
-      by : (p : Bool) → EndsAs (All x.replies.items) (Front x.replies.items) x.end sink p r.status → r.complete ≡ true
+      by : (p : Bool) → EndsAs (All x.replies) (Front x.replies) end sink p r.status → r.complete ≡ true
       by true w = report_complete ∙ w.1
       by false (inl cut) = cc (sym failed ∙ cut.0)
       by false (inr out) = report_complete ∙ out.1
@@ -420,7 +418,7 @@ module _ (old t : State) (found : ℕ → ℕ) (cores : ℕ) (trace : List Reque
       -- the status that is due
       due_of : IsTelling t → IsDue t.frame.bytes found input r.status ⊎ IsFault old t source sink r.status
       due_of telling = by r.in_place W where
-        by : (p : Bool) → EndsAs (All x.replies.items) (Front x.replies.items) x.end sink p r.status → IsDue t.frame.bytes found input r.status ⊎ IsFault old t source sink r.status
+        by : (p : Bool) → EndsAs (All x.replies) (Front x.replies) end sink p r.status → IsDue t.frame.bytes found input r.status ⊎ IsFault old t source sink r.status
         by true (inl w, any) =
             let sound : first_fault t.frame.bytes found ≡ None = served telling in
             inl (w.0 ∙ sym (ap (due found input) sound ∙ ap (λ c. status_of (input_of c input)) (sym (cores_found (telling_then telling))) ∙ ap status_of good))

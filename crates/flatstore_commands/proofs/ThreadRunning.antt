@@ -21,15 +21,14 @@ use Rattle.engine_laws.specs.Stands.{Origin}
 use Rattle.engine_laws.specs.Ran as runs
 use Rattle.engine_core.specs.declared.run_outcome.End.{End}
 use Rattle.engine_core.specs.declared.run_outcome.End.TheVariants as ends
-use Rattle.engine_core.specs.declared.run_outcome.Outcome.{Outcome}
-use Rattle.engine_core.specs.Endings.{report_in}
-use Rattle.engine_core.specs.Reports.{ReportsOn, reply_in, as_told, told_by}
+use Rattle.engine_core.specs.Reports.{Listed, ReportsOn, reply_in, listed_of, finishes_in, refusals_in, as_told, told_by}
 use Rattle.thread_engine.specs.declared.run_to_sink.SinkRun.{SinkRun}
 use Rattle.thread_engine.specs.declared.text_outlet.Unwritten.{Unwritten}
 use Rattle.thread_engine.specs.declared.text_outlet.Unwritten.TheVariants.{Astray, SinkFault, Memory}
 use Rattle.thread_engine.specs.Collected.{had_memory}
 use Rattle.thread_engine.specs.Printed.{RanToSink}
 use Rattle.thread_engine.specs.RanApart.{Rejoined}
+use Rattle.flatstore_commands.specs.Finished.{finishes_of, finishes_from}
 use Rattle.flatstore_commands.specs.Attaching.{GoesOnBy, Asks, AsksMeanwhile, AttachesToSplit}
 use Rattle.flatstore_commands.specs.Ends.{SourceUse, SinkUse, IsAllOut, CountsFaults}
 use Rattle.flatstore_commands.specs.LastStates.{told_in}
@@ -43,6 +42,7 @@ use Rattle.flatstore_commands.specs.declared.report.Status.TheVariants as status
 use Rattle.flatstore_commands.specs.declared.report.CommandReport.{CommandReport}
 use Rattle.flatstore_commands.specs.declared.run_threads.NotRun.{NotRun}
 use Rattle.flatstore_commands.specs.declared.run_threads.NotRun.TheVariants.{Refused, Unsplit}
+use Rattle.flatstore_commands.proofs.FinishesNoted.{finishes_noted}
 use Rattle.flatstore_commands.proofs.Apart as apart
 use Rattle.flatstore_commands.proofs.Inputs.{read_trace}
 use Rattle.flatstore_commands.proofs.Refused.{served_by, apart_from, told_now, none_serves, refused_serves, refused_fault, refused_source}
@@ -144,7 +144,7 @@ module _ (old s t : State) (found word : ℕ → ℕ) (A : Attached old s s.fram
   pub why_sink : status_for why ≡ statuses.SinkFault → ⊥
   why_sink e = sink_by why N.cause e
 
-  module _ (r : CommandReport) (fin : r.finishes.items ≡ []) (ref : r.refusals.items ≡ []) (cut : r.complete ≡ false) (unplaced : r.in_place ≡ false) (sink : SinkUse) (same : sink.now ≡ sink.before) (refused : Bool) where
+  module _ (r : CommandReport) (fin : finishes_of r.finishes ≡ []) (ref : r.refusals.items ≡ []) (cut : r.complete ≡ false) (unplaced : r.in_place ≡ false) (sink : SinkUse) (same : sink.now ≡ sink.before) (refused : Bool) where
     abbrev Promised : Type 0
     Promised = (input : List ℕ) × (cores : ℕ) × IsInput source.coming input × RunsOnThreads old t found source refused cores input sink r
 
@@ -260,12 +260,12 @@ unwritten_none end (Some Memory) sink sunk here (inr out) = cc out.0
 
 -- and the status says what was written
 ends_as : (s : State) (word : ℕ → ℕ) (refused : Bool) (r : Recovered) (asked : List Request) (t : State) (sink : SinkUse) (y : SinkRun)
-    → RanToSink sink.before sink.now sink.flushed sink.faults sink.faults' s word refused r asked t y → EndsAs (TakesReplies sink y.outcome.replies.items) (TakesFront sink y.outcome.replies.items) y.outcome.end sink (is_placed y.outcome.end y.unwritten) (ran_as y.outcome.end y.unwritten)
+    → (W : RanToSink sink.before sink.now sink.flushed sink.faults sink.faults' s word refused r asked t y) → EndsAs (TakesReplies sink (map reply_in W.ran.kept)) (TakesFront sink (map reply_in W.ran.kept)) y.outcome.end sink (is_placed y.outcome.end y.unwritten) (ran_as y.outcome.end y.unwritten)
 ends_as s word refused r asked t sink y W = by y.outcome.end y.unwritten refl refl where
   none_lacks : {w : Unwritten} → y.outcome.end ≡ ends.Memory → y.unwritten ≡ Some w → ⊥
   none_lacks e f = cc (sym (W.memory e) ∙ f)
 
-  by : (end : End) (why : Option Unwritten) → y.outcome.end ≡ end → y.unwritten ≡ why → EndsAs (TakesReplies sink y.outcome.replies.items) (TakesFront sink y.outcome.replies.items) y.outcome.end sink (is_placed end why) (ran_as end why)
+  by : (end : End) (why : Option Unwritten) → y.outcome.end ≡ end → y.unwritten ≡ why → EndsAs (TakesReplies sink (map reply_in W.ran.kept)) (TakesFront sink (map reply_in W.ran.kept)) y.outcome.end sink (is_placed end why) (ran_as end why)
   by ends.Complete None e f = (let out = W.writes (ap had_memory e) f in (inl (refl, e, out.0, out.1), ap is_ended e))
   by ends.RegionFault None e f = (let out = W.writes (ap had_memory e) f in (inr (inl (refl, e, inl (out.0, out.1))), ap is_ended e))
   by ends.Memory None e f = inl (refl, ap is_ended e)
@@ -282,8 +282,12 @@ ends_as s word refused r asked t sink y W = by y.outcome.end y.unwritten refl re
 -- All cores ran.
 module _ (old s t : State) (found word : ℕ → ℕ) (A : Attached old s s.frame.bytes found) (once : IsOpenedOnceMore old s) (granted : s.frame.refusals ≡ old.frame.refusals) (low : old.faults ≤ s.faults) (refused : Bool) (source : SourceUse) (sink : SinkUse) (y : SinkRun)
     (P : PlayedApart s word refused t source sink y) where
-  abbrev x : Outcome
-  x = y.outcome
+  abbrev end : End
+  end = y.outcome.end
+
+  -- what its answers list
+  abbrev x : Listed
+  x = listed_of P.ran.ran.kept
 
   -- the requests that were begun
   abbrev trace : List Request
@@ -301,48 +305,51 @@ module _ (old s t : State) (found word : ℕ → ℕ) (A : Attached old s s.fram
   abbrev input : List ℕ
   input = P.ready.read.input
 
-  known : Known old found cores trace o f x
-  known = apart.known old s t found word A once granted low refused P.recovered P.ready.stands trace x P.ran.ran
+  known : Known old found cores trace o f end x
+  known = apart.known old s t found word A once granted low refused P.recovered P.ready.stands trace end P.ran.ran
 
   -- The report is on the last state of the cores, which is the region's.
-  module _ (r : CommandReport) (status_is : r.status ≡ ran_as x.end y.unwritten) (placed : r.in_place ≡ is_placed x.end y.unwritten)
-      (finishes : r.finishes.items ≡ x.finishes.items) (refusals : r.refusals.items ≡ x.refusals.items) (begun : r.began ≡ true) (complete_is : r.complete ≡ is_ended x.end) where
+  module _ (r : CommandReport) (status_is : r.status ≡ ran_as end y.unwritten) (placed : r.in_place ≡ is_placed end y.unwritten)
+      (finishes : finishes_of r.finishes ≡ finishes_from 0 y.outcome.notes.finished.items y.outcome.stamp) (refusals : r.refusals.items ≡ y.outcome.notes.refusals.items) (begun : r.began ≡ true) (complete_is : r.complete ≡ is_ended end) where
     stays : Stays f.region t
-    stays = apart.stays old s t found word A once granted low refused P.recovered P.ready.stands trace x P.ran.ran
+    stays = apart.stays old s t found word A once granted low refused P.recovered P.ready.stands trace end P.ran.ran
 
     later : (n : ℕ) → n ≤ f.region.faults → Rose n f.region.faults → Rose n t.faults
-    later = apart.later old s t found word A once granted low refused P.recovered P.ready.stands trace x P.ran.ran
+    later = apart.later old s t found word A once granted low refused P.recovered P.ready.stands trace end P.ran.ran
 
     unasked : r.complete ≡ false → f.region ≡ t
     unasked cut = P.ran.ran.region
 
     lost : r.complete ≡ true → r.in_place ≡ false → Rose old.faults t.faults
     lost complete gone =
-        let rose = P.ran.astray (astray_by x.end y.unwritten (sym complete_is ∙ complete) (sym placed ∙ gone)) in
+        let rose = P.ran.astray (astray_by end y.unwritten (sym complete_is ∙ complete) (sym placed ∙ gone)) in
         omega (arith, low, rose)
 
-    ended : EndsAs (TakesReplies sink x.replies.items) (TakesFront sink x.replies.items) x.end sink r.in_place r.status
-    ended = subst (λ p. EndsAs (TakesReplies sink x.replies.items) (TakesFront sink x.replies.items) x.end sink p r.status) (sym placed) (subst (EndsAs (TakesReplies sink x.replies.items) (TakesFront sink x.replies.items) x.end sink (is_placed x.end y.unwritten)) (sym status_is) (ends_as s word refused P.recovered (runs.asked_in P.lines) t sink y P.ran))
+    ended : EndsAs (TakesReplies sink x.replies) (TakesFront sink x.replies) end sink r.in_place r.status
+    ended = subst (λ p. EndsAs (TakesReplies sink x.replies) (TakesFront sink x.replies) end sink p r.status) (sym placed) (subst (EndsAs (TakesReplies sink x.replies) (TakesFront sink x.replies) end sink (is_placed end y.unwritten)) (sym status_is) (ends_as s word refused P.recovered (runs.asked_in P.lines) t sink y P.ran))
 
-    held : is_ended x.end ≡ false → (sink.now ≡ sink.before) ⊎ (known.more ≡ [])
+    held : is_ended end ≡ false → (sink.now ≡ sink.before) ⊎ (known.more ≡ [])
     unfolding known
-    held cut = inr (apart.none_more old s t found word A once granted low refused P.recovered P.ready.stands trace x P.ran.ran)
+    held cut = inr (apart.none_more old s t found word A once granted low refused P.recovered P.ready.stands trace end P.ran.ran)
 
     pub meanwhile : AsksMeanwhile r s t
     meanwhile = record {
       done = inl P.ran.ran.rejoined;
-      found = λ here. P.ran.found (memory_by x.end y.unwritten (sym placed ∙ here)) (unastray x.end y.unwritten (sym placed ∙ here));
-      lost = λ complete gone. P.ran.astray (astray_by x.end y.unwritten (sym complete_is ∙ complete) (sym placed ∙ gone));
+      found = λ here. P.ran.found (memory_by end y.unwritten (sym placed ∙ here)) (unastray end y.unwritten (sym placed ∙ here));
+      lost = λ complete gone. P.ran.astray (astray_by end y.unwritten (sym complete_is ∙ complete) (sym placed ∙ gone));
     }
 
-    report_told : told_in r ≡ told_by (report_in x)
-    report_told i = as_told (finishes i) (refusals i)
+    finishes_are : finishes_of r.finishes ≡ finishes_in 0 P.ran.ran.kept
+    finishes_are = finishes ∙ finishes_noted t P.ran.ran.kept y.outcome P.ran.comes
 
-    text_is : replies_text x.replies.items ≡ replies_text (map reply_in P.ran.ran.kept)
-    text_is = ap replies_text P.ran.ran.report.replies
+    refusals_are : r.refusals.items ≡ refusals_in 0 P.ran.ran.kept
+    refusals_are = refusals ∙ P.ran.comes.noted.refusals
+
+    report_told : told_in r ≡ told_by x
+    report_told i = as_told (finishes_are i) (refusals_are i)
 
     abbrev cores_ran : CoresRan old t found refused cores trace r
-    cores_ran = apart.cores_ran old s t found word A once granted low refused P.recovered P.ready.stands trace x P.ran.ran r finishes refusals
+    cores_ran = apart.cores_ran old s t found word A once granted low refused P.recovered P.ready.stands trace end P.ran.ran r finishes_are refusals_are
 
     by_windows : WorkedInWindows old t found refused cores input trace sink r
     by_windows = record {
@@ -353,58 +360,47 @@ module _ (old s t : State) (found word : ℕ → ℕ) (A : Attached old s s.fram
       behind = P.ran.behind;
       unasked = P.ran.unasked;
       asked_since = P.ran.asked_since;
-      out = record {
-        windows = P.ran.out.windows;
-        full = P.ran.out.full;
-        last = P.ran.out.last;
-        few = P.ran.out.few;
-        rest = P.ran.out.rest;
-        split = sym P.ran.ran.report.replies ∙ P.ran.out.split;
-        at = P.ran.out.at;
-        mid = P.ran.out.mid;
-        whole = P.ran.out.whole;
-        front = P.ran.out.front;
-      };
+      out = P.ran.out;
       between = P.ran.between;
-      behind_all = λ complete. P.ran.ended (memory_of x.end (sym complete_is ∙ complete));
+      behind_all = λ complete. P.ran.ended (memory_of end (sym complete_is ∙ complete));
     }
 
     ran_then : r.complete ≡ true → RanOnThreads old t found refused cores input trace sink r
     unfolding by_windows
     ran_then complete =
-        let end : is_ended x.end ≡ true = sym complete_is ∙ complete in
-        let not_cut : x.end ≢ ends.Memory = ended_by end in
+        let whole_is : is_ended end ≡ true = sym complete_is ∙ complete in
+        let not_cut : end ≢ ends.Memory = ended_by whole_is in
         record {
           all = by_windows;
-          begins = subst (λ text. TakesPrefix sink.before sink.now text) text_is P.ran.begins;
-          writes = λ here out. subst (λ text. Takes sink.before sink.now text) text_is (all_written (TakesReplies sink x.replies.items) (TakesFront sink x.replies.items) x.end sink r.status r.in_place ended here out);
+          begins = P.ran.begins;
+          writes = λ here out. (all_written (TakesReplies sink x.replies) (TakesFront sink x.replies) end sink r.status r.in_place ended here out);
           ended = record {
             answered = (P.ran.ran.done not_cut).answered;
             drained = (P.ran.ran.done not_cut).drained;
-            stops = λ fault here. P.ran.ran.fault (fault_end (TakesReplies sink x.replies.items) (TakesFront sink x.replies.items) x.end sink r.status r.in_place ended fault here);
-            goes = λ whole. P.ran.ran.complete (whole_end (TakesReplies sink x.replies.items) (TakesFront sink x.replies.items) x.end sink r.status r.in_place ended whole);
+            stops = λ fault here. P.ran.ran.fault (fault_end (TakesReplies sink x.replies) (TakesFront sink x.replies) end sink r.status r.in_place ended fault here);
+            goes = λ whole. P.ran.ran.complete (whole_end (TakesReplies sink x.replies) (TakesFront sink x.replies) end sink r.status r.in_place ended whole);
           };
         }
       where
-        ended_by : is_ended x.end ≡ true → x.end ≢ ends.Memory
-        ended_by is m = both (is_ended x.end) is (ap is_ended m)
+        ended_by : is_ended end ≡ true → end ≢ ends.Memory
+        ended_by is m = both (is_ended end) is (ap is_ended m)
 
     pub run_counts : CountsFaults old t source sink r.status
-    run_counts = counts_faults old t found cores trace o f x known stays later (TakesReplies sink) (TakesFront sink) sink (silent_front sink) r ended P.ran.begins held lost unasked report_told refusals begun complete_is source
+    run_counts = counts_faults old t found cores trace o f end x known stays later (TakesReplies sink) (TakesFront sink) sink (silent_front sink) r ended P.ran.begins held lost unasked report_told refusals_are begun complete_is source
 
     -- a fault of the region did not keep it from its end
     pub run_ends : r.status ≡ statuses.RegionFault → r.complete ≡ true
-    run_ends = ends_then old t found cores trace o f x known stays later (TakesReplies sink) (TakesFront sink) sink (silent_front sink) r ended P.ran.begins held lost unasked report_told refusals begun complete_is
+    run_ends = ends_then old t found cores trace o f end x known stays later (TakesReplies sink) (TakesFront sink) sink (silent_front sink) r ended P.ran.begins held lost unasked report_told refusals_are begun complete_is
 
     -- it ended with no status that leaves the region and the sink as they were
     pub run_loud : is_quiet r.status ≡ false
-    run_loud = answered_loud (TakesReplies sink x.replies.items) (TakesFront sink x.replies.items) x.end sink r.status r.in_place ended
+    run_loud = answered_loud (TakesReplies sink x.replies) (TakesFront sink x.replies) end sink r.status r.in_place ended
 
     all_out : r.in_place ≡ true → IsAllOut r.status sink → P.ran.more ≡ []
-    all_out here out = P.ran.whole (unwritten_none x.end y.unwritten sink P.ran.sunk (sym placed ∙ here) (subst (λ z. IsAllOut z sink) status_is out))
+    all_out here out = P.ran.whole (unwritten_none end y.unwritten sink P.ran.sunk (sym placed ∙ here) (subst (λ z. IsAllOut z sink) status_is out))
 
     cut_out : r.complete ≡ false → P.ran.more ≡ []
-    cut_out cut = P.ran.whole (P.ran.memory (cut_end x.end (sym complete_is ∙ cut)))
+    cut_out cut = P.ran.whole (P.ran.memory (cut_end end (sym complete_is ∙ cut)))
 
     pub ran_on : (input : List ℕ) × (cores : ℕ) × IsInput source.coming input × RunsOnThreads old t found source refused cores input sink r
     ran_on = (
@@ -417,8 +413,8 @@ module _ (old s t : State) (found word : ℕ → ℕ) (A : Attached old s s.fram
         split = read_trace cores input P.lines P.ready.read.good ∙ P.ran.split;
         all_begun = all_out;
         cut_begun = cut_out;
-        order = in_order old t found cores trace o f x known stays later (TakesReplies sink) (TakesFront sink) sink (silent_front sink) r ended P.ran.begins held lost unasked report_told refusals begun complete_is source input P.lines P.ready.read.good P.ready.read.whole;
-        serves = serves old t found cores trace o f x known stays later (TakesReplies sink) (TakesFront sink) sink (silent_front sink) r ended P.ran.begins held lost unasked report_told refusals begun complete_is;
+        order = in_order old t found cores trace o f end x known stays later (TakesReplies sink) (TakesFront sink) sink (silent_front sink) r ended P.ran.begins held lost unasked report_told refusals_are begun complete_is source input P.lines P.ready.read.good P.ready.read.whole;
+        serves = serves old t found cores trace o f end x known stays later (TakesReplies sink) (TakesFront sink) sink (silent_front sink) r ended P.ran.begins held lost unasked report_told refusals_are begun complete_is;
         unsplit = λ failed no. both r.complete (run_ends failed) no;
         worked = λ begun_is steady. by_windows;
         run = ran_then;

@@ -1,6 +1,7 @@
 -- What a call did with its source and with its sink.
 use Rattle.std.specs.Prelude.{◌≡◌, ◌⊎◌, ℕ, List, [], Bool, false, Option}
 use Rattle.pm_region.specs.State.{State, Faulted, Rose}
+use Rattle.flatstore_commands.specs.Finished.{finishes_of}
 use Rattle.flatstore_commands.specs.declared.report.Status.{Status}
 use Rattle.flatstore_commands.specs.declared.report.Status.TheVariants as statuses
 use Rattle.flatstore_commands.specs.declared.report.CommandReport.{CommandReport}
@@ -58,7 +59,7 @@ pub record CountsFaults (old new : State) (source : SourceUse) (sink : SinkUse)
 
 -- no request is reported as finished or refused, and no answer behind a run of where the region is
 abbrev pub AnswersNothing : CommandReport → Type 0
-AnswersNothing r = (r.finishes.items ≡ []) × (r.refusals.items ≡ []) × (r.in_place ≡ false)
+AnswersNothing r = (finishes_of r.finishes ≡ []) × (r.refusals.items ≡ []) × (r.in_place ≡ false)
 
 -- it is no report of a run
 abbrev pub ReportsNothing : CommandReport → Type 0

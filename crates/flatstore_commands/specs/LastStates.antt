@@ -26,13 +26,14 @@ use Rattle.group_engine.specs.Runs.{RunState, CoreMoves, first_state, with_reque
 use Rattle.headline.specs.Headline.{Told}
 use Rattle.flatstore_commands.specs.Attaching.{GoesOnFrom, Asks}
 use Rattle.flatstore_commands.specs.Ends.{SinkUse, IsAllOut}
+use Rattle.flatstore_commands.specs.Finished.{finishes_of}
 use Rattle.flatstore_commands.specs.Ordering.{is_whole}
 use Rattle.flatstore_commands.specs.declared.report.Status.TheVariants as statuses
 use Rattle.flatstore_commands.specs.declared.report.CommandReport.{CommandReport}
 
 -- what a report says of the requests
 abbrev pub told_in : CommandReport → Told
-told_in r = as_told r.finishes.items r.refusals.items
+told_in r = as_told (finishes_of r.finishes) r.refusals.items
 
 -- each number is above those before it
 abbrev pub AreRising : List ℕ → Type 0
@@ -79,7 +80,7 @@ first_of x = first_state x.start.origin x.workers
 -- A report is made of the answers that are kept in a state of the run: the finishes with their stamps,
 -- the refusals with what was counted.
 pub record ReportsKept (new : State) (last : RunState Worker) (r : CommandReport) : Type 0 where
-  pub finishes : r.finishes.items ≡ finishes_in 0 last.answers
+  pub finishes : finishes_of r.finishes ≡ finishes_in 0 last.answers
   pub refusals : r.refusals.items ≡ refusals_in 0 last.answers
   -- Those are the answers of the state, each with its stamp and the cause of its refusal; where the
   -- region doesn't tell, a get may have found another value.

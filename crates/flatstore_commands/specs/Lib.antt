@@ -2,6 +2,7 @@ pub mod Commands
 pub mod Asked
 pub mod Statuses
 pub mod Attaching
+pub mod Finished
 pub mod LastStates
 pub mod Ends
 pub mod Ordering

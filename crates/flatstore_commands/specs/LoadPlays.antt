@@ -1,18 +1,16 @@
 -- What a load did once its region was attached.
-use Rattle.std.specs.Prelude.{◌≡◌, ◌⊎◌, ℕ, ◌≤◌, List, [], Bool, true, false, Some}
+use Rattle.std.specs.Prelude.{◌≡◌, ◌⊎◌, ℕ, ◌≤◌, List, Bool, true, false, Some}
 use Rattle.fs_model.specs.declared.model.Reply.{Reply}
 use Rattle.store_image.specs.declared.types.Fault.{Fault}
 use Rattle.store_image.specs.Soundness.{first_fault}
 use Rattle.engine_core.specs.declared.run_outcome.End.{End}
-use Rattle.engine_core.specs.declared.run_outcome.Outcome.{Outcome}
 use Rattle.pm_region.specs.State.{State, Faulted, Rose}
 use Rattle.pm_region.specs.Split.{Stays}
 use Rattle.recover.specs.declared.types.Recovered.{Recovered}
 use Rattle.engine_core.specs.RunStarts.{StandsAsFound}
 use Rattle.load_requests.specs.Generated.{requests_of_load}
 use Rattle.load_run.specs.declared.load.LoadRun.{LoadRun}
-use Rattle.load_tally.specs.Tallied.{tally_of}
-use Rattle.thread_engine.specs.RanApart.{RanApart}
+use Rattle.load_run.specs.Loaded.{RanLoad}
 use Rattle.flatstore_commands.specs.Ends.{SinkUse}
 use Rattle.flatstore_commands.specs.Loads.{TakesTally, TakesTallyFront}
 use Rattle.flatstore_commands.specs.Played.{HasWritten, IsKeptBack, IsUnserved, is_ended}
@@ -27,8 +25,7 @@ pub record Loaded (s : State) (word : ℕ → ℕ) (refused : Bool) (start count
     (x : LoadRun) : Type 0 where
   pub recovered : Recovered
   pub stands : StandsAsFound s word recovered
-  pub ran : RanApart s word refused recovered (requests_of_load start count) t x.outcome
-  pub tally : is_ended x.outcome.end ≡ true → x.tally ≡ tally_of x.outcome.replies.items []
+  pub ran : RanLoad s word refused recovered (requests_of_load start count) t x
 
 -- What became of the tally of these replies behind a run that came to this end: it was written, or the beginning of it, and
 -- the status says which. Or the words that the region reads break a rule, and nothing was written.
@@ -39,11 +36,11 @@ HasShownTally bytes word replies end sink status =
     × (first_fault bytes word ≡ Some fault))
 
 -- the same, by whether the region was found in its place behind the run
-abbrev pub HasTallied : ℕ → (ℕ → ℕ) → Outcome → SinkUse → Bool → Status → Type 0
-HasTallied bytes word x sink true status =
-    HasShownTally bytes word x.replies.items x.end sink status × (is_ended x.end ≡ true)
-HasTallied bytes word x sink false status =
-    (sink.now ≡ sink.before) × IsKeptBack x.end status
+abbrev pub HasTallied : ℕ → (ℕ → ℕ) → List Reply → End → SinkUse → Bool → Status → Type 0
+HasTallied bytes word replies end sink true status =
+    HasShownTally bytes word replies end sink status × (is_ended end ≡ true)
+HasTallied bytes word replies end sink false status =
+    (sink.now ≡ sink.before) × IsKeptBack end status
 
 -- Why no core ran: the region breaks a rule, there was no memory, or the region was ready and a split of it failed.
 abbrev pub WhyNotLoaded : State → (ℕ → ℕ) → State → NotRun → Type 0

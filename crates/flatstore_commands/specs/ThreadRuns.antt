@@ -22,6 +22,7 @@ use Rattle.thread_engine.specs.RanApart.{Rejoined, KeepsAnswers, TakesOnce}
 use Rattle.thread_engine.specs.Printed.{IsOutInWindows}
 use Rattle.flatstore_commands.specs.Attaching.{GoesOnBy}
 use Rattle.flatstore_commands.specs.Ends.{SourceUse, SinkUse, IsAllOut}
+use Rattle.flatstore_commands.specs.Finished.{finishes_of}
 use Rattle.flatstore_commands.specs.LastStates.{told_in, NoneHasStopped, Starts}
 use Rattle.flatstore_commands.specs.Ordering.{GoesInOrder, is_whole}
 use Rattle.flatstore_commands.specs.Promise.{Serves, TakesReplies, TakesFront, asked_in}
@@ -56,7 +57,7 @@ pub record CoresRan (old new : State) (found : ℕ → ℕ) (refused : Bool) (co
   pub keeps : KeepsAnswers start.origin start.recovered refused f ran.cores kept
   -- Each of these answers was put into the queue of its window once and taken out once, and no other was.
   pub once : TakesOnce start.origin start.recovered refused f ran.cores kept
-  pub finishes : r.finishes.items ≡ finishes_in 0 kept
+  pub finishes : finishes_of r.finishes ≡ finishes_in 0 kept
   pub refusals : r.refusals.items ≡ refusals_in 0 kept
   pub told_is : told_in r ≡ told_of f
   -- Whatever a crash leaves of a part now is licensed by its core's view in that state.

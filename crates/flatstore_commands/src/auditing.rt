@@ -13,6 +13,7 @@ ghost use Rattle.flatstore_commands.specs.Played.{StandsWhole};
 ghost use Rattle.flatstore_commands.specs.Shows.{HasShown};
 ghost use Rattle.flatstore_commands.specs.declared.report.Status.TheVariants as statuses;
 
+use crate::finishes::Finishes;
 use crate::replay::{recovered, unread};
 use crate::report::{CommandReport, Status};
 use crate::workers::Workers;
@@ -141,7 +142,7 @@ fn write_audit<O: Sink>(alloc: Global, sink: &mut O, verdict: Verdict) -> Comman
     };
     CommandReport {
         status,
-        finishes: Vec::new(alloc),
+        finishes: Finishes::none(alloc),
         refusals: Vec::new(alloc),
         attached: true,
         began: false,

@@ -12,6 +12,7 @@ ghost use Rattle.flatstore_commands.specs.Shows.{HasShown, IsUnlisted};
 ghost use Rattle.flatstore_commands.specs.Ordering.{is_quiet};
 ghost use Rattle.flatstore_commands.specs.declared.report.Status.TheVariants as statuses;
 
+use crate::finishes::Finishes;
 use crate::report::{CommandReport, Status};
 use fs_model::Pair;
 use fs_text::{OutError, Sink, write_pairs};
@@ -53,7 +54,7 @@ fn write_dump<O: Sink>(alloc: Global, sink: &mut O, pairs: &[Pair]) -> CommandRe
     };
     CommandReport {
         status,
-        finishes: Vec::new(alloc),
+        finishes: Finishes::none(alloc),
         refusals: Vec::new(alloc),
         attached: true,
         began: false,

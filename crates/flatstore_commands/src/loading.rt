@@ -8,6 +8,7 @@ ghost use Rattle.fs_text.specs.Streams.{Takes, TakesPrefix};
 ghost use Rattle.load_tally.specs.Tallied.{tally_of};
 ghost use Rattle.flatstore_commands.specs.Attaching.{Asks};
 ghost use Rattle.flatstore_commands.specs.Ends.{AnswersNothing, sink_use};
+ghost use Rattle.flatstore_commands.specs.Finished.{finishes_of, finishes_from};
 ghost use Rattle.flatstore_commands.specs.Loads.{AttachesToLoad, LoadsOnThreads};
 ghost use Rattle.flatstore_commands.specs.LoadPlays.{Loaded, IsNotLoaded, HasShownTally, HasTallied};
 ghost use Rattle.flatstore_commands.specs.Ordering.{is_quiet};
@@ -16,12 +17,12 @@ ghost use Rattle.flatstore_commands.specs.declared.report.Status.TheVariants as 
 
 use crate::dumping::live_pairs;
 use crate::load_size::LoadSize;
-use crate::replay::{is_ended, recovered, report_on, status_of};
+use crate::replay::{is_ended, recovered, status_of};
 use crate::report::{CommandReport, Status};
-use crate::run_threads::NotRun;
+use crate::run_threads::{NotRun, run_report};
 use core_worker::Gate;
 use engine_core::run_outcome::End;
-use fs_text::{OutError, Sink, LoadTally, write_tally};
+use fs_text::{LoadTally, OutError, Sink, write_tally};
 use load_run::{LoadRun, run_load};
 use load_tally::add_pairs;
 use pm_region::{AttachError, ReadRegion, RegionFault, SplitRegion};
@@ -106,29 +107,30 @@ fn write_load<O: Sink, R: SplitRegion + ReadRegion>(
 ) -> CommandReport
     requires first { (R.state region.old).frame.first ≡ 0 }
     requires words { (R.state region.old).frame.words ≡ words_in (R.state region.old).frame.bytes }
-    requires tally { is_ended ran.outcome.end ≡ true
-        → ran.tally ≡ tally_of ran.outcome.replies.items [] }
-    ensures finishes { result.finishes.items ≡ ran.outcome.finishes.items }
-    ensures refusals { result.refusals.items ≡ ran.outcome.refusals.items }
+    ensures finishes { finishes_of result.finishes
+        ≡ finishes_from 0 ran.outcome.notes.finished.items ran.outcome.stamp }
+    ensures refusals { result.refusals.items ≡ ran.outcome.notes.refusals.items }
     ensures attached { result.attached ≡ true }
     ensures began { result.began ≡ true }
     ensures complete { result.complete ≡ is_ended ran.outcome.end }
     ensures asked { result.in_place ≡ true → result.complete ≡ true }
     ensures asks { Asks result.complete result.in_place (R.state region.old) (R.state region.new) }
-    ensures tallied { HasTallied (R.state region.new).frame.bytes (R.word region.new) ran.outcome
+    ensures tallied { (replies : List Reply)
+        → (is_ended ran.outcome.end ≡ true → ran.tally ≡ tally_of replies [])
+        → HasTallied (R.state region.new).frame.bytes (R.word region.new) replies ran.outcome.end
         (sink_use O.taken O.flushed O.fault_count sink.old sink.new) result.in_place result.status }
     ensures untouched { result.in_place ≡ false → sink.new ≡ sink.old }
     ensures quiet { is_quiet result.status ≡ true → sink.new ≡ sink.old }
 {
     let LoadRun { outcome, tally } = ran;
     if !is_ended(outcome.end) {
-        return report_on(outcome, Status::Memory, false);
+        return run_report(outcome, Status::Memory, false);
     }
     match region.revalidate() {
-        Err(RegionFault) => report_on(outcome, Status::RegionFault, false),
+        Err(RegionFault) => run_report(outcome, Status::RegionFault, false),
         Ok(()) => {
             let status = show_tally(alloc, sink, &*region, outcome.end, tally);
-            report_on(outcome, status, true)
+            run_report(outcome, status, true)
         }
     }
 }
@@ -184,7 +186,10 @@ pub fn load_region<
         Err(AttachError::Memory) => CommandReport::of(alloc, Status::Memory, false),
         Ok(()) => match load_cores(rt, alloc, region, size, gate, watch) {
             Err(why) => why.report(alloc),
-            Ok(ran) => write_load(alloc, sink, region, ran),
+            Ok(ran) => {
+                watch.pauses();
+                write_load(alloc, sink, region, ran)
+            }
         },
     }
 }

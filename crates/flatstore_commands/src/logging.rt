@@ -12,6 +12,7 @@ ghost use Rattle.flatstore_commands.specs.Logs.{Logs};
 ghost use Rattle.flatstore_commands.specs.Ordering.{is_quiet};
 ghost use Rattle.flatstore_commands.specs.declared.report.Status.TheVariants as statuses;
 
+use crate::finishes::Finishes;
 use crate::report::{CommandReport, Status};
 use fs_text::{OutError, Sink, write_entries};
 use pm_region::{AttachError, ReadRegion, Snapshot, SplitRegion};
@@ -54,7 +55,7 @@ fn write_log<O: Sink>(alloc: Global, sink: &mut O, entries: &[PlacedEntry]) -> C
     };
     CommandReport {
         status,
-        finishes: Vec::new(alloc),
+        finishes: Finishes::none(alloc),
         refusals: Vec::new(alloc),
         attached: true,
         began: false,

@@ -6,13 +6,16 @@ ghost use Rattle.pm_region.specs.Split.{words_in};
 ghost use Rattle.engine_core.specs.RunStarts.{StandsAsFound};
 ghost use Rattle.fs_text.specs.Bounds.{IsWithin};
 ghost use Rattle.flatstore_commands.specs.Attaching.{Asks};
+ghost use Rattle.flatstore_commands.specs.Finished.{finishes_of};
 ghost use Rattle.flatstore_commands.specs.Ends.{sink_use, source_use};
 ghost use Rattle.flatstore_commands.specs.Reads.{IsRead, IsUnread, unread_as};
 ghost use Rattle.flatstore_commands.specs.Played.{StandsWhole, IsReady, Played, IsUnserved, IsRefused, HasWrittenReplies, HasAnswered, is_ended, ended_as};
 ghost use Rattle.flatstore_commands.specs.Ordering.{is_of_region};
 
+use crate::finishes::Finishes;
 use crate::report::{CommandReport, Status};
 use engine_core::run_outcome::{End, Outcome};
+use engine_core::run_report::Refusal;
 use fs_text::{Input, InputError, OutError, Sink, Source, read_input, write_replies};
 use group_engine::replaying;
 use pm_region::{ReadRegion, RegionFault, SplitRegion};
@@ -151,25 +154,45 @@ fn write_text<O: Sink>(alloc: Global, sink: &mut O, outcome: &Outcome) -> Status
     }
 }
 
-/// The report on a run that began.
-pub fn report_on(outcome: Outcome, status: Status, in_place: bool) -> CommandReport
+/// The report on a run that began, with these finishes and refusals.
+pub fn report_on(
+    finishes: Finishes,
+    refusals: Vec<Refusal>,
+    end: End,
+    status: Status,
+    in_place: bool,
+) -> CommandReport
     ensures status { result.status ≡ status }
-    ensures finishes { result.finishes.items ≡ outcome.finishes.items }
+    ensures finishes { result.finishes ≡ finishes }
+    ensures refusals { result.refusals.items ≡ refusals.items }
+    ensures attached { result.attached ≡ true }
+    ensures began { result.began ≡ true }
+    ensures complete { result.complete ≡ is_ended end }
+    ensures in_place { result.in_place ≡ in_place }
+{
+    CommandReport {
+        status,
+        complete: is_ended(end),
+        finishes,
+        refusals,
+        attached: true,
+        began: true,
+        in_place,
+    }
+}
+
+// The report on a replay that began.
+fn replay_report(outcome: Outcome, status: Status, in_place: bool) -> CommandReport
+    ensures status { result.status ≡ status }
+    ensures finishes { finishes_of result.finishes ≡ outcome.finishes.items }
     ensures refusals { result.refusals.items ≡ outcome.refusals.items }
     ensures attached { result.attached ≡ true }
     ensures began { result.began ≡ true }
     ensures complete { result.complete ≡ is_ended outcome.end }
     ensures in_place { result.in_place ≡ in_place }
 {
-    CommandReport {
-        status,
-        complete: is_ended(outcome.end),
-        finishes: outcome.finishes,
-        refusals: outcome.refusals,
-        attached: true,
-        began: true,
-        in_place,
-    }
+    let finishes = Finishes::Each(outcome.finishes);
+    report_on(finishes, outcome.refusals, outcome.end, status, in_place)
 }
 
 /// Asks the region whether it is still in its place, where every request was answered, and writes the replies only if
@@ -180,7 +203,7 @@ pub fn write_outcome<O: Sink, R: SplitRegion>(
     region: &mut R,
     outcome: Outcome,
 ) -> CommandReport
-    ensures finishes { result.finishes.items ≡ outcome.finishes.items }
+    ensures finishes { finishes_of result.finishes ≡ outcome.finishes.items }
     ensures refusals { result.refusals.items ≡ outcome.refusals.items }
     ensures attached { result.attached ≡ true }
     ensures began { result.began ≡ true }
@@ -192,13 +215,13 @@ pub fn write_outcome<O: Sink, R: SplitRegion>(
     ensures untouched { result.in_place ≡ false → sink.new ≡ sink.old }
 {
     if !is_ended(outcome.end) {
-        return report_on(outcome, Status::Memory, false);
+        return replay_report(outcome, Status::Memory, false);
     }
     match region.revalidate() {
-        Err(RegionFault) => report_on(outcome, Status::RegionFault, false),
+        Err(RegionFault) => replay_report(outcome, Status::RegionFault, false),
         Ok(()) => {
             let status = write_text(alloc, sink, &outcome);
-            report_on(outcome, status, true)
+            replay_report(outcome, status, true)
         }
     }
 }

@@ -1,8 +1,10 @@
 // What a call of the program reports.
 ghost use Rattle.std.specs.Prelude.{◌≡◌, ℕ, ◌<◌, [], false, IfOk, string_bytes};
+ghost use Rattle.flatstore_commands.specs.Finished.{finishes_of};
 ghost use Rattle.flatstore_commands.specs.Statuses.{exit_code, damage_line, fault_line, fault_status};
 
-use engine_core::run_report::{Finish, Refusal};
+use crate::finishes::Finishes;
+use engine_core::run_report::Refusal;
 use fs_model::Memory;
 use std::alloc::Global;
 use store_image::Fault;
@@ -37,8 +39,8 @@ pub enum Status {
 pub struct CommandReport {
     /// From it the exit status is made.
     pub status: Status,
-    /// One for each change that was answered `Stored` or `Deleted`.
-    pub finishes: Vec<Finish>,
+    /// The changes that were answered `Stored` or `Deleted`.
+    pub finishes: Finishes,
     /// One for each request that was refused for a cause of its own.
     pub refusals: Vec<Refusal>,
     /// Whether the region was attached in this call, or created.
@@ -62,7 +64,7 @@ impl CommandReport {
     /// A report of a call that answered no request.
     pub fn of(alloc: Global, status: Status, attached: bool) -> CommandReport
         ensures status { result.status ≡ status }
-        ensures finishes { result.finishes.items ≡ [] }
+        ensures finishes { finishes_of result.finishes ≡ [] }
         ensures refusals { result.refusals.items ≡ [] }
         ensures attached { result.attached ≡ attached }
         ensures began { result.began ≡ false }
@@ -71,7 +73,7 @@ impl CommandReport {
     {
         CommandReport {
             status,
-            finishes: Vec::new(alloc),
+            finishes: Finishes::none(alloc),
             refusals: Vec::new(alloc),
             attached,
             began: false,

@@ -3,6 +3,7 @@ ghost use Rattle.std.specs.Prelude.{◌≡◌, ◌⊎◌, ℕ, ◌≤◌, [], Li
 ghost use Rattle.pm_region.specs.Split.{Attached, IsNotOpened};
 ghost use Rattle.flatstore_commands.specs.Ends.{AnswersNothing, CountsFaults, sink_use, source_use};
 ghost use Rattle.flatstore_commands.specs.Attaching.{AttachesToSplit};
+ghost use Rattle.flatstore_commands.specs.Finished.{finishes_of, finishes_from};
 ghost use Rattle.flatstore_commands.specs.Ordering.{is_of_region, is_quiet};
 ghost use Rattle.flatstore_commands.specs.Promise.{IsInput};
 ghost use Rattle.flatstore_commands.specs.Played.{StandsWhole, is_ended};
@@ -11,6 +12,7 @@ ghost use Rattle.flatstore_commands.specs.ThreadRuns.{RunsOnThreads};
 ghost use Rattle.flatstore_commands.specs.declared.report.Status.TheVariants as statuses;
 ghost use Rattle.flatstore_commands.specs.declared.run_threads.NotRun.TheVariants as not_run;
 
+use crate::finishes::Finishes;
 use crate::replay::{is_ended, prepared, report_on, status_of};
 use crate::report::{CommandReport, Status};
 use core_worker::Gate;
@@ -21,10 +23,11 @@ use std::alloc::Global;
 use std::sync::Wait;
 use std::thread::Threads;
 use thread_engine::requests::TraceRequests;
+use thread_engine::run_apart::RunOutcome;
+use thread_engine::run_notes::RunNotes;
 use thread_engine::run_to_sink::{SinkRun, run_to_sink};
 use thread_engine::text_outlet::Unwritten;
 use thread_engine::watch::Watch;
-use thread_engine::watched_requests::WatchedRequests;
 
 /// Why no core ran.
 #[derive(Clone, Copy, Debug, PartialEq, Eq)]
@@ -58,7 +61,7 @@ impl NotRun {
     /// The report of a call in which no core ran.
     pub fn report(self, alloc: Global) -> CommandReport
         ensures status { result.status ≡ status_for self }
-        ensures finishes { result.finishes.items ≡ [] }
+        ensures finishes { finishes_of result.finishes ≡ [] }
         ensures refusals { result.refusals.items ≡ [] }
         ensures attached { result.attached ≡ true }
         ensures began { result.began ≡ has_begun self }
@@ -112,9 +115,17 @@ fn run_cores<
         → source.new ≡ source.old) }
 {
     let (recovered, input) = prepared(alloc, source, region)?;
-    let asked = TraceRequests::of(input);
-    let mut requests = WatchedRequests::of(asked, watch);
-    let ran = run_to_sink(rt, alloc, region, sink, recovered, &mut requests, gate)?;
+    let mut requests = TraceRequests::of(input);
+    let ran = run_to_sink(
+        rt,
+        alloc,
+        region,
+        sink,
+        recovered,
+        &mut requests,
+        gate,
+        watch,
+    )?;
     Ok(ran)
 }
 
@@ -140,11 +151,29 @@ fn was_placed(end: End, unwritten: Option<Unwritten>) -> bool
     }
 }
 
+/// The report on a run on threads.
+pub fn run_report(outcome: RunOutcome, status: Status, in_place: bool) -> CommandReport
+    ensures status { result.status ≡ status }
+    ensures finishes { finishes_of result.finishes
+        ≡ finishes_from 0 outcome.notes.finished.items outcome.stamp }
+    ensures refusals { result.refusals.items ≡ outcome.notes.refusals.items }
+    ensures attached { result.attached ≡ true }
+    ensures began { result.began ≡ true }
+    ensures complete { result.complete ≡ is_ended outcome.end }
+    ensures in_place { result.in_place ≡ in_place }
+{
+    let RunOutcome { notes, stamp, end } = outcome;
+    let RunNotes { finished, refusals } = notes;
+    let finishes = Finishes::Alike { finished, stamp };
+    report_on(finishes, refusals, end, status, in_place)
+}
+
 // The report on what the cores did.
 fn report_of(ran: SinkRun) -> CommandReport
     ensures status { result.status ≡ ran_as ran.outcome.end ran.unwritten }
-    ensures finishes { result.finishes.items ≡ ran.outcome.finishes.items }
-    ensures refusals { result.refusals.items ≡ ran.outcome.refusals.items }
+    ensures finishes { finishes_of result.finishes
+        ≡ finishes_from 0 ran.outcome.notes.finished.items ran.outcome.stamp }
+    ensures refusals { result.refusals.items ≡ ran.outcome.notes.refusals.items }
     ensures attached { result.attached ≡ true }
     ensures began { result.began ≡ true }
     ensures complete { result.complete ≡ is_ended ran.outcome.end }
@@ -152,7 +181,7 @@ fn report_of(ran: SinkRun) -> CommandReport
 {
     let status = run_status(ran.outcome.end, ran.unwritten);
     let in_place = was_placed(ran.outcome.end, ran.unwritten);
-    report_on(ran.outcome, status, in_place)
+    run_report(ran.outcome, status, in_place)
 }
 
 /// Attaches the region, reads the input, and runs a worker for each core in a thread of its own, window by window. The

@@ -16,6 +16,7 @@ ghost use Rattle.flatstore_commands.specs.Scans.{answer_text, answers_text, Scan
 ghost use Rattle.flatstore_commands.specs.Shows.{HasShown};
 ghost use Rattle.flatstore_commands.specs.declared.report.Status.TheVariants as statuses;
 
+use crate::finishes::Finishes;
 use crate::replay::{recovered, unread};
 use crate::report::{CommandReport, Status};
 use fs_text::{OutError, Sink, Source};
@@ -173,7 +174,7 @@ fn write_answers<R: ReadRegion, O: Sink>(
     };
     CommandReport {
         status,
-        finishes: Vec::new(alloc),
+        finishes: Finishes::none(alloc),
         refusals: Vec::new(alloc),
         attached: true,
         began: false,

@@ -4,7 +4,7 @@ ghost use Rattle.std.specs.Prelude.{◌≡◌, false};
 use crate::change_tests::put;
 use core_room::{Counts, Shortage};
 use engine_core::run_report::Refusal;
-use flatstore_commands::{CommandReport, Status, command_line, flatstore_alone};
+use flatstore_commands::{CommandReport, Finishes, Status, command_line, flatstore_alone};
 use fs_model::{Memory, Value};
 use fs_text::{MemSink, MemSource, Sink, Source, SteadySink, SteadySource};
 use image_yardstick::image_superblock::read_layout;
@@ -89,6 +89,40 @@ pub fn replay<R: SplitRegion + ReadRegion>(
     Ok((report, text))
 }
 
+// How many changes a report names as finished.
+fn finish_count(report: &CommandReport) -> usize {
+    match &report.finishes {
+        Finishes::Each(finishes) => finishes.len(),
+        Finishes::Alike { finished, .. } => {
+            let mut count = 0usize;
+            for is in finished.as_slice() {
+                if *is {
+                    count = count.saturating_add(1);
+                }
+            }
+            count
+        }
+    }
+}
+
+// The stamp by which a request was finished, where it was.
+pub fn stamp_of(report: &CommandReport, request: u64) -> Option<u64> {
+    match &report.finishes {
+        Finishes::Each(finishes) => {
+            for finish in finishes.as_slice() {
+                if finish.request == request {
+                    return Some(finish.stamp);
+                }
+            }
+            None
+        }
+        Finishes::Alike { finished, stamp } => match finished.get(request as usize) {
+            Some(true) => Some(*stamp),
+            Some(false) | None => None,
+        },
+    }
+}
+
 // What a report says beside its lists, and whether the text that was written is the wanted one.
 #[derive(Clone, Copy)]
 pub struct Ended {
@@ -107,7 +141,7 @@ impl Ended {
             attached: report.attached,
             complete: report.complete,
             in_place: report.in_place,
-            finishes: report.finishes.len(),
+            finishes: finish_count(report),
             as_wanted: written == text,
         }
     }
@@ -573,10 +607,7 @@ fn finish_of_three(
     region: &mut SteadyRegion,
 ) -> Result<u64, Fail> {
     let (report, _) = replay(rt, region, THREE)?;
-    Ok(match report.finishes.first() {
-        Some(finish) => finish.stamp,
-        None => u64::MAX,
-    })
+    Ok(stamp_of(&report, 0).unwrap_or(u64::MAX))
 }
 
 #[test]

@@ -1,5 +1,5 @@
 // The worked rows of several cores and groups, on the top call.
-use crate::call_tests::{Ended, PICKS, call, cell, ends, replay, with, words_of};
+use crate::call_tests::{Ended, PICKS, call, cell, ends, replay, stamp_of, with, words_of};
 use flatstore_commands::{CommandReport, Status};
 use fs_text::{Sink, SteadySink, SteadySource};
 use pm_region::{ReadRegion, Region, SplitRegion};
@@ -50,8 +50,9 @@ struct Changed {
 // How many of these requests were finished by a stamp.
 fn finished_by(report: &CommandReport, requests: &[u64], stamp: u64) -> usize {
     let mut count = 0usize;
-    for finish in report.finishes.as_slice() {
-        if finish.stamp <= stamp && requests.contains(&finish.request) {
+    for request in requests {
+        let finish = stamp_of(report, *request);
+        if finish.is_some_and(|finish| finish <= stamp) {
             count = count.saturating_add(1);
         }
     }

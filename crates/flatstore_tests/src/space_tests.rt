@@ -1,6 +1,6 @@
 // The worked rows of cleaning, on the top call: a key of which nothing is left begins anew, and what was deleted stays
 // deleted.
-use crate::call_tests::{PICKS, replay, spent, with};
+use crate::call_tests::{PICKS, replay, spent, stamp_of, with};
 use crate::row_tests::text_of;
 use flatstore_commands::{CommandReport, Status};
 use pm_region::Region;
@@ -56,16 +56,6 @@ fn a_forgotten_key_begins_anew(rt: HostRuntime) -> Result<(), Fail> {
     Ok(())
 }
 
-// The stamp by which a request was finished.
-fn finished(report: &CommandReport, request: u64) -> Option<u64> {
-    for finish in report.finishes.as_slice() {
-        if finish.request == request {
-            return Some(finish.stamp);
-        }
-    }
-    None
-}
-
 // Whether each image of a stamp has no value of key 1, and of key 2 none but `x`.
 fn is_deleted(
     rt: &(impl Threads + AllocGlobal),
@@ -113,7 +103,7 @@ fn what_was_deleted_stays_deleted(rt: HostRuntime) -> Result<(), Fail> {
     let (report, written) = replay(&rt, &mut region, input.as_str())?;
     let replies = around(alloc, "deleted\n", "stored\n", 8, "absent\n")?;
     assert_eq!(rt; written.as_slice(), replies.as_bytes());
-    let since = finished(&report, 0);
+    let since = stamp_of(&report, 0);
     assert!(rt; since.is_some());
     assert!(rt; stays_deleted(&rt, &region, since.unwrap_or(0))?);
     Ok(())
@@ -152,7 +142,7 @@ fn left_behind_a_copy(rt: &(impl Threads + AllocGlobal)) -> Result<Option<Steady
     let (input, _) = deleted_then_crowded(alloc, 125)?;
     let mut region = SteadyRegion::new(alloc, with(alloc, &[])?, 5000)?;
     let (report, _) = replay(rt, &mut region, input.as_str())?;
-    let near = finished(&report, 120);
+    let near = stamp_of(&report, 120);
     image_with_two(rt, &region, near.unwrap_or(0))
 }
 

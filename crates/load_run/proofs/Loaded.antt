@@ -12,9 +12,10 @@ use Rattle.engine_core.specs.Reports.{reply_in}
 use Rattle.load_tally.specs.Tallied.{tally_of}
 use Rattle.thread_engine.specs.Collected.{had_memory}
 use Rattle.thread_engine.specs.Outlets.{all_replies, TakesAll}
-use Rattle.thread_engine.specs.RanApart.{RanApart, RanInWindows}
-use Rattle.thread_engine.specs.declared.run_apart.RunOutcome.{RunOutcome}
+use Rattle.thread_engine.specs.RanApart.{RanInWindows}
+use Rattle.thread_engine.specs.declared.run_apart.HandedRun.{HandedRun}
 use Rattle.load_run.specs.Counted.{CountsMore}
+use Rattle.load_run.specs.Loaded.{RanLoad}
 
 -- a refusal of one call is one of the other
 pub as_err : {A B : Type 0} (s t : State) (e : AttachError) → Refuses {T = A} s t (Err e) → Refuses {T = B} s t (Err e)
@@ -51,19 +52,22 @@ module _ {T : Type 0} (tally : T → LoadTally) where
   counted_all (w ∷ ws) s a t b (mid, next, (asked, C), rest) rs is =
       counted_all ws mid next t b rest (rs ++ w) (C.counts refl rs is) ∙ ap (λ l. tally_of l []) (append_assoc rs w (all_replies ws))
 
-  module _ {s : State} {word : ℕ → ℕ} {refused : Bool} {r : Recovered} {asked : List Request} {t : State} {x : RunOutcome} {a b : T} (W : RanInWindows counting s word refused r asked t x a b)
+  module _ {s : State} {word : ℕ → ℕ} {refused : Bool} {r : Recovered} {asked : List Request} {t : State} {x : HandedRun} {a b : T} (W : RanInWindows counting s word refused r asked t x a b)
       (first : tally a ≡ tally_of [] []) (few : length asked < 2 ^ 63) where
-    -- there is a reply for each request
-    replies_long : length x.outcome.replies.items ≡ length W.given
-    replies_long = ap length W.ran.report.replies ∙ map_long reply_in W.ran.kept ∙ W.ran.keeps.count ∙ ap length W.ran.given
+    abbrev replies : List Reply
+    replies = map reply_in W.ran.kept
 
-    replies_few : length x.outcome.replies.items ≤ length asked
+    -- there is a reply for each request
+    replies_long : length replies ≡ length W.given
+    replies_long = map_long reply_in W.ran.kept ∙ W.ran.keeps.count ∙ ap length W.ran.given
+
+    replies_few : length replies ≤ length asked
     replies_few = (let long = replies_long in let sum = ap length W.split ∙ length-append W.given W.more in omega (arith, long, sum))
 
     front : tally W.hands.mid ≡ tally_of (all_replies W.hands.windows) []
     front = counted_all W.hands.windows W.before a W.hands.at W.hands.mid W.hands.taken [] first
 
-    whole_text : W.hands.rest ≡ [] → x.outcome.replies.items ≡ all_replies W.hands.windows ++ W.hands.last
+    whole_text : W.hands.rest ≡ [] → replies ≡ all_replies W.hands.windows ++ W.hands.last
     whole_text none = W.hands.split ∙ ap (λ r. all_replies W.hands.windows ++ (W.hands.last ++ r)) none ∙ ap (λ l. all_replies W.hands.windows ++ l) (append-nil W.hands.last)
 
     -- none is left out
@@ -79,10 +83,11 @@ module _ {T : Type 0} (tally : T → LoadTally) where
           let low = replies_few in
           omega (arith, many, sum, low, few))
 
-    pub ran_all : RanApart s word refused r asked t x.outcome
-    ran_all = subst (λ xs. RanApart s word refused r xs t x.outcome) (sym (W.split ∙ ap (λ m. W.given ++ m) (W.whole heard_all) ∙ append-nil W.given)) W.ran
-
-    pub counted_once : had_memory x.outcome.end ≡ true → tally b ≡ tally_of x.outcome.replies.items []
+    counted_once : had_memory x.outcome.end ≡ true → tally b ≡ tally_of replies []
     counted_once e =
         let H = W.hands.whole e in
         H.1.1.counts heard_all (all_replies W.hands.windows) front ∙ ap (λ l. tally_of l []) (sym (whole_text H.0))
+
+    pub ran_load : RanLoad s word refused r asked t (record { outcome = x.outcome; tally = tally b })
+    ran_load = subst (λ xs. RanLoad s word refused r xs t (record { outcome = x.outcome; tally = tally b })) (sym (W.split ∙ ap (λ m. W.given ++ m) (W.whole heard_all) ∙ append-nil W.given))
+        (record { ran = W.ran; comes = W.comes; tally = counted_once })

@@ -1,31 +1,28 @@
 // A run of a load.
-ghost use Rattle.std.specs.Prelude.{◌≡◌, ◌^◌, ◌<◌, [], true, false, IfOk, OnErr};
+ghost use Rattle.std.specs.Prelude.{◌≡◌, ◌^◌, ◌<◌, false, IfOk, OnErr};
 ghost use Rattle.pm_region.specs.Split.{Stays, Refuses, IsNotOpened};
 ghost use Rattle.engine_core.specs.RunStarts.{StandsAsFound};
 ghost use Rattle.load_requests.specs.Generated.{requests_of_load};
-ghost use Rattle.load_tally.specs.Tallied.{tally_of};
-ghost use Rattle.thread_engine.specs.Collected.{had_memory};
-ghost use Rattle.thread_engine.specs.RanApart.{RanApart};
+ghost use Rattle.load_run.specs.Loaded.{RanLoad};
 
 use crate::made_requests::LoadRequests;
 use crate::tally_outlet::TallyOutlet;
 use core_worker::Gate;
-use engine_core::run_outcome::Outcome;
 use fs_text::LoadTally;
 use pm_region::{AttachError, ReadRegion, SplitRegion};
 use recover::Recovered;
 use std::alloc::Global;
 use std::sync::Wait;
 use std::thread::Threads;
-use thread_engine::run_apart::run;
+use thread_engine::run_apart::{RunOutcome, run};
 use thread_engine::watch::Watch;
-use thread_engine::watched_requests::WatchedRequests;
+use thread_engine::watched_outlet::WatchedOutlet;
 
 /// What a load came to.
 #[derive(Drop)]
 pub struct LoadRun {
     /// On all of its requests.
-    pub outcome: Outcome,
+    pub outcome: RunOutcome,
     /// Of their replies. Where memory ran out in a window, it has not those of that window and of what was to come
     /// behind it. Of live pairs it has none.
     pub tally: LoadTally,
@@ -47,19 +44,14 @@ pub fn run_load<T: Threads + Wait + Sync, R: SplitRegion + ReadRegion, G: Gate +
     requires whole { (R.state region.old).frame.parted ≡ false }
     requires region { StandsAsFound (R.state region.old) (R.word region.old) recovered }
     requires few { count < 2 ^ 63 }
-    ensures ran { IfOk result (λ x. RanApart (R.state region.old) (R.word region.old)
-        (G.may_refuse gate.now) recovered (requests_of_load start count) (R.state region.new)
-        x.outcome) }
-    // Each reply is counted once.
-    ensures tally { IfOk result (λ x. had_memory x.outcome.end ≡ true
-        → x.tally ≡ tally_of x.outcome.replies.items []) }
+    ensures ran { IfOk result (RanLoad (R.state region.old) (R.word region.old)
+        (G.may_refuse gate.now) recovered (requests_of_load start count) (R.state region.new)) }
     ensures stays { OnErr result (Stays (R.state region.old) (R.state region.new)) }
     ensures cause { Refuses (R.state region.old) (R.state region.new) result }
     ensures opens { IsNotOpened (R.state region.old) (R.state region.new) }
 {
-    let made = LoadRequests::of(start, count);
-    let mut requests = WatchedRequests::of(made, watch);
-    let mut outlet = TallyOutlet::new();
+    let mut requests = LoadRequests::of(start, count);
+    let mut outlet = WatchedOutlet::of(TallyOutlet::new(), watch);
     match run(
         rt,
         alloc,
@@ -72,7 +64,7 @@ pub fn run_load<T: Threads + Wait + Sync, R: SplitRegion + ReadRegion, G: Gate +
         Err(error) => Err(error),
         Ok(ran) => Ok(LoadRun {
             outcome: ran.outcome,
-            tally: outlet.tally,
+            tally: outlet.outlet.tally,
         }),
     }
 }

@@ -28,12 +28,10 @@ use Rattle.core_worker.specs.declared.worker.Worker.{Worker}
 use Rattle.engine_laws.specs.Origins.{Origin}
 use Rattle.engine_laws.specs.Parts.{Groups, group_of, member_of}
 use Rattle.engine_laws.proofs.Clients.{group_low, member_low, member_core}
-use Rattle.engine_core.specs.declared.run_outcome.Outcome.{Outcome}
+use Rattle.engine_core.specs.declared.run_outcome.End.{End}
 use Rattle.engine_core.specs.declared.types.Stamped.{Stamped}
 use Rattle.engine_core.specs.RunStarts.{StandsAsFound, BeginsAt}
-use Rattle.engine_core.specs.Endings.{report_in}
-use Rattle.engine_core.specs.Reports.{IsReport}
-use Rattle.thread_engine.specs.declared.muster.Returned.{Returned}
+use Rattle.thread_engine.specs.declared.crew.Returned.{Returned}
 use Rattle.thread_engine.specs.declared.run_apart.Supplies.{Supplies}
 use Rattle.thread_engine.specs.CoreRuns.{HasView, LoadsLook, requests_to}
 use Rattle.thread_engine.specs.Windows.{dealt_from, dealt_by}
@@ -42,7 +40,7 @@ use Rattle.thread_engine.specs.Between.{RestsWith, RestsEach, HoldsBehind}
 use Rattle.answer_queue.specs.declared.window_sizes.TheConstants.{WINDOW}
 use Rattle.thread_engine.specs.Collected.{AreBlank, restamped, any_stopped, end_by}
 use Rattle.thread_engine.specs.RanApart.{RanApart}
-use Rattle.thread_engine.specs.Manned.{AreTokensOf, AllEnded}
+use Rattle.thread_engine.specs.TableTokens.{AreTokensOf, AllEnded}
 use Rattle.thread_engine.specs.Returns.{IsCrew, AllAtRest, AllWent, Went, core_stands}
 use Rattle.thread_engine.specs.Supplied.{IsSupplied, ArePartCuts}
 use Rattle.thread_engine.proofs.Blocks.{tokens_of}
@@ -80,7 +78,7 @@ module _ {P : Type 0} (state : P → State) (refused : Bool) (s : State) (word :
   whole = (let split = div-add-mod' l.cores l.group in let none = (numbers_of l is_layout).divides in omega (arith, split, none))
 
   token_count : length x.crew.tokens.items ≡ l.cores
-  token_count = S.manned.count ∙ ap (λ n. n * l.group) table_count ∙ whole
+  token_count = S.have_tokens.count ∙ ap (λ n. n * l.group) table_count ∙ whole
 
   pub group_is : x.layout.group ≡ l.group
   group_is = ap (λ (g : Geometry). g.group) S.layout
@@ -104,14 +102,14 @@ module _ {P : Type 0} (state : P → State) (refused : Bool) (s : State) (word :
       few = (let most = (numbers_of l is_layout).cores_high in let n = piece_count in omega (arith, most, n));
       some_ = (let some = (numbers_of l is_layout).group_low in let g = group_is in omega (arith, some, g));
       within = λ c low. subst (λ n. c / n < length tables) (sym group_is) (subst (λ n. c / l.group < n) (sym table_count) (group_low l is_layout c (let n = piece_count in omega (arith, low, n))));
-      seats = λ c t b at_t at_b. ap (λ (y : SeatAt). y.table) (S.manned.seats (group_of l c) (member_of l c) b t (ap (λ n. slice_get tables (c / n)) (sym group_is) ∙ at_b) (member_low l is_layout c) (ap (slice_get x.crew.tokens.items) (div-add-mod' c l.group) ∙ at_t));
+      seats = λ c t b at_t at_b. ap (λ (y : SeatAt). y.table) (S.have_tokens.seats (group_of l c) (member_of l c) b t (ap (λ n. slice_get tables (c / n)) (sym group_is) ∙ at_b) (member_low l is_layout c) (ap (slice_get x.crew.tokens.items) (div-add-mod' c l.group) ∙ at_t));
     }
 
     pub all_rest : OpeningDoubts → AllAtRest state pieces x.crew
     all_rest doubts_open c p t w at_p at_t at_w = (
-      owns state refused o r is_layout given tables x.crew pieces x.cuts.items S.manned table_count S.workers.each (seat_there s word r o F B x.crew.workers.items S.seated worker_count) (start_there s word r o F B) given [] (sym (append-nil given)) piece_count piece_at cuts_are
+      owns state refused o r is_layout given tables x.crew pieces x.cuts.items S.have_tokens table_count S.workers.each (seat_there s word r o F B x.crew.workers.items S.seated worker_count) (start_there s word r o F B) given [] (sym (append-nil given)) piece_count piece_at cuts_are
           c (core_low c p at_p) p t w at_p at_t at_w,
-      first_rest state refused o r is_layout given tables x.crew pieces x.cuts.items S.manned table_count S.workers.each (seat_there s word r o F B x.crew.workers.items S.seated worker_count) (start_there s word r o F B) given [] (sym (append-nil given)) piece_count piece_at cuts_are
+      first_rest state refused o r is_layout given tables x.crew pieces x.cuts.items S.have_tokens table_count S.workers.each (seat_there s word r o F B x.crew.workers.items S.seated worker_count) (start_there s word r o F B) given [] (sym (append-nil given)) piece_count piece_at cuts_are
           c (core_low c p at_p) p t w at_p at_t at_w doubts_open,
     )
 
@@ -138,7 +136,7 @@ module _ {P : Type 0} (state : P → State) (refused : Bool) (s : State) (word :
       pub tokens_back : AreTokensOf x.layout.group tables back.tokens.items
       tokens_back = subst (λ n. AreTokensOf n tables back.tokens.items) (sym group_is) (tokens_of l.group tables back.tokens.items
           (A.tokens_count ∙ piece_count ∙ sym whole ∙ ap (λ n. n * l.group) (sym table_count))
-          (λ g b at. S.manned.sizes g b at)
+          (λ g b at. S.have_tokens.sizes g b at)
           seats_back)
         where
           seats_back : (g m : ℕ) (b : GroupTable) (u : SeatToken) → slice_get tables g ≡ Some b → m < l.group → slice_get back.tokens.items (g * l.group + m) ≡ Some u → seat_of u.own ≡ member_at (id_of b) (group_place b) m
@@ -146,8 +144,8 @@ module _ {P : Type 0} (state : P → State) (refused : Bool) (s : State) (word :
               let c = g * l.group + m in
               let g_low : g < groups_in l = (let lt = get_low tables g b at in let n = table_count in omega (arith, lt, n)) in
               let O = one c (member_core l is_layout g m g_low low) in
-              ap (λ (y : SeatToken). seat_of y.own) (one_of u O.4 (sym there ∙ O.10)) ∙ O.12.seat ∙ S.manned.seats g m b O.1 at low O.7
-              ∙ ap (λ p. member_at (id_of b) p m) (sym (ap (λ (w : Group). w.place) (S.manned.opened_on g b at)))
+              ap (λ (y : SeatToken). seat_of y.own) (one_of u O.4 (sym there ∙ O.10)) ∙ O.12.seat ∙ S.have_tokens.seats g m b O.1 at low O.7
+              ∙ ap (λ p. member_at (id_of b) p m) (sym (ap (λ (w : Group). w.place) (S.have_tokens.opened_on g b at)))
 
       -- the pieces came from the split
       pub pieces_back : (t : State) → StillParted s t x.cuts.items → (i : ℕ) (p : P) → i < length back.pieces.items → CameFrom t i (state (slice_index_or back.pieces.items i p))
@@ -181,7 +179,7 @@ module _ {P : Type 0} (state : P → State) (refused : Bool) (s : State) (word :
         pub at_group : (g : ℕ) → g < groups_in l → ((shown g).place ≡ place_at l g) × Lawful (shown g) × ((steps : List (ℕ × Kind)) × Runs (opened (place_at l g) o.found) steps (shown g))
         at_group g low =
             let b = get_at tables g (let n = table_count in omega (arith, low, n)) in
-            shown_reached l o.found tables back.tokens.items E (opened (place_at l 0) o.found) g b.0 b.1 (opened (place_at l g) o.found) (S.manned.opened_on g b.0 b.1)
+            shown_reached l o.found tables back.tokens.items E (opened (place_at l 0) o.found) g b.0 b.1 (opened (place_at l g) o.found) (S.have_tokens.opened_on g b.0 b.1)
 
         pub groups : Groups l shown
         groups = record { place = λ g low. (at_group g low).0; lawful = λ g low. (at_group g low).1 }
@@ -193,7 +191,7 @@ module _ {P : Type 0} (state : P → State) (refused : Bool) (s : State) (word :
         order_shown : (g : ℕ) → g < groups_in l → (late early : List (ℕ × TrailStep)) → order g ≡ late ++ early → (w : Group) × IsShown (place_at l g) o.found early w
         order_shown g low late early e =
             let b = get_at tables g (let n = table_count in omega (arith, low, n)) in
-            orders_shown tables back.tokens.items E g b.0 b.1 (place_at l g) o.found (S.manned.opened_on g b.0 b.1) late early e
+            orders_shown tables back.tokens.items E g b.0 b.1 (place_at l g) o.found (S.have_tokens.opened_on g b.0 b.1) late early e
 
         -- core c's end, its worker, its piece, and its steps
         abbrev Full : ℕ → CoreEnd refused → Type 0
@@ -217,11 +215,11 @@ module _ {P : Type 0} (state : P → State) (refused : Bool) (s : State) (word :
             let g_low = group_low l is_layout c low in
             let b = get_at tables (group_of l c) (let n = table_count in omega (arith, g_low, n)) in
             let at_u : slice_get back.tokens.items (group_of l c * l.group + member_of l c) ≡ Some O.4 = ap (slice_get back.tokens.items) (div-add-mod' c l.group) ∙ O.10 in
-            let view : HasView (shown (group_of l c)) (member_of l c) (view_at O.4.own) = shown_view l.group tables back.tokens.items E (opened (place_at l 0) o.found) (λ g y at. S.manned.sizes g y at) (group_of l c) (member_of l c) b.0 O.4 b.1 (member_low l is_layout c) at_u in
-            let made = orders_made l.group tables back.tokens.items E (λ g y at. S.manned.sizes g y at) (group_of l c) (member_of l c) b.0 O.4 b.1 (member_low l is_layout c) at_u in
-            let loads = subst (λ (w : Group). LoadsLook (view_of w (member_of l c)) (trail_at O.4.own)) (S.manned.opened_on (group_of l c) b.0 b.1) made.1 in
+            let view : HasView (shown (group_of l c)) (member_of l c) (view_at O.4.own) = shown_view l.group tables back.tokens.items E (opened (place_at l 0) o.found) (λ g y at. S.have_tokens.sizes g y at) (group_of l c) (member_of l c) b.0 O.4 b.1 (member_low l is_layout c) at_u in
+            let made = orders_made l.group tables back.tokens.items E (λ g y at. S.have_tokens.sizes g y at) (group_of l c) (member_of l c) b.0 O.4 b.1 (member_low l is_layout c) at_u in
+            let loads = subst (λ (w : Group). LoadsLook (view_of w (member_of l c)) (trail_at O.4.own)) (S.have_tokens.opened_on (group_of l c) b.0 b.1) made.1 in
             let taken : TakesPiece t (state O.3) = subst (λ (y : P). TakesPiece t (state y)) (get_index back.pieces.items c O.3 O.3 O.9) (takes c O.3 (get_low back.pieces.items c O.3 O.9)) in
-            let end = core_end state refused o r is_layout given tables x.crew pieces x.cuts.items S.manned table_count S.workers.each (seat_there s word r o F B x.crew.workers.items S.seated worker_count) (start_there s word r o F B) A.dealt A.rest A.split piece_count piece_at cuts_are
+            let end = core_end state refused o r is_layout given tables x.crew pieces x.cuts.items S.have_tokens table_count S.workers.each (seat_there s word r o F B x.crew.workers.items S.seated worker_count) (start_there s word r o F B) A.dealt A.rest A.split piece_count piece_at cuts_are
             c low O.0 O.1 O.2 O.6 O.7 O.8 t shown O.3 O.4 O.5 (slice_index_or A.outs c []) windows (dealt_by (length pieces) c A.dealt) O.12 taken view loads (all_there c O.5 O.11) in
             let rests = λ (i : ℕ) (less : i ≤ windows). subst (λ j. RestsWith (seat_of O.1.own) refused j (core_stands state O.0 O.1 O.2 []) (core_stands state O.3 O.4 O.5 O.12.left) O.12.works.works) (joined_by c i less) (O.12.rests i less) in
             (end.0, (end.1, O.11, (O.3, O.9, refl), made.0, refl, rests))
@@ -253,22 +251,23 @@ module _ {P : Type 0} (state : P → State) (refused : Bool) (s : State) (word :
         outs_few = (let less = A.few in let n = piece_count in omega (arith, less, n))
 
         module _ (chain : ChainLaw) (keys_open : OpeningKeys) (doubts_open : OpeningDoubts) where
-          abbrev Ran : Outcome → Type 0
-          Ran out = (R : RanApart s word refused r given t out) × ((i : ℕ) → i ≤ windows → HoldsBehind R.origin r refused R.last R.ran.cores (i * WINDOW)) × (in_all ≡ true → HoldsBehind R.origin r refused R.last R.ran.cores (length given))
+          abbrev Ran : End → Type 0
+          Ran end = (R : RanApart s word refused r given t end) × ((i : ℕ) → i ≤ windows → HoldsBehind R.origin r refused R.last R.ran.cores (i * WINDOW)) × (in_all ≡ true → HoldsBehind R.origin r refused R.last R.ran.cores (length given)) × (R.kept ≡ restamped t.stamp first_kept)
 
           -- what it comes to
           pub run_ran : length blanks ≡ length given → AreBlank blanks → (mid : State) → StillParted s mid x.cuts.items → Joined mid t → ComesNext state mid t back.pieces.items → s.frame.parted ≡ false → mid.frame.opens ≡ s.frame.opens → mid.frame.refusals ≡ s.frame.refusals → t.frame.opens ≡ mid.frame.opens
-              → RefusalLaw → MomentLaw → CutLaw → (out : Outcome) → IsReport (restamped t.stamp first_kept) (report_in out) → out.end ≡ end_by in_all (any_stopped back.workers.items) → Ran out
-          run_ran places_are blank mid D J N whole_is opens refusals opens' refusal moment at_cut out report end =
+              → RefusalLaw → MomentLaw → CutLaw → (end : End) → end ≡ end_by in_all (any_stopped back.workers.items) → Ran end
+          run_ran places_are blank mid D J N whole_is opens refusals opens' refusal moment at_cut end end_is =
               let R = ran_resting chain keys_open doubts_open o B.is is_layout r refused t shown given groups ends all back.workers.items blanks (λ c low. (full c low).2.1) few places_are blank
               A.outs outs_are outs_few first_kept A.taken
-              s word out B (region_rejoined s word r o F B x.cuts.items cuts_are mid t D J whole_is opens refusals opens') (λ g low. (at_group g low).2)
+              s word end B (region_rejoined s word r o F B x.cuts.items cuts_are mid t D J whole_is opens refusals opens') (λ g low. (at_group g low).2)
               (region_superblock s word r o F B x.cuts.items cuts_are mid t D J) (λ c low. (full c low).2.0.piece.piece.faults)
               (next_joined s mid t x.cuts.items D J state back.pieces.items l.cores (λ c low. (full c low).0.last.region) N (A.pieces_count ∙ piece_count)
               (λ c low q at. (let f = (full c low).2.2 in ap state (one_of q f.0 (sym at ∙ f.1)) ∙ f.2)))
-              (subst (λ ys. IsReport ys (report_in out)) (kept_is chain keys_open doubts_open o B.is is_layout r refused t shown given groups ends all back.workers.items blanks (λ c low. (full c low).2.1) few places_are blank A.outs outs_are outs_few first_kept A.taken) report) in_all end refusal moment at_cut order (λ c low. (full c low).2.3) order_shown (λ is c low. A.memory is c (full c low).0.last.worker (full c low).2.1) (λ is c low. A.wound is c (full c low).0.last.worker (full c low).2.1)
+              in_all end_is refusal moment at_cut order (λ c low. (full c low).2.3) order_shown (λ is c low. A.memory is c (full c low).0.last.worker (full c low).2.1) (λ is c low. A.wound is c (full c low).0.last.worker (full c low).2.1)
               windows (λ c low. (full c low).2.5) in (
                 R.0,
                 (λ i less. holds_behind chain doubts_open R.0.origin r refused R.0.last R.0.begins.is R.0.ran.layout R.0.ran.cores (i * WINDOW) (R.1 i less)),
                 (λ is. holds_behind chain doubts_open R.0.origin r refused R.0.last R.0.begins.is R.0.ran.layout R.0.ran.cores (length given) (R.2 is)),
+                R.3 ∙ sym (kept_is chain keys_open doubts_open o B.is is_layout r refused t shown given groups ends all back.workers.items blanks (λ c low. (full c low).2.1) few places_are blank A.outs outs_are outs_few first_kept A.taken),
               )

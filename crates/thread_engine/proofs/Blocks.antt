@@ -7,7 +7,7 @@ use Rattle.atomic_board.specs.declared.token.SeatToken.{SeatToken}
 use Rattle.atomic_board.specs.GroupTables.{id_of, group_place}
 use Rattle.atomic_board.specs.MemberSeats.{seat_of}
 use Rattle.atomic_board.specs.Tokens.{member_at}
-use Rattle.thread_engine.specs.Manned.{AreTokensOf}
+use Rattle.thread_engine.specs.TableTokens.{AreTokensOf}
 use Rattle.thread_engine.proofs.Places.{get_low, get_front, get_behind, as_get}
 
 -- the first so many

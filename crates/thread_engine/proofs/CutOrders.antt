@@ -23,7 +23,7 @@ use Rattle.atomic_board.specs.MemberSeats.{trail_at}
 use Rattle.atomic_board.specs.StepTells.{done_in, trail_in}
 use Rattle.atomic_board.specs.ShownState.{IsCut, IsReached, deeds_at}
 use Rattle.thread_engine.specs.CoreRuns.{HasView, view_after, LoadsLook}
-use Rattle.thread_engine.specs.Manned.{AllEnded}
+use Rattle.thread_engine.specs.TableTokens.{AllEnded}
 use Rattle.thread_engine.specs.Cuts.{steps_of, kinds_in, IsShown}
 use Rattle.thread_engine.proofs.Places.{get_front, get_behind, as_elem}
 

@@ -54,11 +54,10 @@ use Rattle.core_worker.specs.Beginning.{answers_of}
 use Rattle.core_worker.specs.Openings.{IsNew, IsStartAt}
 use Rattle.engine_core.specs.declared.types.Stamped.{Stamped}
 use Rattle.engine_core.specs.declared.run_outcome.End.TheVariants as closings
-use Rattle.engine_core.specs.declared.run_outcome.Outcome.{Outcome}
+use Rattle.engine_core.specs.declared.run_outcome.End.{End}
 use Rattle.engine_core.specs.Answers.{ShowsAnswer, kept_at, stored}
 use Rattle.engine_core.specs.RunStarts.{BeginsAt}
-use Rattle.engine_core.specs.Endings.{report_in}
-use Rattle.engine_core.specs.Reports.{IsReport}
+use Rattle.engine_core.specs.Reports.{listed_of}
 use Rattle.engine_core.proofs.Clients.{reports_by}
 use Rattle.thread_engine.specs.Collected.{AreBlank, restamped, any_stopped, end_by}
 use Rattle.thread_engine.specs.RanApart.{stamped, KeepsAnswers, TakesOnce, Rejoined, RanApart}
@@ -693,33 +692,33 @@ module _ (chain : ChainLaw) (keys_open : OpeningKeys) (doubts_open : OpeningDoub
     }
 
     -- What the run comes to.
-    module _ (s : State) (word : ℕ → ℕ) (out : Outcome) (begins : BeginsAt s word o) (rejoined : Rejoined s t) (reached : (g : ℕ) → g < groups_in l → (steps : List (ℕ × Kind)) × Runs (opened (place_at l g) o.found) steps (group g))
+    module _ (s : State) (word : ℕ → ℕ) (end : End) (begins : BeginsAt s word o) (rejoined : Rejoined s t) (reached : (g : ℕ) → g < groups_in l → (steps : List (ℕ × Kind)) × Runs (opened (place_at l g) o.found) steps (group g))
         (superblock : IsTelling t → HasSuperblock o.found (cell_now t)) (first_faults : (c : ℕ) (low : c < l.cores) → (x c low).first.region.faults ≡ o.region.faults)
         (next : IsTelling s → ((c : ℕ) (low : c < l.cores) → TellsFrom s (x c low).last.region) → (latest : ℕ) → s.stamp ≤ latest → ((c : ℕ) (low : c < l.cores) → (x c low).last.region.stamp ≤ latest) → t.stamp ≤ counted latest)
-        (report : IsReport kept (report_in out)) (in_all : Bool) (end : out.end ≡ end_by in_all (any_stopped workers)) (refusal : RefusalLaw) (moment : MomentLaw) (at_cut : CutLaw) (order : ℕ → List (ℕ × TrailStep))
+        (in_all : Bool) (end_is : end ≡ end_by in_all (any_stopped workers)) (refusal : RefusalLaw) (moment : MomentLaw) (at_cut : CutLaw) (order : ℕ → List (ℕ × TrailStep))
         (made : (c : ℕ) (low : c < l.cores) → steps_of (order (group_of l c)) (member_of l c) ≡ (x c low).last.trail.steps)
         (order_shown : (g : ℕ) → g < groups_in l → (late early : List (ℕ × TrailStep)) → order g ≡ late ++ early → (w : Group) × IsShown (place_at l g) o.found early w)
         (memory : in_all ≡ true → (c : ℕ) (low : c < l.cores) → (x c low).last.worker.winds_down ≡ false)
         (short : in_all ≡ false → (c : ℕ) (low : c < l.cores) → (x c low).last.worker.winds_down ≡ true) where
-      with_memory : out.end ≢ closings.Memory → in_all ≡ true
-      with_memory not_memory = had_memory in_all (any_stopped workers) (λ is. not_memory (end ∙ is))
+      with_memory : end ≢ closings.Memory → in_all ≡ true
+      with_memory not_memory = had_memory in_all (any_stopped workers) (λ is. not_memory (end_is ∙ is))
 
       promised : Promised o e
       promised = moment o e (last_stands rejoined.since superblock) (refusal o r refused e is (all_ran reached)) (stop_cause first_faults)
 
-      has_stopped : out.end ≡ closings.RegionFault → HasStopped e
+      has_stopped : end ≡ closings.RegionFault → HasStopped e
       has_stopped is_fault =
-          let there = any_in (λ (w : Worker). w.stopped) workers (faulted in_all (any_stopped workers) (sym end ∙ is_fault)) in
+          let there = any_in (λ (w : Worker). w.stopped) workers (faulted in_all (any_stopped workers) (sym end_is ∙ is_fault)) in
           let low = few there.0 there.1 there.2 in
           (there.0, low, ap (λ d. (hands_in d).stopped) (at there.0 low) ∙ ap (λ (w : Worker). w.stopped) (sym (worker_is there.0 there.1 there.2)) ∙ there.3)
 
-      goes_on : out.end ≡ closings.Complete → (c : ℕ) → c < l.cores → e.stopped c ≡ false
+      goes_on : end ≡ closings.Complete → (c : ℕ) → c < l.cores → e.stopped c ≡ false
       goes_on is_complete c low = by (e.stopped c) refl where
         by : (b : Bool) → e.stopped c ≡ b → e.stopped c ≡ false
         by false at_b = at_b
-        by true at_b = absurd (clash (any_stopped workers) (any_at (λ (w : Worker). w.stopped) workers c (x c low).last.worker (workers_are c low) (sym (ap (λ d. (hands_in d).stopped) (at c low)) ∙ at_b)) (completed in_all (any_stopped workers) (sym end ∙ is_complete)))
+        by true at_b = absurd (clash (any_stopped workers) (any_at (λ (w : Worker). w.stopped) workers c (x c low).last.worker (workers_are c low) (sym (ap (λ d. (hands_in d).stopped) (at c low)) ∙ at_b)) (completed in_all (any_stopped workers) (sym end_is ∙ is_complete)))
 
-      pub ran : RanApart s word refused r given t out
+      pub ran : RanApart s word refused r given t end
       unfolding all_ran core_run
       ran = record {
         origin = o;
@@ -744,12 +743,11 @@ module _ (chain : ChainLaw) (keys_open : OpeningKeys) (doubts_open : OpeningDoub
         kept = kept;
         keeps = keeps;
         once = once;
-        report = report;
-        reports = reports_by t o e kept (report_in out) promised (stored_long T.taken t.stamp blanks ∙ places_are) shows refl report;
+        reports = reports_by t o e kept (listed_of kept) promised (stored_long T.taken t.stamp blanks ∙ places_are) shows refl (record { replies = refl; finishes = refl; refusals = refl });
         promised = promised;
         done = λ not_memory. is_done (memory (with_memory not_memory)) promised;
         ceased = λ memory. ceased;
-        wound = λ is. short (lacked in_all (any_stopped workers) (sym end ∙ is));
+        wound = λ is. short (lacked in_all (any_stopped workers) (sym end_is ∙ is));
         works = λ not_memory. memory (with_memory not_memory);
         fault = has_stopped;
         complete = goes_on;
@@ -766,11 +764,11 @@ module _ (chain : ChainLaw) (keys_open : OpeningKeys) (doubts_open : OpeningDoub
           (record { work = (X c low).work; ended = (X c low).ended; runs = runs; doubts = (chain y.seat refused y.first y.last (X c low).at_work (doubts c low) y.works).2; none = (X c low).none })
 
       -- behind m of its requests all its cores rested
-      abbrev pub AllRestAt : RanApart s word refused r given t out → ℕ → Type 0
+      abbrev pub AllRestAt : RanApart s word refused r given t end → ℕ → Type 0
       AllRestAt R m = (c : ℕ) (low : c < R.last.layout.cores) → RestsAt (R.ran.cores c low) m
 
       -- and where they rested
       pub ran_resting : (windows : ℕ) → ((c : ℕ) (low : c < l.cores) → RestsEach (x c low).seat refused windows (λ i. requests_to l c (take (i * WINDOW) given)) (x c low).first (x c low).last (x c low).works)
-          → (R : RanApart s word refused r given t out) × ((i : ℕ) → i ≤ windows → AllRestAt R (i * WINDOW)) × (in_all ≡ true → AllRestAt R (length given))
+          → (R : RanApart s word refused r given t end) × ((i : ℕ) → i ≤ windows → AllRestAt R (i * WINDOW)) × (in_all ≡ true → AllRestAt R (length given)) × (R.kept ≡ kept)
       unfolding ran all_ran core_run
-      ran_resting windows rests = (ran, (λ i less c low. rests c low i less), last_rest)
+      ran_resting windows rests = (ran, (λ i less c low. rests c low i less), last_rest, refl)

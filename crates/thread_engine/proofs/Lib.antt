@@ -30,12 +30,13 @@ mod WindowSteps
 mod Takings
 mod TakenKept
 mod Places
+mod NotedAnswers
 mod Handing
 mod Lines
 mod Looks
 mod Printing
-mod Manning
-mod Mustering
+mod TokensGiven
+mod JobsMade
 mod Deals
 mod Changes
 mod WindowWork

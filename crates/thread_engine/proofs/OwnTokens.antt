@@ -6,7 +6,7 @@ use Rattle.atomic_board.specs.declared.group_table.GroupTable.{GroupTable}
 use Rattle.atomic_board.specs.declared.token.SeatToken.{SeatToken}
 use Rattle.atomic_board.specs.GroupTables.{id_of, group_place}
 use Rattle.atomic_board.specs.Tokens.{AreTokens}
-use Rattle.thread_engine.specs.Manned.{AreTokensOf, AreHands}
+use Rattle.thread_engine.specs.TableTokens.{AreTokensOf, AreTokenRooms}
 
 -- two lists cut at the same place
 same_parts : {X : Type 0} (a b c d : List X) → a ++ b ≡ c ++ d → length a ≡ length c → (a ≡ c) × (b ≡ d)
@@ -29,8 +29,8 @@ all_but_last : {X : Type 0} (P : X → Type 0) (xs : List X) (x : X) → AllByRe
 all_but_last P [] x h = tt
 all_but_last P (y ∷ ys) x h = (h.0, all_but_last P ys x h.1)
 
-pub hands_left : (members n : ℕ) (old new : List (Vec SeatToken Global)) (hand : Vec SeatToken Global) → old ≡ new ++ hand ∷ [] → AreHands members (suc n) old → AreHands members n new
-hands_left members n old new hand split A = record {
+pub rooms_left : (members n : ℕ) (old new : List (Vec SeatToken Global)) (hand : Vec SeatToken Global) → old ≡ new ++ hand ∷ [] → AreTokenRooms members (suc n) old → AreTokenRooms members n new
+rooms_left members n old new hand split A = record {
   count_is = (let a = A.count_is in let b = ap length split in let c = length-append new (hand ∷ []) in omega (arith, a, b, c));
   each = all_but_last (λ h. (h.items ≡ []) × (members ≤ vec_capacity h)) new hand (subst (λ hs. AllByRecursion (λ h. (h.items ≡ []) × (members ≤ vec_capacity h)) hs) split A.each);
 }

@@ -1,5 +1,5 @@
 -- What an outlet over a sink wrote, window by window.
-use Rattle.std.proofs.Common.{◌≡◌, ◌≢◌, inl, inr, ℕ, ◌≤◌, List, [], ◌∷◌, ◌++◌, length, Bool, true, false, Option, Some, None, refl, sym, ◌∙◌, ap, subst, append-nil, append_assoc, arith}
+use Rattle.std.proofs.Common.{◌≡◌, ◌≢◌, inl, inr, ℕ, ◌≤◌, List, [], ◌∷◌, ◌++◌, length, map, Bool, true, false, Option, Some, None, refl, sym, ◌∙◌, ap, subst, append-nil, append_assoc, arith}
 use Rattle.fs_model.specs.declared.model.Reply.{Reply}
 use Rattle.fs_model.specs.declared.model.Request.{Request}
 use Rattle.pm_region.specs.State.{State, Rose, counted}
@@ -10,7 +10,8 @@ use Rattle.fs_text.proofs.Streaming.{prefix_longer, prefix_none, prefix_of, take
 use Rattle.thread_engine.specs.declared.text_outlet.Unwritten.{Unwritten}
 use Rattle.thread_engine.specs.declared.text_outlet.Unwritten.TheVariants.{Astray, SinkFault, Memory}
 use Rattle.recover.specs.declared.types.Recovered.{Recovered}
-use Rattle.thread_engine.specs.declared.run_apart.RunOutcome.{RunOutcome}
+use Rattle.engine_core.specs.Reports.{reply_in}
+use Rattle.thread_engine.specs.declared.run_apart.HandedRun.{HandedRun}
 use Rattle.thread_engine.specs.Collected.{had_memory}
 use Rattle.thread_engine.specs.Outlets.{IsAsked, all_replies, TakesAll, HandsOut}
 use Rattle.thread_engine.specs.Printed.{WhyUnwritten, WritesWindow, Prints, PrintsFront, IsOutInWindows, HasPrinted, RanToSink}
@@ -184,17 +185,17 @@ module _ {T S : Type 0} (handle : T → ℕ) (sink : T → S) (cause : T → Opt
     has_printed = printed.0
 
   -- What a run came to whose outlet wrote to a sink, with the cause where a window's text is not out.
-  module _ {s : State} {word : ℕ → ℕ} {refused : Bool} {r : Recovered} {asked : List Request} {t : State} {x : RunOutcome} {a b : T} (W : RanInWindows printing s word refused r asked t x a b) (why : Option Unwritten)
+  module _ {s : State} {word : ℕ → ℕ} {refused : Bool} {r : Recovered} {asked : List Request} {t : State} {x : HandedRun} {a b : T} (W : RanInWindows printing s word refused r asked t x a b) (why : Option Unwritten)
       (none : x.heard ≡ true → why ≡ None) (some_ : x.heard ≡ false → why ≡ cause b) where
     abbrev all : Bool
     all = had_memory x.outcome.end
 
-    P : HasPrinted taken flushed count all x.heard x.outcome.replies.items W.before (sink a) W.behind (sink b) (cause b)
-    P = has_printed all x.heard x.outcome.replies.items W.before a W.behind b W.hands
+    P : HasPrinted taken flushed count all x.heard (map reply_in W.ran.kept) W.before (sink a) W.behind (sink b) (cause b)
+    P = has_printed all x.heard (map reply_in W.ran.kept) W.before a W.behind b W.hands
 
     windows_are : P.out.windows ≡ W.hands.windows
     unfolding P
-    windows_are = (printed all x.heard x.outcome.replies.items W.before a W.behind b W.hands).1
+    windows_are = (printed all x.heard (map reply_in W.ran.kept) W.before a W.behind b W.hands).1
 
     -- a window's text is out, or there is a cause
     heard_by : why ≡ None → x.heard ≡ true
@@ -216,6 +217,7 @@ module _ {T S : Type 0} (handle : T → ℕ) (sink : T → S) (cause : T → Opt
       split = W.split;
       whole = λ is. W.whole (heard_by is);
       ran = W.ran;
+      comes = W.comes;
       memory = λ m. none ((W.hands.short (ap had_memory m)).1);
       later = P.later;
       begins = P.begins;

@@ -36,12 +36,12 @@ use Rattle.core_worker.specs.Openings.{IsNew, IsStartAt}
 use Rattle.core_worker.specs.WorkerMoves.{hands_of}
 use Rattle.engine_core.specs.Seated.{Seat}
 use Rattle.engine_core.specs.Working.{IsMember, may_take, leads}
-use Rattle.thread_engine.specs.declared.muster.Crew.{Crew}
+use Rattle.thread_engine.specs.declared.crew.Crew.{Crew}
 use Rattle.thread_engine.specs.WorkStates.{IsAtWork}
 use Rattle.thread_engine.specs.Windows.{dealt_from, OwnsKeys}
 use Rattle.thread_engine.specs.Pieces.{IsPieceOf}
 use Rattle.thread_engine.specs.CoreRuns.{HasView, LoadsLook, requests_to}
-use Rattle.thread_engine.specs.Manned.{AreManned, AllEnded}
+use Rattle.thread_engine.specs.TableTokens.{HaveTokens, AllEnded}
 use Rattle.thread_engine.specs.Returns.{core_stands, Went}
 use Rattle.thread_engine.specs.Supplied.{ArePartCuts}
 use Rattle.thread_engine.proofs.PieceStands.{piece_member}
@@ -115,7 +115,7 @@ shown_view n (x ∷ ts) tokens E d sizes (suc g) m t u at low there =
     ∙ ap (slice_get tokens) (let many = E.3 in let size = sizes 0 x refl in let z : length E.0 + (g * n + m) ≡ suc g * n + m = omega (arith, many, size) in z) ∙ there)
 
 module _ {P : Type 0} (state : P → State) (refused : Bool) (o : Origin) (r : Recovered) (is_layout : IsLayout (layout_of o.found)) (given : List Request) (tables : List GroupTable) (crew : Crew) (pieces : List P) (cuts : List ℕ)
-    (manned : AreManned o.found tables crew.tokens.items) (table_count : length tables ≡ groups_in (layout_of o.found))
+    (have_tokens : HaveTokens o.found tables crew.tokens.items) (table_count : length tables ≡ groups_in (layout_of o.found))
     (new : (c : ℕ) (w : Worker) (start : CoreStart) → slice_get crew.workers.items c ≡ Some w → slice_get r.starts.items c ≡ Some start → IsNew start r.layout w)
     (seats : (c : ℕ) (w : Worker) → slice_get crew.workers.items c ≡ Some w → Seat hands_of answers_of IsMember fair may_take leads (opening o) c w)
     (starts : (c : ℕ) → c < (layout_of o.found).cores → (start : CoreStart) × (slice_get r.starts.items c ≡ Some start) × IsStartAt (place_at (layout_of o.found) (group_of (layout_of o.found) c)) (member_of (layout_of o.found) c) o.found start)
@@ -134,10 +134,10 @@ module _ {P : Type 0} (state : P → State) (refused : Bool) (o : Origin) (r : R
     t_there = ap (slice_get crew.tokens.items) (div-add-mod' c l.group) ∙ t_at
 
     seat_is : seat_of t.own ≡ member_at (id_of table.0) (place_at l (group_of l c)) (member_of l c)
-    seat_is = manned.seats (group_of l c) (member_of l c) table.0 t table.1 (member_low l is_layout c) t_there
+    seat_is = have_tokens.seats (group_of l c) (member_of l c) table.0 t table.1 (member_low l is_layout c) t_there
 
     pub view_is : view_at t.own ≡ view_of (opened (place_at l (group_of l c)) o.found) (member_of l c)
-    view_is = manned.views (group_of l c) (member_of l c) table.0 t table.1 (member_low l is_layout c) t_there
+    view_is = have_tokens.views (group_of l c) (member_of l c) table.0 t table.1 (member_low l is_layout c) t_there
 
     pub place_is : (seat_of t.own).place ≡ place_at l (group_of l c)
     place_is = ap (λ y. y.place) seat_is
@@ -224,7 +224,7 @@ module _ {P : Type 0} (state : P → State) (refused : Bool) (o : Origin) (r : R
           handed = G.works.gives;
           none = G.none;
           at_work = first_works;
-          idle = idle_trail t.own.seat.me.0 (manned.idle (group_of l c) (member_of l c) table.0 t table.1 (member_low l is_layout c) t_there);
+          idle = idle_trail t.own.seat.me.0 (have_tokens.idle (group_of l c) (member_of l c) table.0 t table.1 (member_low l is_layout c) t_there);
           loads = subst (λ (v : View). LoadsLook v (trail_at u.own)) (sym view_is) loads;
           work = G.work;
           ended = G.ended;

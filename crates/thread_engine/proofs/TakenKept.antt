@@ -1,5 +1,5 @@
 -- What is kept by number of answers whose numbers differ.
-use Rattle.std.proofs.Common.{◌≡◌, ◌⊎◌, inl, inr, ℕ, zero, suc, ◌<◌, List, [], ◌∷◌, ◌++◌, length, Option, Some, IsPermutation, Contains, get_or, slice_index_or, refl, sym, ◌∙◌, ap, subst, arith}
+use Rattle.std.proofs.Common.{◌≡◌, ◌⊎◌, inl, inr, ℕ, zero, suc, ◌<◌, ◌≤◌, List, [], ◌∷◌, ◌++◌, length, Option, Some, None, IsPermutation, Contains, get_or, slice_index_or, refl, sym, ◌∙◌, ap, subst, arith}
 use Rattle.std.specs.Prelude.{slice_set}
 use Rattle.std.proofs.lemmas.List.Sorted.{Contains-permutation}
 use Rattle.store_image.specs.Facts.{In}
@@ -9,9 +9,10 @@ use Rattle.answer_queue.specs.Accounts.{times, numbers, AreDistinct}
 use Rattle.answer_queue.proofs.Clients.{once_here}
 use Rattle.answer_cores.specs.Passes.{all_answers}
 use Rattle.engine_core.specs.declared.types.Stamped.{Stamped}
-use Rattle.engine_core.specs.Answers.{kept_at, stored, HavePlaces}
+use Rattle.engine_core.specs.Answers.{kept_at, stored}
 use Rattle.thread_engine.specs.RanApart.{stamped}
 use Rattle.thread_engine.specs.Windows.{EachChanges}
+use Rattle.thread_engine.specs.Takings.{AreWithin}
 use Rattle.thread_engine.specs.Collected.{AreBlank, with_stamp, restamped}
 use Rattle.thread_engine.proofs.KeptAnswers.{set_here, set_long, not_there}
 
@@ -29,10 +30,10 @@ taken_kept (x ∷ xs) t ys d low a (inl e) =
 taken_kept (x ∷ xs) t ys d low a (inr i) =
     taken_kept xs t (slice_set ys x.number (Some (stamped t x))) (λ n. (let h = d n in omega (arith, h))) (λ b j. subst (λ n. b.number < n) (sym (set_long ys x.number (Some (stamped t x)))) (low b (inr j))) a i
 
--- numbers have places
-pub places_in : (n : ℕ) (outs : List Answer) → ((a : Answer) → In a outs → a.number < n) → HavePlaces n outs
-places_in n [] h = tt
-places_in n (a ∷ outs) h = (h a (inl refl), places_in n outs (λ b i. h b (inr i)))
+-- numbers are within these
+pub all_within_of : (n m : ℕ) (outs : List Answer) → ((a : Answer) → In a outs → (n ≤ a.number) × (a.number < m)) → AreWithin n m outs
+all_within_of n m [] h = tt
+all_within_of n m (a ∷ outs) h = (let w = h a (inl refl) in (w.0, w.1, all_within_of n m outs (λ b i. h b (inr i))))
 
 in_either : (a : Answer) (xs ys : List Answer) → In a (xs ++ ys) → In a xs ⊎ In a ys
 in_either a [] ys i = inr i
@@ -88,9 +89,8 @@ pub restamped_long : (t : ℕ) (ys : List (Option Stamped)) → length (restampe
 restamped_long t [] = refl
 restamped_long t (y ∷ ys) = ap suc (restamped_long t ys)
 
--- each was set
-pub each_restamped : (t : ℕ) (a b : List (Option Stamped)) → EachChanges (λ x y. y ≡ with_stamp t x) a b → b ≡ restamped t a
-each_restamped t [] [] C = refl
-each_restamped t [] (y ∷ ys) C = absurd (let n = C.count in omega (arith, n))
-each_restamped t (x ∷ xs) [] C = absurd (let n = C.count in omega (arith, n))
-each_restamped t (x ∷ xs) (y ∷ ys) C = (λ i. C.each 0 x (omega arith) i ∷ each_restamped t xs ys (record { count = (let n = C.count in omega (arith, n)); each = λ j d low. C.each (suc j) d (omega (arith, low)) }) i)
+-- each was taken away
+pub each_cleared : (a b : List (Option Stamped)) → EachChanges (λ x y. y ≡ None) a b → AreBlank b
+each_cleared a [] C = tt
+each_cleared [] (y ∷ ys) C = absurd (let n = C.count in omega (arith, n))
+each_cleared (x ∷ xs) (y ∷ ys) C = (C.each 0 x (omega arith), each_cleared xs ys (record { count = (let n = C.count in omega (arith, n)); each = λ j d low. C.each (suc j) d (omega (arith, low)) }))

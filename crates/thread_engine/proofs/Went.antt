@@ -15,8 +15,8 @@ use Rattle.atomic_board.specs.MemberSeats.{seat_of, view_at, trail_at, done_at}
 use Rattle.atomic_board.specs.Deeds.{committed_at}
 use Rattle.batch_leader.specs.TurnSteps.{trail_with}
 use Rattle.thread_engine.specs.declared.core_job.CoreJob.{CoreJob}
-use Rattle.thread_engine.specs.declared.muster.Crew.{Crew}
-use Rattle.thread_engine.specs.declared.muster.Returned.{Returned}
+use Rattle.thread_engine.specs.declared.crew.Crew.{Crew}
+use Rattle.thread_engine.specs.declared.crew.Returned.{Returned}
 use Rattle.thread_engine.specs.WorkStates.{WorkState, IsAtWork, WorksOn, HasEnded, stands_at, Sight}
 use Rattle.thread_engine.specs.Windows.{dealt_from, dealt_by, OwnsKeys, AreAtRest, WentOn, WorksThrough}
 use Rattle.thread_engine.specs.WindowJobs.{IsAtRest}

@@ -1,5 +1,5 @@
 -- A window, job by job: requests join, passes are given, the cores work, and the passes are taken back.
-use Rattle.std.proofs.Common.{◌≡◌, ℕ, zero, suc, ◌+◌, ◌<◌, ◌≤◌, Bool, List, [], ◌∷◌, ◌++◌, length, Option, Some, slice_index_or, option_to_list, IsPermutation, refl, sym, ◌∙◌, ap, subst, arith}
+use Rattle.std.proofs.Common.{◌≡◌, ℕ, zero, suc, ◌+◌, ◌<◌, ◌≤◌, Bool, List, [], ◌∷◌, ◌++◌, length, map, Option, Some, slice_index_or, option_to_list, IsPermutation, refl, sym, ◌∙◌, ap, subst, arith}
 use Rattle.crossbeam_queue.specs.Passes.{Pass}
 use Rattle.fs_model.specs.declared.model.Request.{Request}
 use Rattle.pm_region.specs.State.{State}
@@ -7,7 +7,7 @@ use Rattle.group_board.specs.Seats.{SeatAt}
 use Rattle.core_worker.specs.declared.types.Answer.{Answer}
 use Rattle.answer_queue.specs.declared.account.Account.{Account}
 use Rattle.answer_queue.specs.declared.answer_queue.AnswerQueue.{AnswerQueue}
-use Rattle.answer_queue.specs.declared.window_sizes.TheConstants.{PARTS}
+use Rattle.answer_queue.specs.declared.window_sizes.TheConstants.{PARTS, WINDOW}
 use Rattle.answer_queue.specs.Accounts.{times, numbers, numbers_from, AreAmong, AreDistinct, granted}
 use Rattle.answer_queue.proofs.Clients.{times_append, numbers_append, times_permutation}
 use Rattle.answer_cores.proofs.Clients.{whole}
@@ -15,14 +15,15 @@ use Rattle.answer_cores.specs.Passes.{AllPut, IsWhole, IsDealt as HasNumbers, nu
 use Rattle.thread_engine.specs.declared.core_job.CoreJob.{CoreJob}
 use Rattle.thread_engine.specs.WorkStates.{Sight, WorkState, stands_at}
 use Rattle.engine_core.specs.declared.types.Stamped.{Stamped}
-use Rattle.engine_core.specs.Answers.{HavePlaces, stored}
+use Rattle.engine_core.specs.Answers.{stored}
 use Rattle.store_image.specs.Facts.{In}
 use Rattle.thread_engine.specs.Windows.{dealt_from, OwnsKeys, IsDealt, AreDealt, AreAtRest, AllWentOn, HaveEnded, HaveGiven, HaveMemory, EachChanges}
-use Rattle.thread_engine.specs.Takings.{TakenAs}
+use Rattle.thread_engine.specs.Collected.{IsWindow}
+use Rattle.thread_engine.specs.Takings.{AreWithin, TakenIn, numbered_from}
 use Rattle.thread_engine.specs.WindowJobs.{IsAtRest, Awaits, IsReady, Worked, AllWorked, WorksWindow, TakesPass, LosesPass, without_queue, put_in, puts_of, waiting_for, passes_of}
 use Rattle.thread_engine.proofs.WindowNumbers.{dealt_among, number_there}
 use Rattle.thread_engine.proofs.WindowWork.{dealt_works, dealt_went}
-use Rattle.thread_engine.proofs.TakenKept.{in_times, places_in}
+use Rattle.thread_engine.proofs.TakenKept.{in_times, all_within_of}
 
 module _ {B P : Type 0} (seat : B → SeatAt) (sight : B → Sight) (state : P → State) (refused : Bool) (q : AnswerQueue) where
   abbrev Job : Type 0
@@ -184,8 +185,17 @@ module _ {B P : Type 0} (seat : B → SeatAt) (sight : B → Sight) (state : P �
             let high = at.1 in
             (low, omega (arith, high, few))
 
-        pub all_taken : (kept kept' : List (Option Stamped)) → kept' ≡ stored taken 0 kept → TakenAs 0 n m W.outs kept kept'
-        all_taken kept kept' is = record { taken = taken; all = W.all; distinct = W.distinct; within = all_within; kept = is }
+        pub all_taken : (places window : List (Option Stamped)) → IsWindow places → m ≤ n + WINDOW → window ≡ stored (map (numbered_from n) taken) 0 places → TakenIn n m W.outs window
+        all_taken places window P low is = record {
+          taken = taken;
+          all = W.all;
+          distinct = W.distinct;
+          within = all_within;
+          places = places;
+          blank = P.blank;
+          long = (let long = P.count in omega (arith, long, low));
+          kept = is;
+        }
 
-        pub all_places : (k : ℕ) → m ≤ k → HavePlaces k taken
-        all_places k high = places_in k taken (λ x i. (let less = (all_within x i).1 in omega (arith, less, high)))
+        pub all_places : (k : ℕ) → m ≤ k → AreWithin n k taken
+        all_places k high = all_within_of n k taken (λ x i. (let w = all_within x i in let low = w.0 in let less = w.1 in (low, omega (arith, less, high))))

@@ -1,7 +1,8 @@
 -- What is kept of the answers, and how a run ended by its workers.
-use Rattle.std.specs.Prelude.{◌≡◌, ℕ, List, map, Bool, true, false, Option, Some, None, if◌then◌else◌}
+use Rattle.std.specs.Prelude.{◌≡◌, ℕ, zero, suc, List, [], ◌∷◌, length, map, Bool, true, false, Option, Some, None, if◌then◌else◌}
 use Rattle.std.specs.List.{list_any, AllByRecursion}
 use Rattle.core_worker.specs.declared.worker.Worker.{Worker}
+use Rattle.answer_queue.specs.declared.window_sizes.TheConstants.{WINDOW}
 use Rattle.engine_core.specs.declared.types.Stamped.{Stamped}
 use Rattle.engine_core.specs.declared.run_outcome.End.{End}
 use Rattle.engine_core.specs.declared.run_outcome.End.TheVariants as ends
@@ -9,6 +10,16 @@ use Rattle.engine_core.specs.declared.run_outcome.End.TheVariants as ends
 -- nothing is answered yet
 abbrev pub AreBlank : List (Option Stamped) → Type 0
 AreBlank xs = AllByRecursion (λ x. x ≡ None) xs
+
+-- so many places in which nothing is answered
+abbrev pub blanks : ℕ → List (Option Stamped)
+blanks zero = []
+blanks (suc n) = None ∷ blanks n
+
+-- the places of a window, before its first answer
+pub record IsWindow (xs : List (Option Stamped)) : Type 0 where
+  pub blank : AreBlank xs
+  pub count : length xs ≡ WINDOW
 
 -- what is kept, each answer with this stamp
 abbrev pub with_stamp : ℕ → Option Stamped → Option Stamped

@@ -6,7 +6,7 @@ pub mod WindowLaws
 pub mod Cuts
 pub mod Between
 pub mod RanApart
-pub mod Manned
+pub mod TableTokens
 pub mod Requests
 pub mod Windows
 pub mod Outlets
@@ -15,5 +15,6 @@ pub mod Desks
 pub mod Takings
 pub mod Returns
 pub mod Collected
+pub mod Noted
 pub mod Supplied
 pub mod Printed

@@ -1,5 +1,5 @@
 -- What an outlet over a sink makes of a window's replies.
-use Rattle.std.specs.Prelude.{◌≡◌, ◌≢◌, ◌⊎◌, ℕ, ◌*◌, ◌≤◌, List, [], ◌++◌, length, Bool, true, false, Option, Some, None}
+use Rattle.std.specs.Prelude.{◌≡◌, ◌≢◌, ◌⊎◌, ℕ, ◌*◌, ◌≤◌, List, [], ◌++◌, length, map, Bool, true, false, Option, Some, None}
 use Rattle.std.specs.List.{AllByRecursion}
 use Rattle.fs_model.specs.declared.model.Reply.{Reply}
 use Rattle.fs_model.specs.declared.model.Request.{Request}
@@ -8,11 +8,12 @@ use Rattle.pm_region.specs.Split.{IsRevalidated, IsNotRevalidated, IsOutOfPlace}
 use Rattle.answer_queue.specs.declared.window_sizes.TheConstants.{WINDOW}
 use Rattle.thread_engine.specs.Collected.{had_memory}
 use Rattle.thread_engine.specs.Outlets.{IsAsked, all_replies, TakesAll}
-use Rattle.thread_engine.specs.RanApart.{RanApart}
+use Rattle.thread_engine.specs.RanApart.{RanApart, ComesTo}
 use Rattle.thread_engine.specs.Between.{HoldsBehind}
 use Rattle.fs_text.specs.Output.{replies_text}
 use Rattle.fs_text.specs.Streams.{Takes, TakesPrefix}
 use Rattle.recover.specs.declared.types.Recovered.{Recovered}
+use Rattle.engine_core.specs.Reports.{reply_in}
 use Rattle.engine_core.specs.declared.run_outcome.End.TheVariants as ends
 use Rattle.thread_engine.specs.declared.run_to_sink.SinkRun.{SinkRun}
 use Rattle.thread_engine.specs.declared.text_outlet.Unwritten.{Unwritten}
@@ -85,23 +86,24 @@ pub record RanToSink (before now : Option (List ℕ)) (flushed : Bool) (count co
   pub more : List Request
   pub split : asked ≡ given ++ more
   pub whole : x.unwritten ≡ None → more ≡ []
-  pub ran : RanApart s word refused r given t x.outcome
+  pub ran : RanApart s word refused r given t x.outcome.end
+  pub comes : ComesTo t ran.kept x.outcome
   pub memory : x.outcome.end ≡ ends.Memory → x.unwritten ≡ None
   pub later : count ≤ count'
-  pub begins : TakesPrefix before now (replies_text x.outcome.replies.items)
+  pub begins : TakesPrefix before now (replies_text (map reply_in ran.kept))
   -- between the split, before which nobody asked the region whether it is in its place, and the join
   pub parted : State
   pub behind : State
   pub unasked : IsNotRevalidated s parted
   pub asked_since : IsNotRevalidated behind t
-  pub out : IsOutInWindows parted behind before now x.outcome.replies.items
+  pub out : IsOutInWindows parted behind before now (map reply_in ran.kept)
   -- Behind each window whose text is out every core rested, and a crash from there on leaves all of its changes; so behind the last one, where it was to go out.
   pub between : (i : ℕ) → i ≤ length out.windows
       → HoldsBehind ran.origin r refused ran.last ran.ran.cores (i * WINDOW)
   pub ended : had_memory x.outcome.end ≡ true
       → HoldsBehind ran.origin r refused ran.last ran.ran.cores (length given)
   pub writes : had_memory x.outcome.end ≡ true → x.unwritten ≡ None
-      → Takes before now (replies_text x.outcome.replies.items) × (flushed ≡ true)
+      → Takes before now (replies_text (map reply_in ran.kept)) × (flushed ≡ true)
   pub sunk : x.unwritten ≡ Some SinkFault → Rose count count'
   -- it was found in its place, or was not
   pub found : had_memory x.outcome.end ≡ true → x.unwritten ≢ Some Astray

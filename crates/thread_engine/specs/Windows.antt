@@ -16,7 +16,10 @@ use Rattle.engine_core.specs.Reports.{reply_in}
 use Rattle.thread_engine.specs.declared.windows.Course.{Course}
 use Rattle.thread_engine.specs.WorkStates.{Sight, IsAtWork, WorksOn, HasEnded, stands_at}
 use Rattle.thread_engine.specs.WindowJobs.{IsAtRest}
-use Rattle.thread_engine.specs.Takings.{TakenAs}
+use Rattle.thread_engine.specs.declared.run_notes.RunNotes.{RunNotes}
+use Rattle.thread_engine.specs.Collected.{blanks}
+use Rattle.thread_engine.specs.Takings.{TakenAs, TakenIn}
+use Rattle.thread_engine.specs.Noted.{IsNoted}
 use Rattle.thread_engine.specs.Outlets.{HandsOut}
 use Rattle.thread_engine.specs.Between.{RestsEach}
 
@@ -132,10 +135,10 @@ pub record Winds {B P : Type 0} (seat : B → SeatAt) (sight : B → Sight) (sta
   pub winds : new ≡ record old { worker = record old.worker { winds_down = true } }
   pub work : IsAtWork (seat old.seat) (stands_at sight state new)
 
--- The first of the requests that were to come were dealt, numbered from n, and worked off to the cores' ends. All answers were handed over and taken, and are kept by number, each of a number below m.
+-- The first of the requests that were to come were dealt, numbered from n, and worked off to the cores' ends. All answers were handed over and taken, and are in the window's places by their numbers, each below m.
 pub record WorksOffSome {B P : Type 0} (seat : B → SeatAt) (sight : B → Sight) (state : P → State)
     (refused : Bool) (n m : ℕ) (left : List Request) (old new : List (CoreJob B P))
-    (kept kept' : List (Option Stamped)) : Type 0 where
+    (window : List (Option Stamped)) : Type 0 where
   pub dealt : List Request
   pub rest : List Request
   pub split : left ≡ dealt ++ rest
@@ -143,19 +146,19 @@ pub record WorksOffSome {B P : Type 0} (seat : B → SeatAt) (sight : B → Sigh
   pub went : AllWentOn seat sight state refused n dealt outs old new
   pub ended : HaveEnded sight state new
   pub none : HaveGiven new
-  pub taken : TakenAs 0 n m outs kept kept'
+  pub taken : TakenIn n m outs window
 
 -- Those before number m were, with memory, and the others are still to come.
 pub record WorksOffTo {B P : Type 0} (seat : B → SeatAt) (sight : B → Sight) (state : P → State)
     (refused : Bool) (n m : ℕ) (left more : List Request) (old new : List (CoreJob B P))
-    (kept kept' : List (Option Stamped)) : Type 0 where
+    (window : List (Option Stamped)) : Type 0 where
   pub dealt : List Request
   pub split : left ≡ dealt ++ more
   pub end : n + length dealt ≡ m
   pub outs : List (List Answer)
   pub went : AllWentOn seat sight state refused n dealt outs old new
   pub rest : AreAtRest seat sight state new
-  pub taken : TakenAs 0 n m outs kept kept'
+  pub taken : TakenIn n m outs window
 
 -- The first of a run's requests were dealt and worked off to the cores' ends; where there was memory, all of them, and else every worker winds down. Behind each of the first so many windows every core rested. All answers were handed over and taken, each once and no other, and are kept by number.
 pub record WorksThrough {B P : Type 0} (seat : B → SeatAt) (sight : B → Sight) (state : P → State)
@@ -175,13 +178,16 @@ pub record WorksThrough {B P : Type 0} (seat : B → SeatAt) (sight : B → Sigh
   pub memory : all ≡ true → HaveMemory new
   pub wound : all ≡ false → WindDown new
 
--- The first of these requests were begun, window by window, and this was done to them, by how many windows before the last one were handed over; what is kept has a place for each of them alone. Their replies were handed to an outlet, each window's behind its window. All requests were begun unless it did not take a window's replies: then nothing was begun behind that window.
+-- The first of these requests were begun, window by window, and this was done to them, by how many windows before the last one were handed over. Of their answers, each with a place by number, there are the notes. Their replies were handed to an outlet, each window's behind its window. All requests were begun unless it did not take a window's replies: then nothing was begun behind that window.
 pub record InWindows {T : Type 0} (takes : State → T → List Reply → Bool → State → T → Type 0)
-    (left : List Request) (x : Course) (Did : ℕ → List Request → List (Option Stamped) → Type 0)
-    (kept kept' : List (Option Stamped)) (s : State) (old : T) (t : State) (new : T) : Type 0 where
+    (left : List Request) (x : Course)
+    (Did : ℕ → List Request → (places kept : List (Option Stamped)) → Type 0)
+    (notes : RunNotes) (s : State) (old : T) (t : State) (new : T) : Type 0 where
   pub given : List Request
   pub more : List Request
   pub split : left ≡ given ++ more
   pub whole : x.heard ≡ true → more ≡ []
-  pub hands : HandsOut takes x.all x.heard (map reply_in kept') s old t new
-  pub did : Did (length hands.windows) given (take (length given) kept)
+  pub kept : List (Option Stamped)
+  pub noted : IsNoted kept notes
+  pub hands : HandsOut takes x.all x.heard (map reply_in kept) s old t new
+  pub did : Did (length hands.windows) given (blanks (length given)) kept

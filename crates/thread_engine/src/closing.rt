@@ -1,6 +1,6 @@
 // The tables of a run's groups are closed with the tokens that came back.
 ghost use Rattle.std.specs.Prelude.{◌≡◌, ◌*◌, ◌≤◌, ◌++◌, [], length, vec_capacity, IfOk};
-ghost use Rattle.thread_engine.specs.Manned.{AllEnded, AreTokensOf, AreHands};
+ghost use Rattle.thread_engine.specs.TableTokens.{AllEnded, AreTokensOf, AreTokenRooms};
 
 use atomic_board::{GroupTable, SeatToken};
 use fs_model::Memory;
@@ -23,38 +23,38 @@ fn first_of(tokens: &mut VecDeque<SeatToken>, count: u32, mut own: Vec<SeatToken
     own
 }
 
-/// Closes each table with its members' tokens. `hands` has room for the tokens of one table each. It takes no memory.
+/// Closes each table with its members' tokens. `rooms` has room for the tokens of one table each. It takes no memory.
 pub fn close_tables(
     tables: Vec<GroupTable>,
     members: u32,
     tokens: Vec<SeatToken>,
-    mut hands: Vec<Vec<SeatToken>>,
+    mut rooms: Vec<Vec<SeatToken>>,
 )
     requires tokens { AreTokensOf members tables.items tokens.items }
-    requires hands { AreHands members (length tables.items) hands.items }
+    requires rooms { AreTokenRooms members (length tables.items) rooms.items }
     ensures { AllEnded tables.items tokens.items }
 {
     let mut tokens = VecDeque::from_vec(tokens);
     for table in tables {
-        let Some(hand) = hands.pop() else {
+        let Some(room) = rooms.pop() else {
             unreachable!()
         };
-        let own = first_of(&mut tokens, members, hand);
+        let own = first_of(&mut tokens, members, room);
         drop(table.close(own));
     }
 }
 
 /// Room for the tokens of each table.
-pub fn empty_hands(
+pub fn token_rooms(
     alloc: Global,
     members: u32,
     groups: usize,
 ) -> Result<Vec<Vec<SeatToken>>, Memory>
-    ensures { IfOk result (λ hands. AreHands members groups hands.items) }
+    ensures { IfOk result (λ rooms. AreTokenRooms members groups rooms.items) }
 {
-    let mut hands = Vec::with_capacity(alloc, groups)?;
+    let mut rooms = Vec::with_capacity(alloc, groups)?;
     for _ in 0..groups {
-        hands.push_reserved(Vec::with_capacity(alloc, members as usize)?);
+        rooms.push_reserved(Vec::with_capacity(alloc, members as usize)?);
     }
-    Ok(hands)
+    Ok(rooms)
 }

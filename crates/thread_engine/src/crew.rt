@@ -1,47 +1,43 @@
-// All cores at work, each in a thread of its own.
-ghost use Rattle.std.specs.Prelude.{◌≡◌, ℕ, ◌<◌, length, slice_index_or};
-ghost use Rattle.thread_engine.specs.declared.core_job.CoreJob as data_of;
-ghost use Rattle.thread_engine.specs.WorkStates.{sight_by};
-ghost use Rattle.thread_engine.specs.WindowJobs.{IsReady, WorksWindow};
+// What the cores of a run begin with, and what they give back.
+ghost use Rattle.std.specs.Prelude.{IfOk};
+ghost use Rattle.thread_engine.specs.Returns.{HasRoomOf};
 
-use crate::core_job::CoreJob;
-use answer_queue::AnswerQueue;
-use core_worker::Gate;
-use group_board::Board;
-use pm_region::Region;
-use std::alloc::Global;
-use std::sync::Wait;
-use std::sync::atomic::AtomicBool;
-use std::thread;
-use std::thread::Threads;
+use atomic_board::SeatToken;
+use core_worker::Worker;
+use std::alloc::{AllocError, Global};
 
-/// Does the work of all cores in a window, each in a thread of its own, and returns when all have ended and have handed
-/// their answers over. Where a thread can't be started, its core's work is done by another one, before or after its own.
-/// Where there was no memory already, `short` says so: then nothing is begun. It takes no memory.
-pub fn work_all<R: Threads + Wait + Sync, B: Board + Send, P: Region + Send, G: Gate + Sync>(
-    rt: &R,
-    alloc: Global,
-    jobs: &mut [CoreJob<B, P>],
-    gate: &G,
-    short: bool,
-    answers: &AnswerQueue,
-)
-    requires { (c : ℕ) (d : data_of.CoreJob B P) → c < length jobs.old
-        → IsReady B.seat (sight_by B.view B.trail B.at) P.state answers.now
-        (slice_index_or jobs.old c d) }
-    ensures { (c : ℕ) (d : data_of.CoreJob B P) → c < length jobs.old
-        → WorksWindow B.seat (sight_by B.view B.trail B.at) P.state (G.may_refuse gate.now)
-        answers.now (slice_index_or jobs.old c d) (slice_index_or jobs.new c d) }
-{
-    if jobs.is_empty() {
-        return;
+/// What the cores begin with but their pieces, in the cores' order: their tokens and their workers.
+#[derive(Drop)]
+pub struct Crew {
+    /// One for each core, of its seat at its group's table.
+    pub tokens: Vec<SeatToken>,
+    /// One for each core.
+    pub workers: Vec<Worker>,
+}
+
+/// What the cores give back, in the cores' order: their pieces, their tokens and their workers.
+#[derive(Drop)]
+pub struct Returned<P> {
+    /// For the join.
+    pub pieces: Vec<P>,
+    /// For closing the tables.
+    pub tokens: Vec<SeatToken>,
+    /// They have handed over the answers that they fixed.
+    pub workers: Vec<Worker>,
+}
+
+impl<P: Drop> Returned<P> {
+    /// Room for what so many cores give back.
+    pub fn with_room(alloc: Global, cores: usize) -> Result<Returned<P>, AllocError>
+        ensures { IfOk result (HasRoomOf cores) }
+    {
+        let pieces = Vec::with_capacity(alloc, cores)?;
+        let tokens = Vec::with_capacity(alloc, cores)?;
+        let workers = Vec::with_capacity(alloc, cores)?;
+        Ok(Returned {
+            pieces,
+            tokens,
+            workers,
+        })
     }
-    let short = AtomicBool::new(short);
-    let threads = jobs.len();
-    thread::for_each_mut(
-        rt,
-        jobs,
-        threads,
-        &|_, job| job.work_window(rt, alloc, gate, &short, answers),
-    );
 }

@@ -4,18 +4,16 @@ ghost use Rattle.answer_queue.specs.declared.window_sizes.TheConstants.{WINDOW, 
 ghost use Rattle.answer_queue.specs.Accounts.{AreAmong};
 ghost use Rattle.answer_queue.specs.Queues.{account_of};
 ghost use Rattle.answer_cores.specs.Passes.{all_numbers};
-ghost use Rattle.engine_core.specs.Answers.{HavePlaces, stored};
 ghost use Rattle.thread_engine.specs.declared.core_job.CoreJob as data_of;
 ghost use Rattle.thread_engine.specs.WorkStates.{sight_by};
 ghost use Rattle.thread_engine.specs.WindowJobs.{Awaits, AllWorked, waiting_for};
 ghost use Rattle.thread_engine.specs.Desks.{IsOpen, IsFresh};
 
 use crate::core_job::CoreJob;
-use crate::crew::work_all;
-use crate::passes::{deal_passes, take_passes};
+use crate::window_passes::{deal_passes, take_passes};
+use crate::work_all::work_all;
 use answer_queue::{AnswerPass, AnswerQueue, WINDOW, take_all};
 use core_worker::{Answer, Gate};
-use engine_core::types::Stamped;
 use group_board::Board;
 use pm_region::Region;
 use std::alloc::{AllocError, Global};
@@ -74,18 +72,4 @@ pub fn work_at_desk<R: Threads + Wait + Sync, B: Board + Send, P: Region + Send,
     work_all(rt, alloc, jobs, gate, short, &queue);
     take_passes(&queue, &mut pass, jobs);
     take_all(rt, &queue, &mut pass, room)
-}
-
-/// Keeps a window's answers by their numbers. Their stamps are set later.
-pub fn keep_taken(taken: Vec<Answer>, kept: &mut Vec<Option<Stamped>>)
-    requires { HavePlaces (length kept.old.items) taken.items }
-    ensures { kept.new.items ≡ stored taken.items 0 kept.old.items }
-{
-    for answer in taken {
-        kept[answer.number as usize] = Some(Stamped {
-            reply: answer.reply,
-            refusal: answer.refusal,
-            stamp: 0,
-        });
-    }
 }

@@ -8,7 +8,7 @@ ghost use Rattle.atomic_board.specs.Deeds.{began};
 ghost use Rattle.atomic_board.specs.GroupTables.{origin_of};
 ghost use Rattle.engine_laws.specs.Origins.{Origin};
 ghost use Rattle.engine_core.specs.RunStarts.{StandsAsFound, BeginsAt};
-ghost use Rattle.thread_engine.specs.Manned.{IsManned, AreManned};
+ghost use Rattle.thread_engine.specs.TableTokens.{AddsTokens, HaveTokens};
 
 use atomic_board::{GroupTable, SeatToken};
 use chunk_map::Geometry;
@@ -48,13 +48,13 @@ fn open_one<O: Opening, N: Numbered>(
 }
 
 // A table, and its tokens behind those of the tables before.
-fn man(
+fn add_tokens(
     alloc: Global,
     mut table: GroupTable,
     tokens: &mut Vec<SeatToken>,
 ) -> Result<GroupTable, Memory>
     ensures same { IfOk result (λ t. t ≡ table) }
-    ensures manned { IfOk result (λ t. IsManned t tokens.old.items tokens.new.items) }
+    ensures have_tokens { IfOk result (λ t. AddsTokens t tokens.old.items tokens.new.items) }
 {
     let seats = table.seats(alloc)?;
     for seat in seats {
@@ -69,14 +69,14 @@ fn open_each<O: Opening>(alloc: Global, members: u32, groups: u32) -> Result<Gro
         ≡ groups }
     requires members { (layout_of (image_of O.words)).group ≡ members }
     ensures length { IfOk result (λ x. length x.tables.items ≡ groups) }
-    ensures manned { IfOk result
-        (λ x. AreManned (image_of O.words) x.tables.items x.tokens.items) }
+    ensures have_tokens { IfOk result
+        (λ x. HaveTokens (image_of O.words) x.tables.items x.tokens.items) }
 {
     let mut tables = Vec::new(alloc);
     let mut tokens = Vec::new(alloc);
     for group in 0..groups {
         let table = open_one::<O, Brand>(alloc, members, group)?;
-        let table = man(alloc, table, &mut tokens)?;
+        let table = add_tokens(alloc, table, &mut tokens)?;
         tables.push(table)?;
     }
     Ok(GroupTables { tables, tokens })
@@ -92,8 +92,8 @@ fn open_on<F: FoundRegion, R: ReadRegion>(
     requires layout { layout_of (image_of F.words) ≡ layout }
     requires group { 0 < layout.group }
     ensures length { IfOk result (λ x. length x.tables.items ≡ layout.cores / layout.group) }
-    ensures manned { IfOk result
-        (λ x. AreManned (image_of F.words) x.tables.items x.tokens.items) }
+    ensures have_tokens { IfOk result
+        (λ x. HaveTokens (image_of F.words) x.tables.items x.tokens.items) }
 {
     open_each::<On<F>>(alloc, layout.group, layout.cores / layout.group)
 }
@@ -108,9 +108,9 @@ pub fn open_tables<R: ReadRegion>(
     requires region { StandsAsFound (R.state region.now) (R.word region.now) recovered.now }
     ensures length { IfOk result (λ x. length x.tables.items
         ≡ recovered.now.layout.cores / recovered.now.layout.group) }
-    ensures manned { IfOk result (λ x. (o : Origin)
+    ensures have_tokens { IfOk result (λ x. (o : Origin)
         × BeginsAt (R.state region.now) (R.word region.now) o
-        × AreManned o.found x.tables.items x.tokens.items) }
+        × HaveTokens o.found x.tables.items x.tokens.items) }
 {
     let geometry = recovered.layout.geometry();
     open_on::<Brand, R>(alloc, region, geometry)

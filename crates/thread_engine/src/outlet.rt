@@ -1,5 +1,5 @@
 // What the replies of a run are handed to.
-ghost use Rattle.std.specs.Prelude.{◌≡◌, ℕ, List, Bool, map, true};
+ghost use Rattle.std.specs.Prelude.{◌≡◌, ℕ, List, Bool, map};
 ghost use Rattle.fs_model.specs.declared.model.Reply as replies;
 ghost use Rattle.pm_region.specs.State.{State};
 ghost use Rattle.engine_core.specs.Reports.{reply_in};
@@ -25,21 +25,4 @@ pub trait Outlet {
         ensures took { takes (R.state region.old) self.old (map reply_in answers.now) result
             (R.state region.new) self.new }
         ensures asked { IsAsked (R.state region.old) (R.state region.new) };
-}
-
-/// Takes all replies, and does nothing with them: for who waits for the report.
-#[derive(Clone, Copy, Debug)]
-pub struct Silence;
-
-impl Outlet for Silence {
-    ghost takes = { λ s old replies heard t new. (heard ≡ true) × (t ≡ s) × (new ≡ old) };
-
-    fn take_window<R: SplitRegion>(
-        &mut self,
-        _alloc: Global,
-        _region: &mut R,
-        _answers: &[Option<Stamped>],
-    ) -> bool {
-        true
-    }
 }

@@ -7,20 +7,21 @@ ghost use Rattle.engine_core.specs.RunStarts.{StandsAsFound, BeginsAt};
 ghost use Rattle.thread_engine.specs.RanApart.{RanInWindows};
 ghost use Rattle.thread_engine.specs.Supplied.{IsSupplied, ArePartCuts};
 
-use crate::closing::{close_tables, empty_hands};
-use crate::collecting::{blank_answers, outcome_of};
+use crate::closing::{close_tables, token_rooms};
+use crate::crew::{Crew, Returned};
 use crate::group_tables::open_tables;
-use crate::muster::{Crew, Returned, work_apart};
 use crate::outlet::Outlet;
 use crate::requests::Requests;
+use crate::run_answers::RunAnswers;
+use crate::run_end::run_end;
+use crate::run_notes::RunNotes;
+use crate::work_apart::work_apart;
 use crate::{cut_rules, opening_rules, refusal_rules, work_rules};
 use atomic_board::{GroupTable, SeatToken};
 use chunk_map::{Geometry, Layout};
 use core_worker::Gate;
 use engine_core::open_workers::open_workers;
-use engine_core::run_outcome::Outcome;
-use engine_core::run_report::Report;
-use engine_core::types::Stamped;
+use engine_core::run_outcome::End;
 use engine_laws::engine_rules;
 use fs_model::Memory;
 use pm_region::{AttachError, ReadRegion, SplitRegion};
@@ -38,21 +39,30 @@ pub struct Supplies {
     pub tables: Vec<GroupTable>,
     /// What each core begins with but its piece.
     pub crew: Crew,
-    /// A place for each request's answer.
-    pub answers: Vec<Option<Stamped>>,
-    /// Nothing yet, with room for all answers.
-    pub report: Report,
+    /// None yet, with room for what is kept of all.
+    pub answers: RunAnswers,
     /// Room for the tokens of each table.
-    pub hands: Vec<Vec<SeatToken>>,
+    pub token_rooms: Vec<Vec<SeatToken>>,
     /// Where the parts begin, in words from the region's start, and where the last one ends.
     pub cuts: Vec<u64>,
 }
 
-/// What a run came to.
+/// What a run came to, on the requests that were begun. It has no reply: these were handed on.
 #[derive(Drop)]
 pub struct RunOutcome {
-    /// On the requests that were begun, window by window.
-    pub outcome: Outcome,
+    /// Of each request's answer. A request without one counts as stopped.
+    pub notes: RunNotes,
+    /// That of the joined region, by which each of these answers was fixed.
+    pub stamp: u64,
+    /// Whether all was answered, and why not.
+    pub end: End,
+}
+
+/// A run whose replies were handed on, window by window.
+#[derive(Drop)]
+pub struct HandedRun {
+    /// On the requests that were begun.
+    pub outcome: RunOutcome,
     /// Whether the outlet took all replies that it was handed. Where it did not, nothing was begun behind their window,
     /// and the outcome is that of the requests up to its end.
     pub heard: bool,
@@ -85,10 +95,8 @@ fn supply<R: ReadRegion>(
     let opened = open_tables(alloc, region, &recovered)?;
     let cuts = part_cuts(alloc, &recovered.layout)?;
     let workers = open_workers(alloc, recovered.layout, recovered.starts)?;
-    let answers = blank_answers(alloc, count)?;
-    let mut report = Report::new(alloc);
-    report.reserve(count)?;
-    let hands = empty_hands(alloc, layout.group, opened.tables.len())?;
+    let answers = RunAnswers::with_room(alloc, count)?;
+    let rooms = token_rooms(alloc, layout.group, opened.tables.len())?;
     Ok(Supplies {
         layout,
         tables: opened.tables,
@@ -97,8 +105,7 @@ fn supply<R: ReadRegion>(
             workers,
         },
         answers,
-        report,
-        hands,
+        token_rooms: rooms,
         cuts,
     })
 }
@@ -118,7 +125,7 @@ fn run_supplied<
     supplies: Supplies,
     requests: &mut Q,
     gate: &G,
-) -> Result<RunOutcome, AttachError>
+) -> Result<HandedRun, AttachError>
     requires whole { (R.state region.old).frame.parted ≡ false }
     requires supplied { (o : Origin) × (r : Recovered)
         × StandsAsFound (R.state region.old) (R.word region.old) r
@@ -145,8 +152,7 @@ fn run_supplied<
         tables,
         crew,
         mut answers,
-        report,
-        hands,
+        token_rooms,
         cuts,
     } = supplies;
     let cores = layout.cores as usize;
@@ -168,10 +174,15 @@ fn run_supplied<
         gate,
         &mut answers,
     );
-    close_tables(tables, layout.group, back.tokens, hands);
+    close_tables(tables, layout.group, back.tokens, token_rooms);
     region.join(back.pieces);
-    Ok(RunOutcome {
-        outcome: outcome_of(back.workers, answers, report, region.stamp(), course.all),
+    let outcome = RunOutcome {
+        notes: answers.notes,
+        stamp: region.stamp(),
+        end: run_end(back.workers, course.all),
+    };
+    Ok(HandedRun {
+        outcome,
         heard: course.heard,
     })
 }
@@ -179,7 +190,7 @@ fn run_supplied<
 /// Runs requests on a region that stands as recovery found it: one worker for each core, each in a thread of its own
 /// and on its own piece of the region. They are made and dealt window by window, and the replies of a window are handed
 /// to the outlet behind it, before the next one is begun. Where it does not take them, the run ends there: it is one of
-/// the requests up to the window's end. The report's stamps are the joined region's.
+/// the requests up to the window's end.
 ///
 /// Whatever the end of a run, the pieces are joined again. After an `Err` region and outlet are as they were:
 /// `RegionFault` comes where the region could not be split, and `Memory` where there was none for what the run needs.
@@ -197,7 +208,7 @@ pub fn run<
     recovered: Recovered,
     requests: &mut Q,
     gate: &G,
-) -> Result<RunOutcome, AttachError>
+) -> Result<HandedRun, AttachError>
     requires whole { (R.state region.old).frame.parted ≡ false }
     requires region { StandsAsFound (R.state region.old) (R.word region.old) recovered }
     ensures ran { IfOk result (λ x. RanInWindows O.takes (R.state region.old) (R.word region.old)

@@ -5,8 +5,10 @@ ghost use Rattle.engine_core.specs.RunStarts.{StandsAsFound};
 ghost use Rattle.thread_engine.specs.Printed.{RanToSink};
 
 use crate::requests::Requests;
-use crate::run_apart::run;
+use crate::run_apart::{RunOutcome, run};
 use crate::text_outlet::{TextOutlet, Unwritten};
+use crate::watch::Watch;
+use crate::watched_outlet::WatchedOutlet;
 use core_worker::Gate;
 use engine_core::run_outcome::Outcome;
 use fs_text::Sink;
@@ -20,7 +22,7 @@ use std::thread::Threads;
 #[derive(Drop)]
 pub struct SinkRun {
     /// On the requests that were begun: those of the input, or those up to the end of a window whose text is not out.
-    pub outcome: Outcome,
+    pub outcome: RunOutcome,
     /// Why a window's text is not out, where one's is not that was to go out. Where memory ran out in a window, its text
     /// was not to.
     pub unwritten: Option<Unwritten>,
@@ -36,7 +38,7 @@ fn unwritten_by(heard: bool, cause: Option<Unwritten>) -> Option<Unwritten>
 
 /// Runs requests as `run_apart::run` does, and writes the replies of each window behind it, once the region was found in
 /// its place; then the sink is flushed. Where the region was not, a write failed or there was no memory to write in, the
-/// run ends behind that window.
+/// run ends behind that window. A watch is told before each window's text, and how many requests are answered behind it.
 ///
 /// After an `Err` region and sink are as they were.
 pub fn run_to_sink<
@@ -45,6 +47,7 @@ pub fn run_to_sink<
     O: Sink,
     G: Gate + Sync,
     Q: Requests,
+    W: Watch,
 >(
     rt: &T,
     alloc: Global,
@@ -53,6 +56,7 @@ pub fn run_to_sink<
     recovered: Recovered,
     requests: &mut Q,
     gate: &G,
+    watch: &mut W,
 ) -> Result<SinkRun, AttachError>
     requires whole { (R.state region.old).frame.parted ≡ false }
     requires region { StandsAsFound (R.state region.old) (R.word region.old) recovered }
@@ -65,12 +69,16 @@ pub fn run_to_sink<
     ensures opens { IsNotOpened (R.state region.old) (R.state region.new) }
     ensures unwritten { OnErr result (sink.new ≡ sink.old) }
 {
-    let mut outlet = TextOutlet { sink, cause: None };
+    let mut outlet = WatchedOutlet {
+        outlet: TextOutlet { sink, cause: None },
+        watch,
+        answered: 0,
+    };
     match run(rt, alloc, region, &mut outlet, recovered, requests, gate) {
         Err(error) => Err(error),
         Ok(ran) => Ok(SinkRun {
             outcome: ran.outcome,
-            unwritten: unwritten_by(ran.heard, outlet.cause),
+            unwritten: unwritten_by(ran.heard, outlet.outlet.cause),
         }),
     }
 }

@@ -5,6 +5,9 @@
 pub trait Watch {
     /// So many requests are answered by now, from the first on: those of whole windows.
     fn answered(&mut self, count: u64);
+
+    /// Something else is written next: a window's replies, or what is written behind the run.
+    fn pauses(&mut self);
 }
 
 /// Nobody is told.
@@ -13,4 +16,6 @@ pub struct Unwatched;
 
 impl Watch for Unwatched {
     fn answered(&mut self, _count: u64) {}
+
+    fn pauses(&mut self) {}
 }

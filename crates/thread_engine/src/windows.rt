@@ -1,17 +1,21 @@
 // The requests of a run, dealt window by window to the cores that own their keys, and worked off.
-ghost use Rattle.std.specs.Prelude.{◌≡◌, ℕ, ◌+◌, ◌-◌, ◌<◌, ◌≤◌, ◌∷◌, [], map, take, drop, length, slice_index_or, true, OnOk, OnErr};
+ghost use Rattle.std.specs.Prelude.{◌≡◌, ℕ, ◌+◌, ◌<◌, ◌≤◌, List, [], ◌∷◌, ◌++◌, Option, map, take, length, slice_index_or, true, OnOk, OnErr};
 ghost use Rattle.std.specs.List.{list_any};
 ghost use Rattle.answer_queue.specs.declared.window_sizes.TheConstants.{WINDOW, PARTS};
+ghost use Rattle.engine_core.specs.declared.types.Stamped as stamped;
 ghost use Rattle.engine_core.specs.Reports.{reply_in};
 ghost use Rattle.thread_engine.specs.declared.core_job.CoreJob as data_of;
 ghost use Rattle.thread_engine.specs.WorkStates.{IsAtWork, sight_by, stands_at};
 ghost use Rattle.thread_engine.specs.Windows.{AreDealt, DealsSome, DealsTo, AreAtRest, EachChanges, Winds, WorksOffSome, WorksOffTo, WorksThrough, InWindows};
+ghost use Rattle.thread_engine.specs.Collected.{IsWindow};
+ghost use Rattle.thread_engine.specs.Noted.{IsNoted, HasNoteRoom};
 ghost use Rattle.thread_engine.specs.Outlets.{IsAsked};
 
 use crate::core_job::CoreJob;
-use crate::desk::{Desk, keep_taken, work_at_desk};
+use crate::desk::{Desk, work_at_desk};
 use crate::outlet::Outlet;
 use crate::requests::Requests;
+use crate::run_answers::{RunAnswers, clear_window, keep_taken};
 use answer_queue::WINDOW;
 use core_worker::Gate;
 use engine_core::backlog::append;
@@ -89,7 +93,7 @@ fn wind_all_down<B: Board, P: Region>(jobs: &mut [CoreJob<B, P>])
 }
 
 // Deals the requests of a window, which are those before number `to`, lets all cores work them off, and keeps the
-// answers by number. Answers whether there was memory for all.
+// answers in the window's places. Answers whether there was memory for all.
 fn work_window<
     T: Threads + Wait + Sync,
     B: Board + Send,
@@ -102,7 +106,7 @@ fn work_window<
     requests: &mut Q,
     jobs: &mut [CoreJob<B, P>],
     gate: &G,
-    kept: &mut Vec<Option<Stamped>>,
+    window: &mut Vec<Option<Stamped>>,
     from: u64,
     to: u64,
 ) -> bool
@@ -112,20 +116,21 @@ fn work_window<
     requires order { from ≤ to }
     requires few { to ≤ from + WINDOW }
     requires within { to ≤ from + length (Q.left requests.old) }
-    requires places { to ≤ length kept.old.items }
+    requires places { IsWindow window.old.items }
     ensures some_ { WorksOffSome B.seat (sight_by B.view B.trail B.at) P.state
         (G.may_refuse gate.now) from to (Q.left requests.old) jobs.old jobs.new
-        kept.old.items kept.new.items }
+        window.new.items }
     ensures all { result ≡ true → WorksOffTo B.seat (sight_by B.view B.trail B.at) P.state
         (G.may_refuse gate.now) from to (Q.left requests.old) (Q.left requests.new)
-        jobs.old jobs.new kept.old.items kept.new.items }
+        jobs.old jobs.new window.new.items }
+    ensures count { length window.new.items ≡ WINDOW }
 {
     let Ok(desk) = Desk::open(alloc, from, to) else {
         return false;
     };
     let dealt = deal_window(alloc, requests, jobs, from, to).is_ok();
     let taken = work_at_desk(rt, alloc, jobs, gate, !dealt, desk);
-    keep_taken(taken, kept);
+    keep_taken(taken, from, window);
     dealt && !is_short(jobs)
 }
 
@@ -145,29 +150,40 @@ fn window_end(from: u64, count: u64) -> u64
     }
 }
 
-// Hands a window's answers to the outlet: those from number `from` on, before number `to`.
+// Hands a window's answers to the outlet: those of its first so many requests.
 fn hand_window<R: SplitRegion, O: Outlet>(
     alloc: Global,
     region: &mut R,
     outlet: &mut O,
-    kept: &Vec<Option<Stamped>>,
-    from: u64,
-    to: u64,
+    window: &Vec<Option<Stamped>>,
+    count: usize,
 ) -> bool
-    requires order { from ≤ to }
-    requires places { to ≤ length kept.now.items }
+    requires places { count ≤ length window.now.items }
     ensures took { O.takes (R.state region.old) outlet.old
-        (map reply_in (take (to - from) (drop from kept.now.items))) result
+        (map reply_in (take count window.now.items)) result
         (R.state region.new) outlet.new }
     ensures asked { IsAsked (R.state region.old) (R.state region.new) }
 {
-    outlet.take_window(alloc, region, &kept[from as usize..to as usize])
+    outlet.take_window(alloc, region, &window[..count])
 }
 
-/// Lets all cores work the requests off, window by window, keeps the answers by their numbers, and hands those of each
-/// window to the outlet behind it. Where there was not memory for all of them, what was posted or taken is finished,
-/// nothing more is begun, and every worker winds down; the answers of that window are not handed over. Where the outlet
-/// did not take a window's answers, no window is begun behind it, and no answer has a place behind those of it.
+// Notes the answers of a window's first so many requests.
+fn note_window(answers: &mut RunAnswers, count: usize)
+    requires places { count ≤ length answers.old.window.items }
+    requires room { HasNoteRoom count answers.old.notes }
+    ensures notes { (ks : List (Option stamped.Stamped)) → IsNoted ks answers.old.notes
+        → IsNoted (ks ++ take count answers.old.window.items) answers.new.notes }
+    ensures room { (n : ℕ) → HasNoteRoom (count + n) answers.old.notes
+        → HasNoteRoom n answers.new.notes }
+    ensures window { answers.new.window.items ≡ answers.old.window.items }
+{
+    answers.notes.note_all(&answers.window[..count]);
+}
+
+/// Lets all cores work the requests off, window by window, notes the answers, and hands those of each window to the
+/// outlet behind it. Where there was not memory for all of them, what was posted or taken is finished, nothing more is
+/// begun, and every worker winds down; the answers of that window are not handed over. Where the outlet did not take a
+/// window's answers, no window is begun behind it, and the notes end with it.
 pub fn work_windows<
     T: Threads + Wait + Sync,
     R: SplitRegion,
@@ -184,35 +200,41 @@ pub fn work_windows<
     requests: &mut Q,
     jobs: &mut [CoreJob<B, P>],
     gate: &G,
-    kept: &mut Vec<Option<Stamped>>,
+    answers: &mut RunAnswers,
 ) -> Course
     requires some { 0 < length jobs.old }
     requires parts { length jobs.old < PARTS }
     requires rest { AreAtRest B.seat (sight_by B.view B.trail B.at) P.state jobs.old }
-    requires places { length (Q.left requests.old) ≡ length kept.old.items }
+    requires window { IsWindow answers.old.window.items }
+    requires blank { IsNoted [] answers.old.notes }
+    requires room { HasNoteRoom (length (Q.left requests.old)) answers.old.notes }
     ensures works { InWindows O.takes (Q.left requests.old) result
-        (λ windows given places. WorksThrough B.seat (sight_by B.view B.trail B.at) P.state
-        (G.may_refuse gate.now) given windows result.all jobs.old jobs.new places kept.new.items)
-        kept.old.items kept.new.items (R.state region.old) outlet.old (R.state region.new)
-        outlet.new }
+        (λ windows given places kept. WorksThrough B.seat (sight_by B.view B.trail B.at) P.state
+        (G.may_refuse gate.now) given windows result.all jobs.old jobs.new places kept)
+        answers.new.notes (R.state region.old) outlet.old (R.state region.new) outlet.new }
     ensures asked { IsAsked (R.state region.old) (R.state region.new) }
 {
     let count = requests.count() as u64;
     let mut from = 0;
     for _ in rt.forever() {
         let to = window_end(from, count);
-        if !work_window(rt, alloc, requests, jobs, gate, kept, from, to) {
+        let size = (to - from) as usize;
+        let window = &mut answers.window;
+        let all = work_window(rt, alloc, requests, jobs, gate, window, from, to);
+        note_window(answers, size);
+        if !all {
+            answers.notes.note_none(count - to);
             wind_all_down(jobs);
             return Course {
                 all: false,
                 heard: true,
             };
         }
-        let heard = hand_window(alloc, region, outlet, kept, from, to);
+        let heard = hand_window(alloc, region, outlet, &answers.window, size);
         if !heard || to == count {
-            kept.truncate(to as usize);
             return Course { all: true, heard };
         }
+        clear_window(&mut answers.window);
         from = to;
     }
     unreachable!()

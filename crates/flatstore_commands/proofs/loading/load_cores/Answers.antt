@@ -1,6 +1,5 @@
 -- The split failed, or there was no memory for the run.
 use Rattle.flatstore_commands.proofs.LoadServing.{split_refused}
-use Rattle.flatstore_commands.proofs.ThreadRunning.{memory_of}
 use Rattle.flatstore_commands.proofs.loading.load_cores.Goals as goal
 
 pub returns-in_err-ran-clause-refused : goal.returns-in_err-ran-clause-refused
@@ -14,5 +13,4 @@ returns-clause-loaded g c = record {
   recovered = c.in_ok-recovered.recovered;
   stands = c.in_ok-recovered.ensures.ok;
   ran = c.in_ok-ran.ensures.ran;
-  tally = λ ended. c.in_ok-ran.ensures.tally (memory_of c.in_ok-ran.ran.outcome.end ended);
 }

@@ -1,5 +1,5 @@
 -- The split failed, or there was no memory for the run.
-use Rattle.std.proofs.Common.{◌∙◌, subst}
+use Rattle.std.proofs.Common.{subst}
 use Rattle.thread_engine.specs.Printed.{RanToSink}
 use Rattle.flatstore_commands.specs.Ends.{sink_use, source_use}
 use Rattle.flatstore_commands.proofs.ThreadRunning.{split_refused}
@@ -24,5 +24,5 @@ returns-clause-played g c =
       recovered = c.in_ok-recovered.recovered;
       lines = c.in_ok-recovered.input;
       ready = c.in_ok-recovered.ensures.ready;
-      ran = subst (λ xs. RanToSink sink.before sink.now sink.flushed sink.faults sink.faults' s word refused c.in_ok-recovered.recovered xs t c.in_ok-ran.ran) (c.of-requests.ensures ∙ c.of-asked.ensures) c.in_ok-ran.ensures.ran;
+      ran = subst (λ xs. RanToSink sink.before sink.now sink.flushed sink.faults sink.faults' s word refused c.in_ok-recovered.recovered xs t c.in_ok-ran.ran) c.of-requests.ensures c.in_ok-ran.ensures.ran;
     }

@@ -6,8 +6,8 @@ use Rattle.atomic_board.specs.declared.group_table.GroupTable.{GroupTable}
 use Rattle.atomic_board.specs.Deeds.{began}
 use Rattle.atomic_board.specs.GroupTables.{origin_of}
 use Rattle.group_board.specs.Journals.{image_of}
-use Rattle.thread_engine.specs.Manned.{AreManned}
-use Rattle.thread_engine.proofs.Manning.{none_manned, manned_more}
+use Rattle.thread_engine.specs.TableTokens.{HaveTokens}
+use Rattle.thread_engine.proofs.TokensGiven.{no_tokens, tokens_more}
 use Rattle.thread_engine.proofs.group_tables.open_each.Goals as goal
 
 pub loop-group-init : goal.loop-group-init
@@ -15,7 +15,7 @@ loop-group-init g c =
     let image = image_of g.O.Opening.words in record {
       count = ap length c.new-tables.ensures.items;
       within = omega arith;
-      manned = subst (λ ts. AreManned image ts c.new-tokens.result.items) (sym c.new-tables.ensures.items) (subst (λ us. AreManned image _ us) (sym c.new-tokens.ensures.items) (none_manned image));
+      have_tokens = subst (λ ts. HaveTokens image ts c.new-tokens.result.items) (sym c.new-tables.ensures.items) (subst (λ us. HaveTokens image _ us) (sym c.new-tokens.ensures.items) (no_tokens image));
     }
 
 pub loop-group-preserved : goal.loop-group-preserved
@@ -30,6 +30,6 @@ loop-group-preserved g c =
     record {
       count = ap length c.in_ok-push.ensures.items ∙ length-append c.loop-group.tables.items (t ∷ []) ∙ ap (λ n. n + 1) I.count;
       within = (let lt = c.loop-group-test.true in omega (arith, lt));
-      manned = subst (λ ts. AreManned image ts c.man.new.tokens.items) (sym c.in_ok-push.ensures.items)
-          (manned_more image c.loop-group.tables.items c.loop-group.tokens.items c.man.new.tokens.items t I.manned c.in_ok-table-2.ensures.manned size opens);
+      have_tokens = subst (λ ts. HaveTokens image ts c.add_tokens.new.tokens.items) (sym c.in_ok-push.ensures.items)
+          (tokens_more image c.loop-group.tables.items c.loop-group.tokens.items c.add_tokens.new.tokens.items t I.have_tokens c.in_ok-table-2.ensures.have_tokens size opens);
     }

@@ -18,9 +18,9 @@ open_on-requires-clause-group g c =
     let one = (layout_numbers c.args.recovered.now.layout c.requires.region.made.layout).group in
     subst (λ (l : Geometry). 0 < l.group) (sym c.geometry-geometry.ensures.value) (omega (arith, one))
 
-pub returns-clause-manned : goal.returns-clause-manned
-returns-clause-manned g c =
+pub returns-clause-have_tokens : goal.returns-clause-have_tokens
+returns-clause-have_tokens g c =
     let s = g.R.Region.state c.args.region.now in
     let word = g.R.ReadRegion.word c.args.region.now in
     let tells : (w : ℕ) → IsTelling s → lasts s w ≡ word w = (λ w telling. g.met.R.ReadRegion.tells c.args.region.now w telling) in
-    IfOk-weaker c.open_on.result _ _ (λ x h. (origin_at s word, begins s word tells c.args.recovered.now c.requires.region, h)) c.open_on.ensures.manned
+    IfOk-weaker c.open_on.result _ _ (λ x h. (origin_at s word, begins s word tells c.args.recovered.now c.requires.region, h)) c.open_on.ensures.have_tokens

@@ -1,15 +1,13 @@
-use Rattle.std.proofs.Common.{◌≡◌, ℕ, ◌-◌, ◌<◌, ◌≤◌, List, ◌++◌, length, length-append, take, slice_index_or, Ok, refl, sym, ◌∙◌, ap, subst, arith}
-use Rattle.std.proofs.lemmas.List.{length-take-le}
+use Rattle.std.proofs.Common.{◌≡◌, ℕ, ◌-◌, ◌<◌, ◌≤◌, List, length, map, slice_index_or, Ok, refl, sym, ◌∙◌, ap, subst, arith}
 use Rattle.pm_region.specs.State.{State}
 use Rattle.pm_region.specs.Split.{AreCuts, IsPiece, Parted, Joined, Refuses}
 use Rattle.thread_engine.proofs.Assembly.{cuts_are, crew_is, all_rest, tokens_back, pieces_back, run_ran}
-use Rattle.engine_core.specs.Endings.{report_in}
-use Rattle.engine_core.specs.Reports.{IsReport, HasRoomFor}
-use Rattle.engine_core.specs.declared.run_report.Report.{Report}
-use Rattle.thread_engine.specs.Collected.{restamped, any_stopped, had_memory}
+use Rattle.engine_core.specs.Reports.{reply_in}
+use Rattle.thread_engine.specs.Collected.{blanks, restamped, any_stopped, had_memory}
+use Rattle.thread_engine.specs.Noted.{IsNoted}
 use Rattle.thread_engine.specs.Outlets.{IsAsked, HandsOut}
-use Rattle.thread_engine.proofs.Handing.{fewer_blank, same_replies, end_memory}
-use Rattle.thread_engine.proofs.KeptAnswers.{stored_long}
+use Rattle.thread_engine.proofs.Handing.{blanks_long, are_blank, same_replies, end_memory}
+use Rattle.thread_engine.proofs.NotedAnswers.{noted_restamped, twice_restamped}
 use Rattle.thread_engine.proofs.Looks.{as_passed}
 use Rattle.thread_engine.proofs.Rejoining.{region_cuts, still_parted}
 use Rattle.thread_engine.proofs.run_apart.run_supplied.Goals as goal
@@ -21,18 +19,6 @@ as_joined s p mid t cuts a b D L X R = record {
   fault = λ is. absurd (cc is);
   else_same = λ no_. X.refusals ∙ L.refusals ∙ R.else_same (λ is. cc is);
   no_fall = (let same = X.refusals in let asked = L.refusals in let low = R.no_fall in omega (arith, same, asked, low));
-}
-
--- a list's front is no longer than the list
-front_low : {X : Type 0} (xs ys zs : List X) → xs ≡ ys ++ zs → length ys ≤ length xs
-front_low xs ys zs e = (let long = ap length e ∙ length-append ys zs in omega (arith, long))
-
--- room for more is room for fewer
-less_room : (n m : ℕ) (r : Report) → n ≤ m → HasRoomFor m r → HasRoomFor n r
-less_room n m r low H = record {
-  replies = (let h = H.replies in omega (arith, h, low));
-  finishes = (let h = H.finishes in omega (arith, h, low));
-  refusals = (let h = H.refusals in omega (arith, h, low));
 }
 
 pub split-requires-clause-cuts : goal.split-requires-clause-cuts
@@ -89,7 +75,7 @@ close_tables-requires-clause-tokens g c =
     let ps = c.in_ok-pieces.pieces.items in
     let count = c.in_ok-pieces.ensures.count ∙ ap (λ (cs : List ℕ). length cs - 1) c.deref.ensures.value in
     let piece = subst (λ (cs : List ℕ). (i : ℕ) (p : g.row.R-Piece.Denot) → i < length ps → IsPiece s cs i (state (slice_index_or ps i p))) c.deref.ensures.value c.in_ok-pieces.ensures.pieces in
-    tokens_back state refused s word z.0 z.1 I.given (length left) x z.2 z.3 z.4 ps count piece c.work_apart-back.result.0 (length I.hands.windows) c.work_apart-back.result.1.all (take (length I.given) x.answers.items) c.work_apart-back.new.kept.items I.did
+    tokens_back state refused s word z.0 z.1 I.given (length left) x z.2 z.3 z.4 ps count piece c.work_apart-back.result.0 (length I.hands.windows) c.work_apart-back.result.1.all (blanks (length I.given)) I.kept I.did
 
 pub join-requires-clause-parted : goal.join-requires-clause-parted
 join-requires-clause-parted g c = c.work_apart-back.ensures.asked.stays.parted ∙ c.in_ok-pieces.ensures.ok.parted
@@ -115,20 +101,16 @@ join-requires-clause-pieces g c =
     let split = g.R.Region.state c.split.new.self in
     let mid = g.R.Region.state c.work_apart-back.new.region in
     let parted = still_parted s split mid x.cuts.items (subst (λ (cs : List ℕ). Parted s split cs) c.deref.ensures.value c.in_ok-pieces.ensures.ok) c.work_apart-back.ensures.asked in
-    pieces_back state refused s word z.0 z.1 I.given (length left) x z.2 z.3 z.4 ps count piece c.work_apart-back.result.0 (length I.hands.windows) c.work_apart-back.result.1.all (take (length I.given) x.answers.items) c.work_apart-back.new.kept.items I.did mid parted
+    pieces_back state refused s word z.0 z.1 I.given (length left) x z.2 z.3 z.4 ps count piece c.work_apart-back.result.0 (length I.hands.windows) c.work_apart-back.result.1.all (blanks (length I.given)) I.kept I.did mid parted
 
-pub work_apart-back-requires-clause-places : goal.work_apart-back-requires-clause-places
-work_apart-back-requires-clause-places g c κs within = (let z = c.requires.supplied in sym z.4.places)
+pub work_apart-back-requires-clause-window : goal.work_apart-back-requires-clause-window
+work_apart-back-requires-clause-window g c κs within = (let z = c.requires.supplied in z.4.window)
 
-pub outcome_of-requires-clause-room : goal.outcome_of-requires-clause-room
-outcome_of-requires-clause-room g c =
-    let z = c.requires.supplied in
-    let I = c.work_apart-back.ensures.went in
-    let blanks = take (length I.given) c.args.supplies.answers.items in
-    let few = front_low (g.Q.Requests.left c.args.requests.now) I.given I.more I.split in
-    let places = z.4.places in
-    let same = ap length I.did.taken.kept ∙ stored_long I.did.taken.taken 0 blanks ∙ length-take-le (length I.given) c.args.supplies.answers.items (omega (arith, few, places)) in
-    less_room (length c.work_apart-back.new.kept.items) (length c.args.supplies.answers.items) c.args.supplies.report (omega (arith, same, few, places)) z.4.room
+pub work_apart-back-requires-clause-blank : goal.work_apart-back-requires-clause-blank
+work_apart-back-requires-clause-blank g c κs within = (let z = c.requires.supplied in z.4.blank)
+
+pub work_apart-back-requires-clause-notes : goal.work_apart-back-requires-clause-notes
+work_apart-back-requires-clause-notes g c κs within = (let z = c.requires.supplied in z.4.room)
 
 pub returns-clause-ran : goal.returns-clause-ran
 returns-clause-ran g c = λ o r F B S.
@@ -148,18 +130,18 @@ returns-clause-ran g c = λ o r F B S.
     let asked = c.work_apart-back.ensures.asked in
     let I = c.work_apart-back.ensures.went in
     let course = c.work_apart-back.result.1 in
-    let kept = c.work_apart-back.new.kept.items in
-    let few = front_low left I.given I.more I.split in
-    let blanks = take (length I.given) x.answers.items in
-    let report = c.outcome_of.ensures.report in
-    let all = sym (ap had_memory c.outcome_of.ensures.end ∙ end_memory course.all (any_stopped c.work_apart-back.result.0.workers.items)) in
-    let replies = sym (report.replies ∙ same_replies c.stamp.result kept) in
-    let ran = run_ran state refused s word o r I.given (length left) x F B S ps count piece c.work_apart-back.result.0 (length I.hands.windows) course.all blanks kept I.did c.close_tables.ensures t c.join.ensures.pieces c.every_chain.ensures c.every_opening.ensures.keys c.every_opening.ensures.doubts
-    (let places = S.places in length-take-le (length I.given) x.answers.items (omega (arith, few, places))) (fewer_blank (length I.given) x.answers.items S.blank)
+    let kept = I.kept in
+    let places = blanks (length I.given) in
+    let all = sym (ap had_memory c.run_end.ensures ∙ end_memory course.all (any_stopped c.work_apart-back.result.0.workers.items)) in
+    let ran = run_ran state refused s word o r I.given (length left) x F B S ps count piece c.work_apart-back.result.0 (length I.hands.windows) course.all places kept I.did c.close_tables.ensures t c.join.ensures.pieces c.every_chain.ensures c.every_opening.ensures.keys c.every_opening.ensures.doubts
+    (blanks_long (length I.given)) (are_blank (length I.given))
     mid (still_parted s split mid x.cuts.items cut asked) c.join.ensures.whole c.join.ensures.next c.requires.whole (asked.opens ∙ c.in_ok-pieces.ensures.opens) (asked.refusals ∙ c.in_ok-pieces.ensures.cause.else_same (λ is. cc is)) c.join.ensures.opens c.every_refusal.ensures c.every_moment.ensures c.every_cut.ensures
-    c.outcome_of.result (subst (λ n. IsReport (restamped n kept) (report_in c.outcome_of.result)) c.stamp.ensures report) c.outcome_of.ensures.end in
+    c.run_end.result c.run_end.ensures in
+    let kept_are = ran.3 in
+    let replies = sym (ap (map reply_in) kept_are ∙ same_replies t.stamp kept) in
+    let notes = c.work_apart-back.new.answers.notes in
     let new = c.work_apart-back.new.outlet in
-    let hands = subst (λ b. (H : HandsOut g.O.Outlet.takes b course.heard c.outcome_of.result.replies.items split c.args.outlet.now mid new) × (H.windows ≡ I.hands.windows)) all
+    let hands = subst (λ b. (H : HandsOut g.O.Outlet.takes b course.heard (map reply_in ran.0.kept) split c.args.outlet.now mid new) × (H.windows ≡ I.hands.windows)) all
     (subst (λ rs. (H : HandsOut g.O.Outlet.takes course.all course.heard rs split c.args.outlet.now mid new) × (H.windows ≡ I.hands.windows)) replies (I.hands, refl)) in
     record {
       given = I.given;
@@ -167,6 +149,11 @@ returns-clause-ran g c = λ o r F B S.
       split = I.split;
       whole = I.whole;
       ran = ran.0;
+      comes = record {
+        noted = subst (λ ks. IsNoted ks notes) (sym kept_are) (noted_restamped t.stamp kept notes I.noted);
+        stamp = c.stamp.ensures;
+        alike = subst (λ ks. restamped t.stamp ks ≡ ks) (sym kept_are) (twice_restamped t.stamp kept);
+      };
       before = split;
       behind = mid;
       parted = (let same = cut.faults in omega (arith, same));

@@ -1,9 +1,11 @@
-use Rattle.std.proofs.Common.{◌-◌, [], length, refl, sym, ◌∙◌, subst, arith}
+use Rattle.std.proofs.Common.{◌+◌, ◌-◌, [], length, map, refl, sym, ◌∙◌, ap, subst, arith}
 use Rattle.answer_queue.specs.Accounts.{AreAmong}
 use Rattle.answer_cores.specs.Passes.{all_numbers}
 use Rattle.thread_engine.specs.WorkStates.{sight_by}
 use Rattle.thread_engine.specs.WindowJobs.{waiting_for}
-use Rattle.thread_engine.proofs.Takings.{nothing_taken}
+use Rattle.thread_engine.specs.Takings.{numbered_from}
+use Rattle.thread_engine.proofs.KeptAnswers.{stored_long}
+use Rattle.thread_engine.proofs.Takings.{nothing_in}
 use Rattle.thread_engine.proofs.WindowNumbers.{row_among}
 use Rattle.thread_engine.proofs.WindowWork.{none_went, none_any, ok_then, not_so}
 use Rattle.thread_engine.proofs.WindowSteps.{all_awaits, all_waiting, all_went, all_ended, all_given, all_rest, all_taken, all_places}
@@ -33,7 +35,7 @@ pub keep_taken-requires : goal.keep_taken-requires
 keep_taken-requires g c =
     let D = c.deal_window.ensures.some_ in
     all_places g.B.Board.seat (sight_by g.B.Board.view g.B.Board.trail g.B.Board.at) g.P.Region.state (g.G.Gate.may_refuse c.args.gate.now) c.in-Ok.desk.queue c.args.from D.dealt c.args.jobs.now c.deal_window.new.jobs c.requires.rest D.deals
-    c.work_at_desk-taken.new.jobs c.work_at_desk-taken.result.items c.work_at_desk-taken.ensures c.args.to D.within (length c.args.kept.now.items) c.requires.places
+    c.work_at_desk-taken.new.jobs c.work_at_desk-taken.result.items c.work_at_desk-taken.ensures c.args.to D.within (c.args.from + length c.args.window.now.items) (let count = c.requires.places.count in let few = c.requires.few in omega (arith, count, few))
 
 pub returns-then-dealt-clause-some_ : goal.returns-then-dealt-clause-some_
 returns-then-dealt-clause-some_ g c =
@@ -56,7 +58,7 @@ returns-then-dealt-clause-some_ g c =
       went = all_went seat sight state refused q c.args.from D.dealt a b c.requires.rest D.deals e taken W;
       ended = all_ended seat sight state refused q c.args.from D.dealt a b c.requires.rest D.deals e taken W;
       none = all_given seat sight state refused q c.args.from D.dealt a b c.requires.rest D.deals e taken W;
-      taken = all_taken seat sight state refused q c.args.from D.dealt a b c.requires.rest D.deals e taken W c.args.to D.within c.args.kept.now.items c.keep_taken.new.kept.items c.keep_taken.ensures;
+      taken = all_taken seat sight state refused q c.args.from D.dealt a b c.requires.rest D.deals e taken W c.args.to D.within c.args.window.now.items c.keep_taken.new.window.items c.requires.places c.requires.few c.keep_taken.ensures;
     }
 
 pub returns-then-dealt-clause-all : goal.returns-then-dealt-clause-all
@@ -81,7 +83,7 @@ returns-then-dealt-clause-all g c calm =
       went = all_went seat sight state refused q c.args.from D.dealt a b c.requires.rest D.deals e taken W;
       rest = all_rest seat sight state refused q c.args.from D.dealt a b c.requires.rest D.deals e taken W
           (λ i d low. none_any _ e (sym c.is_short.ensures ∙ not_so c.is_short.result calm) i d low);
-      taken = all_taken seat sight state refused q c.args.from D.dealt a b c.requires.rest D.deals e taken W c.args.to (omega (arith, end)) c.args.kept.now.items c.keep_taken.new.kept.items c.keep_taken.ensures;
+      taken = all_taken seat sight state refused q c.args.from D.dealt a b c.requires.rest D.deals e taken W c.args.to (omega (arith, end)) c.args.window.now.items c.keep_taken.new.window.items c.requires.places c.requires.few c.keep_taken.ensures;
     }
 
 pub returns-else-dealt-clause-some_ : goal.returns-else-dealt-clause-some_
@@ -105,7 +107,7 @@ returns-else-dealt-clause-some_ g c =
       went = all_went seat sight state refused q c.args.from D.dealt a b c.requires.rest D.deals e taken W;
       ended = all_ended seat sight state refused q c.args.from D.dealt a b c.requires.rest D.deals e taken W;
       none = all_given seat sight state refused q c.args.from D.dealt a b c.requires.rest D.deals e taken W;
-      taken = all_taken seat sight state refused q c.args.from D.dealt a b c.requires.rest D.deals e taken W c.args.to D.within c.args.kept.now.items c.keep_taken.new.kept.items c.keep_taken.ensures;
+      taken = all_taken seat sight state refused q c.args.from D.dealt a b c.requires.rest D.deals e taken W c.args.to D.within c.args.window.now.items c.keep_taken.new.window.items c.requires.places c.requires.few c.keep_taken.ensures;
     }
 
 pub returns-in_default-clause-some_ : goal.returns-in_default-clause-some_
@@ -117,5 +119,16 @@ returns-in_default-clause-some_ g c = record {
   went = none_went g.B.Board.seat (sight_by g.B.Board.view g.B.Board.trail g.B.Board.at) g.P.Region.state (g.G.Gate.may_refuse c.args.gate.now) c.args.from c.args.jobs.now c.requires.rest;
   ended = λ i d low. (c.requires.rest.rest i d low).ended;
   none = λ i d low. (c.requires.rest.rest i d low).none;
-  taken = nothing_taken 0 c.args.from c.args.to c.args.kept.now.items;
+  taken = nothing_in c.args.from c.args.to c.args.window.now.items c.requires.places c.requires.few;
 }
+
+pub returns-then-dealt-clause-count : goal.returns-then-dealt-clause-count
+returns-then-dealt-clause-count g c =
+    ap length c.keep_taken.ensures ∙ stored_long (map (numbered_from c.args.from) c.work_at_desk-taken.result.items) 0 c.args.window.now.items ∙ c.requires.places.count
+
+pub returns-else-dealt-clause-count : goal.returns-else-dealt-clause-count
+returns-else-dealt-clause-count g c =
+    ap length c.keep_taken.ensures ∙ stored_long (map (numbered_from c.args.from) c.work_at_desk-taken.result.items) 0 c.args.window.now.items ∙ c.requires.places.count
+
+pub returns-in_default-clause-count : goal.returns-in_default-clause-count
+returns-in_default-clause-count g c = c.requires.places.count
