@@ -1,11 +1,7 @@
-//! The cores of a run at the queue of a window's answers: a pass for each core, the answers of its worker, and all that
-//! was put.
+//! What a core of a run does at the queue of a window's answers: it puts those of its worker there. With it the notions of
+//! passes that are dealt to cores, used and taken in again.
 #![tactic(auto)]
 
-mod dealing;
 mod handing;
-mod joining;
 
-pub use dealing::deal_all;
 pub use handing::hand_over;
-pub use joining::{absorb_all, take_window};

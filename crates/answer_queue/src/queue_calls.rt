@@ -55,20 +55,6 @@ impl AnswerQueue {
         self.ring.pop_as::<TakesAnswer, R>(rt, pass)
     }
 
-    /// The pass of the next window, for one with all parts that has taken as many answers as it put. The queue is empty
-    /// then, and this takes no memory.
-    pub fn renew<W: Numbers, Q>(&self, mut pass: AnswerPass, _of: &Q) -> AnswerPass
-        requires of { IsOf self.now pass }
-        requires whole { (account_of pass).parts ≡ PARTS }
-        requires level { length (account_of pass).took ≡ length (account_of pass).put }
-        requires few { length W.numbers ≤ WINDOW }
-        requires distinct { AreDistinct W.numbers }
-        ensures of { IsOf self.now result }
-        ensures granted { account_of result ≡ granted W.numbers }
-    {
-        self.ring.another::<Grants<W>>(&mut pass)
-    }
-
     /// A pass with one part, which may put answers of these numbers. The old one may not any more. What `_of` has the
     /// call may pick them from.
     pub fn deal<W: Numbers, Q>(&self, pass: &mut AnswerPass, _of: &Q) -> AnswerPass

@@ -9,7 +9,7 @@ use core_worker::Answer;
 use std::sync::Wait;
 
 /// Takes all that was put, for a pass that has all parts again and has taken nothing: each answer once and no other.
-/// It takes no memory. The queue is empty then, and the pass may be renewed.
+/// It takes no memory. The queue is empty then.
 pub fn take_all<R: Wait>(
     rt: &R,
     queue: &AnswerQueue,

@@ -25,7 +25,7 @@ use Rattle.engine_core.specs.declared.run_outcome.End.TheVariants as ends
 use Rattle.engine_core.specs.declared.run_outcome.Outcome.{Outcome}
 use Rattle.engine_core.specs.Answers.{kept_at, ShowsAnswer}
 use Rattle.group_engine.specs.Passes.{EndsIn}
-use Rattle.engine_core.specs.Reports.{IsReport, ReportsOn, IsBlank}
+use Rattle.engine_core.specs.Reports.{listed, IsReport, ReportsOn, IsBlank}
 use Rattle.engine_core.specs.RunStarts.{BeginsAt, AreNew}
 use Rattle.engine_core.specs.Endings.{end_by, outcome_by}
 use Rattle.group_engine.specs.Replayed.{Replayed}
@@ -45,8 +45,8 @@ pub record Reported (t : State) (o : Origin) (f : Engine) (ks : List (Option Sta
   pub region : f.region ≡ t
   pub count : length ks ≡ length f.given
   pub shown : (n : ℕ) → ShowsAnswer (IsTelling t) (slice_get f.given n) (f.answer n) (kept_at ks n)
-  pub kept : IsReport ks r
-  pub reports : ReportsOn t o f r
+  pub kept : IsReport ks (listed r)
+  pub reports : ReportsOn t o f (listed r)
 
 module _ (s t : State) (word : ℕ → ℕ) (v : Recovered) (lines : List Line) (o : Origin) (B : BeginsAt s word o) (r : Report) where
   abbrev Run : List Worker → RunState Worker → Type 0
@@ -121,7 +121,7 @@ module _ {Q : Type 0} (queue : Q → List (ℕ × Request)) (s t : State) (word 
   abbrev Shown : Engine → Type 0
   Shown f = Shows hands_of answers_of IsMember fair may_take leads queue t l ws bs qs ks f
 
-  reported : (r : Report) → IsReport ks r → ((f : Engine) → Stands o f → Shown f → ReportsOn t o f r) → (f : Engine) → Stands o f → Shown f → Reported t o f ks r
+  reported : (r : Report) → IsReport ks (listed r) → ((f : Engine) → Stands o f → Shown f → ReportsOn t o f (listed r)) → (f : Engine) → Stands o f → Shown f → Reported t o f ks r
   reported r kept reports f S H = record { region = H.region; count = H.count; shown = H.answered; kept = kept; reports = reports f S H }
 
   pub replayed : (run : Result (Unit {0}) Memory)
@@ -130,7 +130,7 @@ module _ {Q : Type 0} (queue : Q → List (ℕ × Request)) (s t : State) (word 
       → (stopped : Bool)
       → (stopped ≡ true → (f : Engine) → Stands o f → Shown f → HasStopped f)
       → (stopped ≡ false → (f : Engine) → Stands o f → Shown f → (c : ℕ) → c < f.layout.cores → f.stopped c ≡ false)
-      → (r : Report) → IsReport ks r → ((f : Engine) → Stands o f → Shown f → ReportsOn t o f r)
+      → (r : Report) → IsReport ks (listed r) → ((f : Engine) → Stands o f → Shown f → ReportsOn t o f (listed r))
       → (x : Outcome) → x ≡ outcome_by r (end_by stopped run) → Replayed s word v lines t x
   replayed (Ok u) failed ran stopped halts goes r kept reports x is =
       let f = ran.0 in
@@ -164,5 +164,5 @@ not_opened s word v lines o B r N x is =
       count = refl;
       shown = λ n. tt;
       kept = blank_report r N;
-      reports = reports_on s o (opening o) [] r S refl (λ n. tt) B.region (blank_report r N);
+      reports = reports_on s o (opening o) [] (listed r) S refl (λ n. tt) B.region (blank_report r N);
     }))

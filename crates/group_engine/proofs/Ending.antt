@@ -43,9 +43,6 @@ module _ {W : Type 0} (Move : RunState W → ℕ → Bool → RunState W → Typ
 pub ends_on : (t : State) (e now f : Engine) → Keeps e now → Ends t now f → Ends t e f
 ends_on t e now f K E = record { region = E.region; keeps = keeps_on e now f K E.keeps }
 
-pub begun_first : (ls : List Line) (e : Engine) → Begun ls ls e e
-begun_first ls e = record { stands = λ o S. S; given = refl }
-
 pub begun_ask : (ls rest now_rest : List Line) (q : Request) (e now : Engine) → rest ≡ Ask q ∷ now_rest → Begun ls rest e now → Begun ls now_rest e (given_to now q)
 begun_ask ls rest more q e now is B = record {
   stands = λ o S. begins_gives o now q (B.stands o S);

@@ -24,12 +24,6 @@ boards_more words bs b all one g z at = elim (get_more bs b z g at) [
   | inr h ↦ ap (λ (u : LocalBoard). state u.keeper.me.0) h.1 ∙ one ∙ ap (λ n. opened (place_in n words) (image_of words)) (sym h.0)
 ]
 
-pub backlogs_more : {Q : Type 0} (qs : List Q) (queue : Q → List (ℕ × Request)) (q : Q) → AreEmpty qs queue → queue q ≡ [] → AreEmpty (qs ++ q ∷ []) queue
-backlogs_more qs queue q all one c z at = elim (get_more qs q z c at) [
-  | inl h ↦ all c z h
-  | inr h ↦ ap queue h.1 ∙ one
-]
-
 module _ {W Q : Type 0} (hands : View → W → Hands) (answers : W → List Answer) (stands : Place → ℕ → State → View → W → Type 0) (fair : Group → ℕ → W → Type 0) (room leads : W → Bool) (queue : Q → List (ℕ × Request))
     (words : List ℕ) (l : Geometry) (ws : List W) (bs : List LocalBoard) (qs : List Q) (layout : layout_of (image_of words) ≡ l) (workers : length ws ≡ l.cores) (boards : length bs ≡ groups_in l) (backlogs : length qs ≡ l.cores) (opens : AreOpened words bs) (empty : AreEmpty qs queue) where
   pub shows_opening : (o : Origin) → o.found ≡ image_of words → AreSeated hands answers stands fair room leads ws (opening o) → Shows hands answers stands fair room leads queue o.region l ws bs qs [] (opening o)

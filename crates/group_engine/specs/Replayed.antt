@@ -16,7 +16,7 @@ use Rattle.engine_core.specs.declared.run_outcome.Outcome.{Outcome}
 use Rattle.engine_core.specs.Answers.{kept_at, ShowsAnswer}
 use Rattle.engine_core.specs.Reports.{IsReport, ReportsOn}
 use Rattle.engine_core.specs.RunStarts.{BeginsAt, AreNew}
-use Rattle.engine_core.specs.Endings.{report_in}
+use Rattle.engine_core.specs.Endings.{listed_in}
 use Rattle.group_engine.specs.Runs.{RunState, CoreMoves, first_state, with_request}
 
 -- Lines led from a region's state and words, of which recovery gave this, to its state t, and this is the outcome, by the run's last state.
@@ -34,8 +34,8 @@ pub record Replayed (s : State) (word : ℕ → ℕ) (r : Recovered) (lines : Li
   pub count : length last.answers ≡ length last.engine.given
   pub shown : (n : ℕ) → ShowsAnswer (IsTelling t) (slice_get last.engine.given n)
       (last.engine.answer n) (kept_at last.answers n)
-  pub kept : IsReport last.answers (report_in x)
-  pub reports : ReportsOn t origin last.engine (report_in x)
+  pub kept : IsReport last.answers (listed_in x)
+  pub reports : ReportsOn t origin last.engine (listed_in x)
   -- With memory all lines ran, by moves of workers that were made of what recovery gave; everything is answered and nothing is under way.
   pub workers : List Worker
   pub opened : x.end ≢ ends.Memory → AreNew r.starts.items r.layout workers

@@ -212,7 +212,7 @@ impl<W: CoreWorker> Engine<W> {
     ghost use Rattle.engine_laws.specs.Ceasing.{HasCeased};
     ghost use Rattle.pm_region.specs.State.{State};
     ghost use Rattle.engine_laws.specs.Ran.{Ran};
-    ghost use Rattle.group_engine.specs.Passes.{NameCores, Ends, EndsIn, DrainsOut};
+    ghost use Rattle.group_engine.specs.Passes.{NameCores, EndsIn};
     ghost use Rattle.group_engine.specs.Shows.{Shows};
     ghost use Rattle.group_engine.specs.Runs.{RunState, MovesOf, ShowsRun, first_state, with_request};
 
@@ -230,36 +230,6 @@ impl<W: CoreWorker> Engine<W> {
             → (c : ℕ) → c < e.layout.cores → e.stopped c ≡ false }
     {
         any_stopped(&self.workers)
-    }
-
-    /// Makes passes over the cores until nothing moves.
-    pub fn drain<R: Region>(&mut self, alloc: Global, region: &mut R) -> Result<(), Memory>
-        requires stands { (o : Origin) × (e : engines.Engine) × Stands o e
-            × Shows W.hands W.answers W.stands W.fair W.room W.leads (λ q. q.items)
-            (R.state region.old) self.old.layout self.old.workers.items self.old.boards.items
-            self.old.backlogs.items self.old.answers.items e }
-        requires awake { NoneWinds W.winds self.old.workers.items }
-        ensures failed { OnErr result ((o : Origin) (e : engines.Engine) → Stands o e
-            → Shows W.hands W.answers W.stands W.fair W.room W.leads (λ q. q.items)
-            (R.state region.old) self.old.layout self.old.workers.items self.old.boards.items
-            self.old.backlogs.items self.old.answers.items e
-            → (f : engines.Engine)
-            × Shows W.hands W.answers W.stands W.fair W.room W.leads (λ q. q.items)
-            (R.state region.new) self.new.layout self.new.workers.items self.new.boards.items
-            self.new.backlogs.items self.new.answers.items f
-            × Ends (R.state region.new) e f) }
-        ensures drained { OnOk result ((o : Origin) (e : RunState W) → Stands o e.engine
-            → ShowsRun W.hands W.answers W.stands W.fair W.room W.leads (λ q. q.items)
-            (R.state region.old) self.old.layout self.old.workers.items self.old.boards.items
-            self.old.backlogs.items self.old.answers.items e
-            → (f : RunState W)
-            × ShowsRun W.hands W.answers W.stands W.fair W.room W.leads (λ q. q.items)
-            (R.state region.new) self.new.layout self.new.workers.items self.new.boards.items
-            self.new.backlogs.items self.new.answers.items f
-            × DrainsOut (MovesOf W.CoreWorker) self.old.layout.cores e f) }
-        ensures awake { OnOk result (NoneWinds W.winds self.new.workers.items) }
-    {
-        passes::drain(self, alloc, region)
     }
 
     /// Handles the lines of an input in order, and then drains. The engine has just been opened. Where a worker finds
@@ -304,16 +274,16 @@ impl<W: CoreWorker + Drop> Engine<W> {
     ghost use Rattle.pm_region.specs.State.{State};
     ghost use Rattle.engine_laws.specs.Engine as engines;
     ghost use Rattle.engine_laws.specs.Stands.{Origin, Stands};
-    ghost use Rattle.engine_core.specs.Reports.{IsReport, ReportsOn};
+    ghost use Rattle.engine_core.specs.Reports.{listed, IsReport, ReportsOn};
     ghost use Rattle.group_engine.specs.Shows.{Shows};
 
     /// The replies, and the report on them: those of the state that the engine shows. It takes no memory.
     pub fn into_report(self) -> Report
-        ensures kept { IsReport self.answers.items result }
+        ensures kept { IsReport self.answers.items (listed result) }
         ensures reports { (s : State) (o : Origin) (e : engines.Engine) → Stands o e
             → Shows W.hands W.answers W.stands W.fair W.room W.leads (λ q. q.items) s self.layout
             self.workers.items self.boards.items self.backlogs.items self.answers.items e
-            → ReportsOn s o e result }
+            → ReportsOn s o e (listed result) }
     {
         report_on(self.answers, self.report)
     }
