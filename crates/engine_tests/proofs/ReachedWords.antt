@@ -9,7 +9,8 @@ use Rattle.region_memory.specs.Journals.{act, cell_after, steps_to}
 use Rattle.region_memory.specs.Steady.{steady_state}
 use Rattle.pm_region.specs.Words.{lasts}
 use Rattle.region_memory.specs.declared.history.History.{History}
-use Rattle.region_memory.specs.declared.steady.SteadyRegion.{SteadyRegion}
+use Rattle.region_memory.specs.declared.memory_region.MemoryRegion.{MemoryRegion}
+use Rattle.region_memory.specs.declared.no_faults.NoFaults.{NoFaults}
 use Rattle.region_memory.specs.declared.step.Step.{Step}
 use Rattle.region_memory.specs.declared.step.Step.TheVariants.{Store, Flush, Fence, Nothing}
 use Rattle.chunk_map.specs.Layouts.{numbers}
@@ -45,7 +46,7 @@ list_end : (word : ℕ → ℕ) (from n : ℕ) → length (map word (numbers fro
 list_end word from zero = refl
 list_end word from (suc n) = ap suc (list_end word (suc from) n)
 
-module _ (r : SteadyRegion) where
+module _ (r : MemoryRegion NoFaults) where
   abbrev h : History
   h = r.volume.history
 

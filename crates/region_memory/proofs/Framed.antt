@@ -3,8 +3,9 @@ use Rattle.std.proofs.Common.{◌≡◌, ℕ, ◌≤◌, ◌&&◌, not, Bool, fa
 use Rattle.pm_region.specs.Cell.{Cell}
 use Rattle.pm_region.specs.State.{Frame, Goes}
 use Rattle.region_memory.specs.Moves.{Moves, history_state}
-use Rattle.region_memory.specs.Volumes.{frame_of, state_with, part_frame, part_state}
+use Rattle.region_memory.specs.Volumes.{frame_of, state_with, part_frame, part_state, volume_state, VolumeMoves}
 use Rattle.region_memory.specs.declared.history.History.{History}
+use Rattle.region_memory.specs.declared.volume.Volume.{Volume}
 
 -- the frame of the region stays, however it is made
 framed : (old new : History) (f f' : Frame) (n n' : ℕ) (change : ℕ → Cell → Cell) → Moves old new change → f.since ≡ old.journal.since → f' ≡ f → n ≤ n' → Goes (history_state f n old) (history_state f' n' new) change
@@ -20,3 +21,7 @@ pub volume_goes : (old new : History) (attached parted : Bool) (cuts : List ℕ)
 volume_goes old new attached parted cuts bytes o a r n n' change moves le =
     framed old new (frame_of old attached parted cuts bytes o a r) (frame_of new attached parted cuts bytes o a r) n n' change moves refl
     (λ i. record { first = 0; words = if attached && not parted then moves.length i else 0; since = moves.since i; parted = parted; cuts = cuts; bytes = bytes; refusals = r; opens = o; validations = a }) le
+
+-- whatever the counts
+pub goes_by : (old new : Volume) (r n r' n' : ℕ) (change : ℕ → Cell → Cell) → VolumeMoves old new change → r' ≡ r → n ≤ n' → Goes (volume_state old r n) (volume_state new r' n') change
+goes_by old new r n r' n' change moves same le = subst (λ (x : ℕ). Goes (volume_state old r n) (volume_state new x n') change) (sym same) (moves r n n' le)

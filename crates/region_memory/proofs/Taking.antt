@@ -131,20 +131,27 @@ takes_more {P = P} part old mid new pieces i q before soon taken now within fits
     both : now ≡ true → (taken ≡ true) × (soon ≡ true)
     both yes_now = and_parts taken soon (sym is ∙ yes_now)
 
+-- what holds of each of the first pieces, and of the next one, holds of each with it
+pub each_more : {P : Type 0} (Q : ℕ → P → Type 0) (pieces pieces' : List P) (i : ℕ) (q : P) → length pieces ≡ i → pieces' ≡ pieces ++ q ∷ []
+    → ((j : ℕ) (p : P) → j < i → Q j (get_or pieces j p)) → Q i q → (j : ℕ) (p : P) → j < i + 1 → Q j (get_or pieces' j p)
+each_more {P = P} Q pieces pieces' i q count is each next j p lt = ⊎_elim (λ e. here e) (λ ne. there (omega arith)) (cases_eq j i)
+  where
+    here : j ≡ i → Q j (get_or pieces' j p)
+    here e =
+        let last : get_or pieces' i p ≡ q = ap (λ (l : List P). get_or l i p) is ∙ get_or_push pieces q p i count in
+        subst (λ (n : ℕ). Q n (get_or pieces' n p)) (sym e) (subst (λ (s : P). Q i s) (sym last) next)
+
+    there : j < i → Q j (get_or pieces' j p)
+    there low =
+        let same : get_or pieces' j p ≡ get_or pieces j p = ap (λ (l : List P). get_or l j p) is ∙ get_or_append_left pieces (q ∷ []) p j (omega arith) in
+        subst (λ (s : P). Q j s) (sym same) (each j p low)
+
+pub count_more : {P : Type 0} (pieces pieces' : List P) (i : ℕ) (q : P) → length pieces ≡ i → pieces' ≡ pieces ++ q ∷ [] → length pieces' ≡ i + 1
+count_more pieces pieces' i q count is = ap length is ∙ (omega (arith, count, length-append pieces (q ∷ [])))
+
 pub parts_more : {P : Type 0} (part : P → History) (h : History) (cuts : List ℕ) (pieces pieces' : List P) (i : ℕ) (q : P) → AreParts part h cuts pieces i → IsPart h (get_or cuts i 0) (get_or cuts (i + 1) 0) (part q)
     → pieces' ≡ pieces ++ q ∷ [] → AreParts part h cuts pieces' (i + 1)
-parts_more {P = P} part h cuts pieces pieces' i q parts is_part is = record {
-  count = ap length is ∙ (omega (arith, parts.count, length-append pieces (q ∷ [])));
-  each = λ j p lt. ⊎_elim (λ e. here j p e) (λ ne. there j p (omega arith)) (cases_eq j i);
+parts_more part h cuts pieces pieces' i q parts is_part is = record {
+  count = count_more pieces pieces' i q parts.count is;
+  each = each_more (λ (j : ℕ) (s : _). IsPart h (get_or cuts j 0) (get_or cuts (j + 1) 0) (part s)) pieces pieces' i q parts.count is parts.each is_part;
 }
-  where
-    here : (j : ℕ) (p : P) → j ≡ i → IsPart h (get_or cuts j 0) (get_or cuts (j + 1) 0) (at part pieces' j p)
-    here j p e =
-        let there : get_or pieces' i p ≡ q = ap (λ (l : List P). get_or l i p) is ∙ get_or_push pieces q p i parts.count in
-        subst (λ (n : ℕ). IsPart h (get_or cuts n 0) (get_or cuts (n + 1) 0) (at part pieces' n p)) (sym e) (subst (λ (s : P). IsPart h (get_or cuts i 0) (get_or cuts (i + 1) 0) (part s)) (sym there) is_part)
-
-    there : (j : ℕ) (p : P) → j < i → IsPart h (get_or cuts j 0) (get_or cuts (j + 1) 0) (at part pieces' j p)
-    there j p lt =
-        let count = parts.count in
-        let same : get_or pieces' j p ≡ get_or pieces j p = ap (λ (l : List P). get_or l j p) is ∙ get_or_append_left pieces (q ∷ []) p j (omega arith) in
-        subst (λ (s : P). IsPart h (get_or cuts j 0) (get_or cuts (j + 1) 0) (part s)) (sym same) (parts.each j p lt)

@@ -4,6 +4,7 @@ pub mod CellLists
 pub mod Join
 pub mod Journals
 pub mod Mem
+pub mod MemoryRegions
 pub mod Moves
 pub mod Plans
 pub mod Reads

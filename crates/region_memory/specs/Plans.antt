@@ -31,6 +31,10 @@ one_more calls = record calls { made = counted calls.made }
 abbrev pub from_the_start : Calls → Calls
 from_the_start calls = record calls { made = 0 }
 
+-- none was made yet, and those with these numbers are to fail
+abbrev pub calls_to_fail : List ℕ → Calls
+calls_to_fail numbers = record { made = 0; failing = numbers }
+
 -- The plan of a region: its calls of attach, create, split and revalidate together, its own fences since it was attached
 -- or created,
 -- and the fences that are to fail in the pieces of a split.
@@ -39,21 +43,38 @@ pub record Plan : Type 0 where
   pub fences : Calls
   pub in_pieces : List FenceNumber
 
+-- How many calls have failed, and how many of attach, create and split among them.
+pub record FaultCounts : Type 0 where
+  pub faults : ℕ
+  pub refusals : ℕ
+
+-- none has failed
+abbrev pub no_faults : FaultCounts
+no_faults = record { faults = 0; refusals = 0 }
+
 -- after one more call of attach, create, split or revalidate
 abbrev pub opened : Plan → Plan
 opened p = record p { opens = one_more p.opens }
 
+-- its fences are counted anew
+abbrev pub restarted : Plan → Plan
+restarted p = record p { fences = from_the_start p.fences }
+
 -- after an attach or create that was answered
 abbrev pub begun : Plan → Plan
-begun p = record p { opens = one_more p.opens; fences = from_the_start p.fences }
+begun p = restarted (opened p)
 
 -- after one more fence
 abbrev pub fenced_once : Plan → Plan
 fenced_once p = record p { fences = one_more p.fences }
 
--- the fences of a piece, by its place, as a split hands them out
+-- the fences of a piece, by its number, as a split hands them out
+abbrev pub fences_in : Plan → ℕ → Calls
+fences_in p number = calls_to_fail (numbers_in number p.in_pieces)
+
+-- the same by its place
 abbrev pub piece_calls : Plan → ℕ → Calls
-piece_calls p i = record { made = 0; failing = numbers_in (i + 1) p.in_pieces }
+piece_calls p i = fences_in p (i + 1)
 
 -- the plan by which nothing fails
 abbrev pub nothing_fails : Plan

@@ -3,9 +3,12 @@
 #![tactic(auto)]
 
 mod crash_image;
+mod fault_plan;
 mod history;
 mod mem;
-mod part;
+mod memory_piece;
+mod memory_region;
+mod no_faults;
 mod pieces;
 mod plan;
 mod region_journal;
@@ -15,6 +18,10 @@ mod volume;
 mod word_cells;
 
 pub use crash_image::{ImageError, Pick};
+pub use fault_plan::FaultPlan;
 pub use mem::{MemPiece, MemRegion};
-pub use plan::{Faults, FenceNumber};
+pub use memory_piece::MemoryPiece;
+pub use memory_region::MemoryRegion;
+pub use no_faults::NoFaults;
+pub use plan::{Faults, FenceNumber, PlannedFaults};
 pub use steady::{SteadyPiece, SteadyRegion};

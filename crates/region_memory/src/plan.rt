@@ -1,8 +1,8 @@
 // Which calls of a region in memory are to fail.
-ghost use Rattle.std.specs.Prelude.{◌≡◌, ◌↔◌, ℕ, ◌+◌, ◌-◌, ◌^◌, ◌≤◌, List, [], true, Err, IfOk, OnOk, OnErr, IsErr, IsErrOf};
-ghost use Rattle.pm_region.specs.State.{Rose, counted};
-ghost use Rattle.region_memory.specs.Plans.{numbers_in, is_one_of};
+ghost use Rattle.std.specs.Prelude.{◌≡◌, ℕ, [], IfOk};
+ghost use Rattle.region_memory.specs.Plans.{numbers_in, calls_to_fail, no_faults};
 
+use crate::fault_plan::FaultPlan;
 use pm_region::{AttachError, RegionFault};
 use std::alloc::{AllocError, Global};
 
@@ -26,34 +26,60 @@ pub struct Faults {
     pub fences: Vec<FenceNumber>,
 }
 
-/// The counts of a region: of faults, of refused calls of attach, create and split, and of all these calls and
-/// revalidations.
+/// The calls of a region or a piece that are to fail by a plan, with the counts by which it names them.
 #[derive(Drop)]
-pub struct RegionCounts {
-    /// Each call that failed counts: attach, create, split, revalidate and fence.
-    pub faults: u64,
-    /// Each attach, create and split that failed counts.
-    pub refusals: u64,
-    /// Each attach, create, split and revalidation counts, failed or not.
-    pub opens: u64,
-    /// Which calls are to fail.
-    pub plan: Faults,
+pub struct PlannedFaults {
+    faults: u64,
+    refusals: u64,
+    opens: u64,
+    fences: u64,
+    plan: Faults,
+    // the numbers of its own fences that are to fail
+    fails: Vec<u64>,
 }
 
-impl RegionCounts {
-    /// Counts an attach, create or split, which fails by the plan.
-    pub fn open(&mut self) -> Result<(), AttachError>
-        ensures fault { OnErr result ((result ≡ Err AttachError.RegionFault)
-            × Rose self.old.faults self.new.faults × Rose self.old.refusals self.new.refusals) }
-        ensures later { (self.old.faults ≤ self.new.faults)
-            × (self.old.refusals ≤ self.new.refusals) }
-        ensures ok { OnOk result ((self.new.faults ≡ self.old.faults)
-            × (self.new.refusals ≡ self.old.refusals)) }
-        ensures plan { IsErr result ↔ (is_one_of (counted self.old.opens) self.old.plan.opens.items
-            ≡ true) }
-        ensures counted { (self.new.opens ≡ counted self.old.opens)
-            × (self.new.plan ≡ self.old.plan) }
+impl PlannedFaults {
+    ghost use Rattle.region_memory.specs.Mem.{planned_counts, planned_calls, planned};
+
+    /// This plan, of a region that has made no call.
+    pub fn new(alloc: Global, plan: Faults) -> Result<PlannedFaults, AllocError>
+        ensures plan { IfOk result (λ p. planned_calls p ≡ planned plan) }
+        ensures counts { IfOk result (λ p. planned_counts p ≡ no_faults) }
     {
+        let fails = fences_of(alloc, &plan.fences, 0)?;
+        Ok(PlannedFaults::begin_with(plan, fails, 0))
+    }
+
+    // It has made no call, and its own fences with these numbers are to fail.
+    fn begin_with(plan: Faults, fails: Vec<u64>, faults: u64) -> PlannedFaults
+        ensures opens { (planned_calls result).opens ≡ calls_to_fail plan.opens.items }
+        ensures fences { (planned_calls result).fences ≡ calls_to_fail fails.items }
+        ensures in_pieces { (planned_calls result).in_pieces ≡ plan.fences.items }
+        ensures counts { planned_counts result ≡ record no_faults { faults = faults } }
+    {
+        PlannedFaults {
+            faults,
+            refusals: 0,
+            opens: 0,
+            fences: 0,
+            plan,
+            fails,
+        }
+    }
+}
+
+impl FaultPlan for PlannedFaults {
+    ghost use Rattle.region_memory.specs.Mem.{planned_counts, planned_calls};
+
+    ghost counts = { planned_counts };
+
+    ghost plan = { planned_calls };
+
+    fn faults(&self) -> u64 {
+        self.faults
+    }
+
+    fn open(&mut self) -> Result<(), AttachError> {
         self.opens = self.opens.saturating_add(1);
         if self.plan.opens.contains(&self.opens) {
             self.refusals = self.refusals.saturating_add(1);
@@ -63,22 +89,48 @@ impl RegionCounts {
         Ok(())
     }
 
-    /// Counts a revalidation, which fails by the plan. One that failed is no refused call.
-    pub fn revalidate(&mut self) -> Result<(), RegionFault>
-        ensures fault { OnErr result (Rose self.old.faults self.new.faults) }
-        ensures ok { OnOk result (self.new.faults ≡ self.old.faults) }
-        ensures refusals { self.new.refusals ≡ self.old.refusals }
-        ensures plan { IsErr result ↔ (is_one_of (counted self.old.opens) self.old.plan.opens.items
-            ≡ true) }
-        ensures counted { (self.new.opens ≡ counted self.old.opens)
-            × (self.new.plan ≡ self.old.plan) }
-    {
+    fn revalidate(&mut self) -> Result<(), RegionFault> {
         self.opens = self.opens.saturating_add(1);
         if self.plan.opens.contains(&self.opens) {
             self.faults = self.faults.saturating_add(1);
             return Err(RegionFault);
         }
         Ok(())
+    }
+
+    fn fence(&mut self) -> Result<(), RegionFault> {
+        self.fences = self.fences.saturating_add(1);
+        if self.fails.contains(&self.fences) {
+            self.faults = self.faults.saturating_add(1);
+            return Err(RegionFault);
+        }
+        Ok(())
+    }
+
+    fn begin(&mut self) {
+        self.fences = 0;
+    }
+
+    fn piece(&self, alloc: Global, number: u64) -> Result<PlannedFaults, AllocError> {
+        let fails = fences_of(alloc, &self.plan.fences, number)?;
+        Ok(PlannedFaults::begin_with(no_plan(alloc), fails, self.faults))
+    }
+
+    fn take(&mut self, piece: &PlannedFaults) {
+        self.faults = self.faults.max(piece.faults);
+    }
+
+    fn nothing(alloc: Global) -> PlannedFaults {
+        PlannedFaults::begin_with(no_plan(alloc), Vec::new(alloc), 0)
+    }
+}
+
+fn no_plan(alloc: Global) -> Faults
+    ensures { (result.opens.items ≡ []) × (result.fences.items ≡ []) }
+{
+    Faults {
+        opens: Vec::new(alloc),
+        fences: Vec::new(alloc),
     }
 }
 

@@ -7,7 +7,7 @@ ghost use Rattle.pm_region.specs.Bytes.{word_at};
 
 use crate::crash_image::{ImageError, Pick};
 use crate::history::History;
-use crate::part::Part;
+use crate::memory_piece::MemoryPiece;
 use crate::pieces::{latest_stamp, take_back};
 use pm_region::byte_words::words_of;
 use pm_region::{LINE_WORDS, MOST_WORDS, WORD_BYTES};
@@ -201,15 +201,15 @@ impl Volume {
     }
 
     /// Takes its pieces back.
-    pub fn join<P: Part>(&mut self, pieces: &[P])
+    pub fn join<P>(&mut self, pieces: &[MemoryPiece<P>])
         requires parted { self.old.parted ≡ true }
         requires count { length pieces.now ≡ length self.old.cuts.items - 1 }
-        requires pieces { (i : ℕ) (p : P) → i < length pieces.now
-            → CamePart self.old i (P.part (slice_index_or pieces.now i p)) }
+        requires pieces { (i : ℕ) (p : _) → i < length pieces.now
+            → CamePart self.old i (slice_index_or pieces.now i p).history }
         ensures whole { VolumeJoined self.old self.new }
-        ensures pieces { (i : ℕ) (p : P) → i < length pieces.now
-            → TakesPart self.new (P.part (slice_index_or pieces.now i p)) }
-        ensures next { ComesAfter P.part self.old self.new pieces.now }
+        ensures pieces { (i : ℕ) (p : _) → i < length pieces.now
+            → TakesPart self.new (slice_index_or pieces.now i p).history }
+        ensures next { ComesAfter (λ p. p.history) self.old self.new pieces.now }
         ensures opens { self.new.opens ≡ self.old.opens }
         ensures validations { self.new.validations ≡ self.old.validations }
         ensures limit { limit_of self.new ≡ limit_of self.old }

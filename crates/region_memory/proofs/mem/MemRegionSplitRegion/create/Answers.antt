@@ -1,5 +1,0 @@
-use Rattle.region_memory.proofs.Attaching.{attached_from}
-use Rattle.region_memory.proofs.mem.MemRegionSplitRegion.create.Goals as goal
-
-pub returns-clause-ok : goal.returns-clause-ok
-returns-clause-ok c = attached_from _ _ _ _ _ (c.in_ok-create.ensures.ok 0 0 _ _)
