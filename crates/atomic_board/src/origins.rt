@@ -31,7 +31,11 @@ impl<O: Opening> Play<u8, Origin> for Opens<O> {
 pub fn origin_seat<O: Opening>(alloc: Global) -> Result<OriginSeat, Memory>
     ensures { IfOk result (λ p. p.me.0 ≡ record { group = O.group; words = O.words }) }
 {
-    let (free, mut plan) = Table::<u8, Origin, (), AsksNothing, Global>::of_words(alloc, &[0], &())?;
+    let (free, mut plan) = Table::<u8, Origin, (), AsksNothing, Global>::of_words(
+        alloc,
+        &[0],
+        &(),
+    )?;
     free.shared.load::<Opens<O>>(&mut plan, 0);
     Ok(plan)
 }

@@ -25,7 +25,9 @@ ghost use Rattle.atomic_board.specs.MemberSeats.{done_at, trail_at, origin_at, p
 
 use crate::member_seat::{Common, MemberSeat};
 use crate::parcel::Parcel;
-use crate::rule::{Commits, CoreView, Locks, Looks, Posts, RegionStamp, Takes, Unlocks, PostedValue};
+use crate::rule::{
+    Commits, CoreView, Locks, Looks, PostedValue, Posts, RegionStamp, Takes, Unlocks,
+};
 use crate::slot_order::bring;
 use crate::table_words::{
     DONE_WORD, EMPTY_WORD, FAILED_WORD, FREE_LOCK, LOCK, POSTED_WORD, TAKEN_WORD,
@@ -86,7 +88,12 @@ fn offer<W: PostedValue, R: Region>(
 }
 
 // The step of a commit. The proof of the call picks the stamp at which the region stands.
-fn commits<W: RegionStamp, R: Region>(shared: &Common, seat: &mut CoreView, word: usize, _region: &R)
+fn commits<W: RegionStamp, R: Region>(
+    shared: &Common,
+    seat: &mut CoreView,
+    word: usize,
+    _region: &R,
+)
     requires { (seat.old.table_id ≡ shared.now.table_id) × (word < shared.now.table_id.words)
         × Allows (ShowsLawful shared.now.key.me.0) shared.now.table_id.slots seat.old.id
         seat.old.me word (λ n. (n + 1) % 2 ^ 64)

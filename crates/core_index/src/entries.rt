@@ -136,7 +136,11 @@ impl Entries {
     }
 
     /// The one entry of a start, where it stands, and room for one more.
-    pub fn of_one(alloc: Global, only: Option<StandingEntry>, top: Version) -> Result<Entries, Memory>
+    pub fn of_one(
+        alloc: Global,
+        only: Option<StandingEntry>,
+        top: Version,
+    ) -> Result<Entries, Memory>
         requires { AllByRecursion (λ s. s.version ≤ top) (list_of only) }
         ensures items { IfOk result (λ entries. entries.items ≡ list_of only) }
         ensures room { IfOk result (λ entries. 1 ≤ entries.room) }

@@ -10,7 +10,7 @@ ghost use Rattle.core_index.specs.Lives.{entry_home, entry_version, live_key, by
 
 use crate::short_names::{self, short_of};
 use crate::slot::KeySlot;
-use crate::types::{ValuePlace, LiveFate, LiveKey, Look, Record, SHARE, Standee};
+use crate::types::{LiveFate, LiveKey, Look, Record, SHARE, Standee, ValuePlace};
 use fs_model::{Key, Memory, Value, Version};
 use log_entry::{Body, EntryName};
 use std::alloc::Global;

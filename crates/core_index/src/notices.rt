@@ -164,7 +164,11 @@ fn grow(nodes: &mut Vec<NoticeNode>, heads: &mut Vec<Option<u32>>) -> Result<(),
 }
 
 // Adds so many free places.
-fn grow_by(nodes: &mut Vec<NoticeNode>, heads: &mut Vec<Option<u32>>, more: u64) -> Result<(), Memory>
+fn grow_by(
+    nodes: &mut Vec<NoticeNode>,
+    heads: &mut Vec<Option<u32>>,
+    more: u64,
+) -> Result<(), Memory>
     requires { AreChains nodes.old.items heads.old.items }
     ensures chains { AreChains nodes.new.items heads.new.items }
     ensures grows { Grows nodes.old.items nodes.new.items }

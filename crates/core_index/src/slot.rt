@@ -13,7 +13,9 @@ use crate::dead_entries::{awaits, is_dead, is_tombstone};
 use crate::entries::Entries;
 use crate::notices::DeathNotices;
 use crate::tombstones::{home_of, version_of};
-use crate::types::{Fate, LastChange, Look, Marked, Record, ChangeEffect, Standee, StandingEntry, Tombstone};
+use crate::types::{
+    ChangeEffect, Fate, LastChange, Look, Marked, Record, Standee, StandingEntry, Tombstone,
+};
 use fs_model::{Key, Memory, Version};
 use log_entry::{Body, EntryName};
 use std::alloc::Global;
@@ -351,7 +353,13 @@ fn died(version: Version, last: Version, before: Option<u32>, after: Option<u32>
 }
 
 // Notes an entry, where it stands and is dead.
-fn note_mark(head: &LastChange, standing: &Entries, mark: Marked, key: Key, notices: &mut DeathNotices)
+fn note_mark(
+    head: &LastChange,
+    standing: &Entries,
+    mark: Marked,
+    key: Key,
+    notices: &mut DeathNotices,
+)
     requires { length (kept (mark ∷ [])) ≤ notices.old.spare }
     ensures noted { AllByRecursion (NotedIfDead notices.new key
         (record_with head.now standing.now.items)) (kept (mark ∷ [])) }
@@ -373,7 +381,13 @@ fn note_mark(head: &LastChange, standing: &Entries, mark: Marked, key: Key, noti
 }
 
 // Notes each of these entries that is dead.
-fn note_all(head: &LastChange, standing: &Entries, marks: &[Marked], key: Key, notices: &mut DeathNotices)
+fn note_all(
+    head: &LastChange,
+    standing: &Entries,
+    marks: &[Marked],
+    key: Key,
+    notices: &mut DeathNotices,
+)
     requires { length (kept marks.now) ≤ notices.old.spare }
     ensures noted { AllByRecursion (NotedIfDead notices.new key
         (record_with head.now standing.now.items)) (kept marks.now) }

@@ -1,8 +1,8 @@
 // The worked rows of input and output, and each public call once.
 use fs_model::{Reply, Request, Value};
 use fs_text::{
-    Input, InputError, Line, MemSink, MemSource, OutError, Pair, PlacedEntry, Sink, Source,
-    StdSink, StdSource, SteadySink, SteadySource, LoadTally, parse_input, read_input, write_entries,
+    Input, InputError, Line, LoadTally, MemSink, MemSource, OutError, Pair, PlacedEntry, Sink,
+    Source, StdSink, StdSource, SteadySink, SteadySource, parse_input, read_input, write_entries,
     write_pairs, write_replies, write_tally,
 };
 use log_entry::entry::{Body, Entry};

@@ -14,7 +14,7 @@ ghost use Rattle.group_machine.specs.Deaths.{IsDeadIn, MayTell};
 
 use crate::member_places::owner_of;
 use crate::sets::{entries_but, has_all, has_name, names_but, take_out};
-use crate::state::{MemberView, GroupState};
+use crate::state::{GroupState, MemberView};
 use crate::tables::{has_member, saw};
 use crate::tidy_rules::{is_dead, tidy};
 use fs_model::Memory;

@@ -9,7 +9,7 @@ ghost use Rattle.group_laws.specs.OpeningImages.{IsBlank};
 ghost use Rattle.group_machine.specs.Shows.{group_of, place_of, IsEmptyView};
 
 use crate::member_places::owner_of;
-use crate::state::{MemberView, GroupState};
+use crate::state::{GroupState, MemberView};
 use chunk_map::layouts::Layout;
 use fs_model::Memory;
 use fs_model::model::{Key, Value, Version};

@@ -20,4 +20,4 @@ mod tidy_rules;
 
 pub use kinds::{Kind, MemberStep, StepError, StepsError};
 pub use machine::{all_steps, step};
-pub use state::{MemberView, GroupState};
+pub use state::{GroupState, MemberView};

@@ -137,7 +137,11 @@ pub fn step(alloc: Global, state: GroupState, step: &MemberStep) -> Result<Group
 /// invariant holds: whatever a crash leaves of it recovers each key's cell or the one that its posted change
 /// leaves, and no block serves two values. Each cell is what the finished changes of its key left, in order, and each
 /// of these left what its key's last post offered.
-pub fn all_steps(alloc: Global, state: GroupState, steps: &[MemberStep]) -> Result<GroupState, StepsError>
+pub fn all_steps(
+    alloc: Global,
+    state: GroupState,
+    steps: &[MemberStep],
+) -> Result<GroupState, StepsError>
     requires { Lawful (group_of state) }
     ensures { IsRun state steps.now result }
 {

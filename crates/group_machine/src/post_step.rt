@@ -16,7 +16,7 @@ ghost use Rattle.group_machine.specs.Makes.{Makes};
 
 use crate::copies::copy_entry;
 use crate::member_places::{is_apart, lies_in, owner_of, units_of};
-use crate::state::{MemberView, GroupState};
+use crate::state::{GroupState, MemberView};
 use crate::tables::has_member;
 use chunk_map::layout_sizes::{LONGEST_VALUE, SHORTEST_IN_BLOCK};
 use fs_model::Memory;

@@ -11,7 +11,7 @@ ghost use Rattle.group_machine.specs.Shows.{group_of, place_of, pair_cmp, last_i
 ghost use Rattle.group_machine.specs.Deaths.{IsDeadIn, IsSpentIn, MustTell};
 
 use crate::member_places::owner_of;
-use crate::state::{MemberView, GroupState};
+use crate::state::{GroupState, MemberView};
 use fs_model::Memory;
 use fs_model::model::{Key, Version};
 use log_entry::entry::EntryName;

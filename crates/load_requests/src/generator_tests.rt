@@ -36,7 +36,11 @@ fn play(lengths: &mut Vec<Option<usize>>, counts: &mut AnswerCounts, request: Re
 }
 
 // What a load on an empty store leaves: the lengths of the values, by key, and what was answered.
-fn played(alloc: Global, start: u64, count: u64) -> Result<(Vec<Option<usize>>, AnswerCounts), Memory>
+fn played(
+    alloc: Global,
+    start: u64,
+    count: u64,
+) -> Result<(Vec<Option<usize>>, AnswerCounts), Memory>
     requires { count < 2 ^ 63 }
 {
     let mut lengths = Vec::from_elem(alloc, None, 10_000)?;

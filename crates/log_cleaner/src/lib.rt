@@ -2,6 +2,7 @@
 #![tactic(auto)]
 
 mod choosing;
+mod chunk_tally;
 pub mod cleaning_laws;
 mod clearing;
 mod collect_copies;
@@ -9,13 +10,12 @@ mod copying;
 mod counting;
 mod reading_start;
 mod searching;
-mod chunk_tally;
 mod types;
 
 pub use choosing::victim;
+pub use chunk_tally::tally_of;
 pub use clearing::Clearing;
 pub use copying::copy_live;
 pub use counting::to_copy;
 pub use log_standing::Standing;
-pub use chunk_tally::tally_of;
 pub use types::{Cleared, Victim};

@@ -55,7 +55,11 @@ fn enter<'a>(table: &mut Table<'a>, cell: &'a StartCell) -> Result<(), Memory>
 }
 
 // How the keys of the share stand at the start.
-fn start_table<'a>(alloc: Global, start: &'a [StartCell], share: KeyShare) -> Result<Table<'a>, Memory>
+fn start_table<'a>(
+    alloc: Global,
+    start: &'a [StartCell],
+    share: KeyShare,
+) -> Result<Table<'a>, Memory>
     requires { 0 < share.count }
     ensures { IfOk result (λ table. (k : ℕ) → is_of share.count share.number k ≡ true
         → state_at table k ≡ (cells_in start.now k, false)) }
