@@ -5,7 +5,7 @@ use Rattle.std.specs.List.{AllByRecursion}
 use Rattle.std.proofs.lemmas.List.{length-append, length-set, get_or-set_same, get_or-set_other, get_or_append_left, get_or-append-add}
 use Rattle.std.proofs.lemmas.Bool.{cases_eq, cases_lt, eqb-true, eq-eqb}
 use Rattle.log_entry.specs.declared.entry.EntryName.{EntryName}
-use Rattle.core_index.specs.declared.notices.NoticeNode.{NoticeNode}
+use Rattle.core_index.specs.declared.death_notices.NoticeNode.{NoticeNode}
 use Rattle.core_index.specs.Noted.{Book, Noted, node_with, bare, home_at, name_at, next_at, is_for, LacksHome, chain_of, Follows, In, Lacks, Once, IsChain, AreChains, one_used, count_used, IsBook, Grows}
 
 lacks_class : (ns : List NoticeNode) (i c : ℕ) (xs : List ℕ) → AllByRecursion (λ (x : ℕ). chain_of (home_at ns x) ≡ c) xs → chain_of (home_at ns i) ≢ c → Lacks i xs

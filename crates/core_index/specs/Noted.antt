@@ -2,7 +2,7 @@
 use Rattle.std.specs.Prelude.{◌≡◌, ◌≢◌, ◌⊎◌, ℕ, ◌+◌, ◌<◌, ◌==◌, ◌%◌, ◌≤◌, List, [], ◌∷◌, length, slice_index_or, Option, Some, None, Bool, true, false, if◌then◌else◌}
 use Rattle.std.specs.List.{AllByRecursion}
 use Rattle.log_entry.specs.declared.entry.EntryName.{EntryName}
-use Rattle.core_index.specs.declared.notices.NoticeNode.{NoticeNode}
+use Rattle.core_index.specs.declared.death_notices.NoticeNode.{NoticeNode}
 use Rattle.core_index.specs.declared.types.StandingEntry.{StandingEntry}
 use Rattle.core_index.specs.Records.{KeyRecord, is_dead}
 

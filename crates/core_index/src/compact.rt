@@ -6,8 +6,8 @@ ghost use Rattle.core_index.specs.Slots.{count_dead, OnlyDead};
 ghost use Rattle.core_index.specs.Starts.{IsAhead};
 ghost use Rattle.core_index.specs.Index.{Admits, Changes, LessRoom, SameRoom, room_at, IsCompact, IsCompactLive, ToldAt, all_places, all_mortal, all_untold, known_at};
 
+use crate::key_slot::KeySlot;
 use crate::map::{enter_at, forget_there, give_back_at, gone_at, has, reserve_at, tell_at};
-use crate::slot::KeySlot;
 use crate::start_keys::StartKeys;
 use crate::tombstones::tombstone_of;
 use crate::types::{LiveKey, Standee, Tombstone};

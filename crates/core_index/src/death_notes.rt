@@ -9,8 +9,8 @@ ghost use Rattle.core_index.specs.Starts.{IsAhead};
 ghost use Rattle.core_index.specs.Index.{IsIndex, Tells, ToldAt, all_places, all_mortal, all_untold, known_at};
 
 use crate::compact::tell_in;
-use crate::notices::DeathNotices;
-use crate::slot::KeySlot;
+use crate::death_notices::DeathNotices;
+use crate::key_slot::KeySlot;
 use crate::start_keys::StartKeys;
 use crate::tombstones::{home_of, name_of};
 use crate::types::{Standee, Tombstone};

@@ -9,10 +9,10 @@ ghost use Rattle.core_index.specs.Index.{known_at, room_at, Changes, LessRoom, S
 
 use crate::compact::{admit_at, compact, compact_live, copy_of, forget_in, give_back_in, gone_in};
 use crate::death_notes::{next_dead, note_dead};
+use crate::death_notices::DeathNotices;
+use crate::key_slot::KeySlot;
 use crate::live_keys::live_in;
 use crate::map::{enter_at, settle_at};
-use crate::notices::DeathNotices;
-use crate::slot::KeySlot;
 use crate::start_keys::StartKeys;
 use crate::types::{Look, Record, Spent, Standee};
 use fs_model::{Key, Memory, Version};

@@ -4,14 +4,14 @@
 mod compact;
 mod dead_entries;
 mod death_notes;
+mod death_notices;
 mod entries;
 mod index;
+mod key_slot;
 mod live_keys;
 mod live_list;
 mod map;
-mod notices;
 mod short_names;
-mod slot;
 mod start_keys;
 mod tombstones;
 mod types;

@@ -11,9 +11,9 @@ ghost use Rattle.core_index.specs.Noted.{name_with};
 ghost use Rattle.core_index.specs.Records.{live_version};
 ghost use Rattle.core_index.specs.Starts.{started};
 
+use crate::key_slot::KeySlot;
 use crate::live_list::{LiveList, key_of, version_of};
 use crate::map::has;
-use crate::slot::KeySlot;
 use crate::start_keys::StartKeys;
 use crate::types::{LiveFate, LiveKey};
 use fs_model::{Key, Memory, Version};

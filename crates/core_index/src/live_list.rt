@@ -8,8 +8,8 @@ ghost use Rattle.core_index.specs.Records.{Shows, ShowsBody, without, opened_wit
 ghost use Rattle.core_index.specs.Slots.{alive_at, count_of};
 ghost use Rattle.core_index.specs.Lives.{entry_home, entry_version, live_key, bytes_in, body_in, IsWithin, valued, IsStanding, live_place, live_at, turned, AllLess, KeysRise, IsLiveSpot, IsNotThere, placed_lives, FitsLive};
 
+use crate::key_slot::KeySlot;
 use crate::short_names::{self, short_of};
-use crate::slot::KeySlot;
 use crate::types::{LiveFate, LiveKey, Look, Record, SHARE, Standee, ValuePlace};
 use fs_model::{Key, Memory, Value, Version};
 use log_entry::{Body, EntryName};

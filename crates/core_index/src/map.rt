@@ -4,7 +4,7 @@ ghost use Rattle.core_index.specs.Records.{Awaits, settled, last_of, block_of, i
 ghost use Rattle.core_index.specs.Slots.{mortal, count_dead, is_bare, OnlyDead};
 ghost use Rattle.core_index.specs.Index.{Step, ToldAt, known_at, room_at, mortal_in, all_mortal, place_at, gone_place, Forgets, GivesBack};
 
-use crate::slot::KeySlot;
+use crate::key_slot::KeySlot;
 use crate::types::{ChangeEffect, Standee};
 use fs_model::{Key, Memory, Version};
 use log_entry::{Body, EntryName};

@@ -8,8 +8,8 @@ ghost use Rattle.core_index.specs.Starts.{started, IsAhead};
 ghost use Rattle.core_index.specs.Tombs.{tomb_home, key_of, name_of, AreLess, passed_at};
 ghost use Rattle.core_index.specs.Lives.{live_key, live_place, bytes_in, AllLess, IsWithin};
 
+use crate::key_slot::KeySlot;
 use crate::live_list::{LiveList, count_alive, last_of};
-use crate::slot::KeySlot;
 use crate::tombstones::Tombstones;
 use crate::types::{LiveKey, Look, Tombstone};
 use fs_model::{Key, Memory, Version};

@@ -5,7 +5,7 @@ use Rattle.std.specs.List.{AllByRecursion}
 use Rattle.std.proofs.lemmas.List.{append-nil, take_at, nil_from_length}
 use Rattle.fs_text.specs.Input.{lines_of}
 use Rattle.fs_text.specs.Output.{ended}
-use Rattle.run_audit.specs.declared.first_line.PartedLine.{PartedLine}
+use Rattle.run_audit.specs.declared.parted_line.PartedLine.{PartedLine}
 use Rattle.run_audit.specs.declared.parting.Parts.{Parts}
 use Rattle.run_audit.specs.Parting.{IsParted, IsPartedAtReplies}
 use Rattle.run_audit.specs.Replies.{is_replies, before_replies, from_replies}

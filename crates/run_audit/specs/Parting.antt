@@ -9,7 +9,7 @@ use Rattle.fs_text.specs.declared.input_limits.TheConstants.{LONGEST_LINE, MOST_
 use Rattle.fs_text.specs.declared.line.Line.{Line}
 use Rattle.fs_text.specs.Input.{lines_of, input_of}
 use Rattle.fs_text.specs.Output.{ended, reply_line, replies_text}
-use Rattle.run_audit.specs.declared.first_line.PartedLine.{PartedLine}
+use Rattle.run_audit.specs.declared.parted_line.PartedLine.{PartedLine}
 use Rattle.run_audit.specs.declared.parting.Parts.{Parts}
 use Rattle.run_audit.specs.declared.audit_input.AuditInput.{AuditInput}
 use Rattle.run_audit.specs.declared.reply_lines.TheConstants.{MOST_REPLIES}

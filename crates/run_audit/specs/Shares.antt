@@ -7,7 +7,7 @@ use Rattle.fs_model.specs.declared.model.Pair.{Pair}
 use Rattle.fs_model.specs.declared.model.Request.{Request}
 use Rattle.fs_model.specs.declared.model.Reply.{Reply}
 use Rattle.fs_model.specs.Lawful.{IsLawfulFor, asked, cell_left, is_stopped}
-use Rattle.run_audit.specs.declared.standing.KeyState.{KeyState}
+use Rattle.run_audit.specs.declared.key_state.KeyState.{KeyState}
 
 -- a key's cell, and whether the store has stopped serving it
 abbrev pub State : Type 0

@@ -11,7 +11,7 @@ ghost use Rattle.fs_text.specs.Streams.{IsAtEnd, IsReadOut};
 ghost use Rattle.run_audit.specs.Parting.{IsWritten, items_of, listed};
 ghost use Rattle.run_audit.specs.Replies.{audit_input_of, from_replies, replies_behind};
 
-use crate::first_line::first_line;
+use crate::parted_line::first_line;
 use crate::parting::{Parts, part_at_replies};
 use crate::reply_lines::read_replies;
 use fs_model::{Memory, Reply, Request};

@@ -6,7 +6,7 @@ ghost use Rattle.fs_model.specs.declared.model.Reply.{Reply};
 ghost use Rattle.run_audit.specs.FirstFault.{cells_in, Judges};
 ghost use Rattle.run_audit.specs.Shares.{is_of, is_before, earlier, AreOfShares, IsFaultAmong};
 
-use crate::share::{KeyShare, first_fault};
+use crate::key_share::{KeyShare, first_fault};
 use crate::verdict::{StartCell, Verdict};
 use fs_model::{Memory, Reply, Request};
 use std::alloc::Global;

@@ -3,11 +3,11 @@
 
 mod audit_input;
 mod audit_run;
-mod first_line;
+mod key_share;
+mod key_state;
+mod parted_line;
 mod parting;
 mod reply_lines;
-mod share;
-mod standing;
 mod verdict;
 mod verdict_text;
 

@@ -2,7 +2,7 @@
 ghost use Rattle.std.specs.Prelude.{◌≡◌, ◌-◌, ◌≤◌, length, take};
 ghost use Rattle.run_audit.specs.Parting.{IsPartedAtReplies};
 
-use crate::first_line::first_line;
+use crate::parted_line::first_line;
 
 /// A text, parted before its first line `replies`.
 #[derive(Clone, Copy)]

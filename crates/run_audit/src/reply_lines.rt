@@ -7,7 +7,7 @@ ghost use Rattle.fs_text.specs.Reading.{Answers, numbered};
 ghost use Rattle.run_audit.specs.Parting.{AreWritable, items_of};
 ghost use Rattle.run_audit.specs.Replies.{reply_of, value_of, reply_at, replies_from, IsTextOf};
 
-use crate::first_line::first_line;
+use crate::parted_line::first_line;
 use fs_model::{Memory, Reply, Value};
 use fs_text::InputError;
 use fs_text::input_limits::{LONGEST_LINE, MOST_INPUT_BYTES};
