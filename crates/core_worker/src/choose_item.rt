@@ -19,7 +19,7 @@ pub(crate) enum Choice {
     Post(u32),
 }
 
-fn is_staged(place: &Place) -> bool
+pub(crate) fn is_staged(place: &Place) -> bool
     ensures { result ≡ is_staged place.now }
 {
     match place {
