@@ -13,13 +13,14 @@ use std::io;
 use std::process::ExitCode;
 use std::sync::Wait;
 use std::thread::Threads;
+use std::time::Clock;
 use terminal_watch::TerminalWatch;
 
 /// Does what the command line asks, with the region in its file, standard input and standard output. The
 /// runtime is handed in twice, as what it is and as the leave to start threads and to wait for them.
 fn run(
     rt: &HostRuntime,
-    threads: &(impl Threads + Wait + Sync),
+    threads: &(impl Threads + Wait + Clock + Sync),
     alloc: Global,
 ) -> Result<Status, Memory> {
     let words = command_line(rt, alloc)?;

@@ -29,11 +29,17 @@ use pm_region::{AttachError, ReadRegion, RegionFault, SplitRegion};
 use std::alloc::Global;
 use std::sync::Wait;
 use std::thread::Threads;
+use std::time::Clock;
 use thread_engine::watch::Watch;
 
 /// Runs the cores over the requests of a load, on a region that was attached. Where it answers an `Err`, no core worked:
 /// the region is as it was, but for its counts.
-fn load_cores<T: Threads + Wait + Sync, R: SplitRegion + ReadRegion, G: Gate + Sync, W: Watch>(
+fn load_cores<
+    T: Threads + Wait + Clock + Sync,
+    R: SplitRegion + ReadRegion,
+    G: Gate + Sync,
+    W: Watch,
+>(
     rt: &T,
     alloc: Global,
     region: &mut R,
@@ -139,7 +145,7 @@ fn write_load<O: Sink, R: SplitRegion + ReadRegion>(
 /// window. The tally of their replies is written behind the run, with the live pairs that the region has then, once the
 /// region is found in its place.
 pub fn load_region<
-    T: Threads + Wait + Sync,
+    T: Threads + Wait + Clock + Sync,
     O: Sink,
     R: SplitRegion + ReadRegion,
     G: Gate + Sync,

@@ -22,6 +22,7 @@ use pm_region::{AttachError, ReadRegion, SplitRegion};
 use std::alloc::Global;
 use std::sync::Wait;
 use std::thread::Threads;
+use std::time::Clock;
 use thread_engine::requests::TraceRequests;
 use thread_engine::run_apart::RunOutcome;
 use thread_engine::run_notes::RunNotes;
@@ -83,7 +84,7 @@ impl NotRun {
 /// window behind it. Where it answers an `Err`, no core worked: the region is as it was, but for its counts, and the sink
 /// is untouched.
 fn run_cores<
-    T: Threads + Wait + Sync,
+    T: Threads + Wait + Clock + Sync,
     S: Source,
     O: Sink,
     R: SplitRegion + ReadRegion,
@@ -187,7 +188,7 @@ fn report_of(ran: SinkRun) -> CommandReport
 /// Attaches the region, reads the input, and runs a worker for each core in a thread of its own, window by window. The
 /// replies of a window are written behind it, in the order of the requests, once the region is found in its place.
 pub fn run_region<
-    T: Threads + Wait + Sync,
+    T: Threads + Wait + Clock + Sync,
     S: Source,
     O: Sink,
     R: SplitRegion + ReadRegion,

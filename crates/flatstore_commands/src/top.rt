@@ -30,6 +30,7 @@ use pm_region::{ReadRegion, SplitRegion};
 use std::alloc::Global;
 use std::sync::Wait;
 use std::thread::Threads;
+use std::time::Clock;
 use thread_engine::watch::Watch;
 
 /// Does what the words of a command line ask. The first word is the program's name. For `run` the region is attached,
@@ -41,7 +42,7 @@ use thread_engine::watch::Watch;
 /// (`flatstore_alone`).
 #[tactic(auto, using(crate::proofs::Forms::run_way, crate::proofs::Forms::audit_way, crate::proofs::Forms::no_way))]
 pub fn flatstore<
-    T: Threads + Wait + Sync,
+    T: Threads + Wait + Clock + Sync,
     S: Source,
     O: Sink,
     R: SplitRegion + ReadRegion,

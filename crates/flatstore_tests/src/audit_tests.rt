@@ -10,12 +10,13 @@ use std::alloc::{AllocGlobal, Global};
 use std::sync::Wait;
 use std::test::Fail;
 use std::thread::Threads;
+use std::time::Clock;
 
 const WORKERS: [&str; 2] = ["1", "4"];
 
 // What an audit says, where this text is wanted.
 fn audit<R: SplitRegion + ReadRegion>(
-    rt: &(impl Threads + Wait + Sync + AllocGlobal),
+    rt: &(impl Threads + Wait + Clock + Sync + AllocGlobal),
     region: &mut R,
     workers: &str,
     input: &str,
@@ -27,7 +28,7 @@ fn audit<R: SplitRegion + ReadRegion>(
 
 // What an audit of a fresh region says, where this text is wanted, and the region's stamp then.
 fn fresh_audit(
-    rt: &(impl Threads + Wait + Sync + AllocGlobal),
+    rt: &(impl Threads + Wait + Clock + Sync + AllocGlobal),
     workers: &str,
     input: &str,
     text: &str,

@@ -10,10 +10,11 @@ use std::alloc::AllocGlobal;
 use std::sync::Wait;
 use std::test::Fail;
 use std::thread::Threads;
+use std::time::Clock;
 
 // How a load of so many requests from a number on ends, where this text is wanted.
 fn load<R: SplitRegion + ReadRegion>(
-    rt: &(impl Threads + Wait + Sync + AllocGlobal),
+    rt: &(impl Threads + Wait + Clock + Sync + AllocGlobal),
     region: &mut R,
     start: &str,
     count: &str,
@@ -54,7 +55,10 @@ fn two_loads(rt: HostRuntime) -> Result<(), Fail> {
 const LOOKS: [(u64, bool, usize); 3] = [(1, false, 0), (2, false, 0), (3, true, 20)];
 
 // How a load ends on a fresh region with that look failing, where nothing is to be written.
-fn lost_load(rt: &(impl Threads + Wait + Sync + AllocGlobal), look: u64) -> Result<Ended, Fail> {
+fn lost_load(
+    rt: &(impl Threads + Wait + Clock + Sync + AllocGlobal),
+    look: u64,
+) -> Result<Ended, Fail> {
     let alloc = rt.alloc();
     let plan = Faults {
         opens: vec![in alloc; look]?,

@@ -13,6 +13,7 @@ use std::sync::Wait;
 use std::sync::atomic::{AtomicBool, AtomicU64, Ordering};
 use std::test::Fail;
 use std::thread::Threads;
+use std::time::Clock;
 
 const LOADS: u64 = 200_000_000;
 
@@ -77,7 +78,7 @@ impl Gate for Gathering {
 
 // How a run of these puts on so many cores ends whose gate makes them meet.
 fn met(
-    rt: &(impl Threads + Wait + Sync + AllocGlobal),
+    rt: &(impl Threads + Wait + Clock + Sync + AllocGlobal),
     region: &mut (impl SplitRegion + ReadRegion),
     text: &str,
     gate: &Gathering,

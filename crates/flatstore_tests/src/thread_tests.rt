@@ -13,13 +13,14 @@ use std::sync::Wait;
 use std::sync::atomic::{AtomicBool, AtomicU64, Ordering};
 use std::test::Fail;
 use std::thread::Threads;
+use std::time::Clock;
 use thread_engine::watch::Unwatched;
 
 pub const RUN: [&str; 3] = ["flatstore", "run", "region"];
 
 // One call with these words and a gate, into a sink that takes everything.
 pub fn threads<R: SplitRegion + ReadRegion, G: Gate + Sync>(
-    rt: &(impl Threads + Wait + Sync + AllocGlobal),
+    rt: &(impl Threads + Wait + Clock + Sync + AllocGlobal),
     words: &[&str],
     region: &mut R,
     input: &str,
@@ -45,7 +46,7 @@ pub fn threads<R: SplitRegion + ReadRegion, G: Gate + Sync>(
 
 // How such a call ends, where this text is wanted.
 pub fn threads_end<R: SplitRegion + ReadRegion, G: Gate + Sync>(
-    rt: &(impl Threads + Wait + Sync + AllocGlobal),
+    rt: &(impl Threads + Wait + Clock + Sync + AllocGlobal),
     words: &[&str],
     region: &mut R,
     input: &str,
@@ -58,7 +59,7 @@ pub fn threads_end<R: SplitRegion + ReadRegion, G: Gate + Sync>(
 
 // How a run of an input on a region ends, where this text is wanted.
 fn run<R: SplitRegion + ReadRegion>(
-    rt: &(impl Threads + Wait + Sync + AllocGlobal),
+    rt: &(impl Threads + Wait + Clock + Sync + AllocGlobal),
     region: &mut R,
     input: &str,
     text: &str,
@@ -68,7 +69,7 @@ fn run<R: SplitRegion + ReadRegion>(
 
 // The same on a fresh region of so many cores, in groups.
 fn fresh_run(
-    rt: &(impl Threads + Wait + Sync + AllocGlobal),
+    rt: &(impl Threads + Wait + Clock + Sync + AllocGlobal),
     cores: u8,
     group: u8,
     input: &str,
@@ -150,7 +151,9 @@ fn four_cores(alloc: Global) -> Result<SteadyRegion, Fail> {
 }
 
 // How a replay of the two thousand requests ends, and a run of them, each on a region of its own.
-fn both_ends(rt: &(impl Threads + Wait + Sync + AllocGlobal)) -> Result<(Ended, Ended), Fail> {
+fn both_ends(
+    rt: &(impl Threads + Wait + Clock + Sync + AllocGlobal),
+) -> Result<(Ended, Ended), Fail> {
     let (input, replies) = two_thousand(rt.alloc())?;
     let mut region = four_cores(rt.alloc())?;
     let replayed = ends(rt, &mut region, input.as_str(), replies.as_str())?;
@@ -250,7 +253,7 @@ const FIRST_OF_THE_LOG: &str = "core 0 chunk 0 place 0 key 0 version 1 embedded 
 
 // How the run ends, and whether its log begins so.
 fn met(
-    rt: &(impl Threads + Wait + Sync + AllocGlobal),
+    rt: &(impl Threads + Wait + Clock + Sync + AllocGlobal),
     gate: &Meeting,
 ) -> Result<((Status, bool), bool), Fail> {
     let mut region = SteadyRegion::new(rt.alloc(), fresh_of(rt.alloc(), 2, 2)?, 5000)?;

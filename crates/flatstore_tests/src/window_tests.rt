@@ -12,6 +12,7 @@ use std::alloc::{AllocGlobal, Global};
 use std::sync::Wait;
 use std::test::Fail;
 use std::thread::Threads;
+use std::time::Clock;
 use thread_engine::watch::Unwatched;
 
 // A sink that takes all bytes of a call, and whose calls of these numbers fail.
@@ -21,7 +22,7 @@ fn sink_of(alloc: Global, fails: Vec<u64>) -> Result<MemSink, Fail> {
 
 // Runs 4,096 gets, which are the first window, and a put and a get behind them.
 fn two_windows<R: SplitRegion + ReadRegion>(
-    rt: &(impl Threads + Wait + Sync + AllocGlobal),
+    rt: &(impl Threads + Wait + Clock + Sync + AllocGlobal),
     region: &mut R,
     sink: &mut MemSink,
 ) -> Result<CommandReport, Fail> {
@@ -43,7 +44,7 @@ fn two_windows<R: SplitRegion + ReadRegion>(
 
 // How such a run ends, where so many bytes are to be out that begin the replies.
 fn run_ends<R: SplitRegion + ReadRegion>(
-    rt: &(impl Threads + Wait + Sync + AllocGlobal),
+    rt: &(impl Threads + Wait + Clock + Sync + AllocGlobal),
     region: &mut R,
     sink: &mut MemSink,
     bytes: usize,
@@ -65,7 +66,7 @@ const CALLS: [(u64, Status, usize, usize); 4] = [
 
 // A run into a sink whose call with this number fails.
 fn with_a_failing_sink(
-    rt: &(impl Threads + Wait + Sync + AllocGlobal),
+    rt: &(impl Threads + Wait + Clock + Sync + AllocGlobal),
     call: u64,
     bytes: usize,
 ) -> Result<Ended, Fail> {
@@ -104,7 +105,7 @@ fn lost_at(alloc: Global, look: u64) -> Result<MemRegion, Fail> {
 
 // A run on it.
 fn with_a_lost_place(
-    rt: &(impl Threads + Wait + Sync + AllocGlobal),
+    rt: &(impl Threads + Wait + Clock + Sync + AllocGlobal),
     look: u64,
     bytes: usize,
 ) -> Result<Ended, Fail> {

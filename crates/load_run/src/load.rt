@@ -14,6 +14,7 @@ use recover::Recovered;
 use std::alloc::Global;
 use std::sync::Wait;
 use std::thread::Threads;
+use std::time::Clock;
 use thread_engine::run_apart::{RunOutcome, run};
 use thread_engine::watch::Watch;
 use thread_engine::watched_outlet::WatchedOutlet;
@@ -31,7 +32,12 @@ pub struct LoadRun {
 /// Runs so many requests of a load that begins at `start`: they are made and dealt window by window, and the replies of
 /// a window are counted behind it. After an `Err` the region is as it was: `RegionFault` comes where it could not be
 /// split, and `Memory` where there was none for what the run needs.
-pub fn run_load<T: Threads + Wait + Sync, R: SplitRegion + ReadRegion, G: Gate + Sync, W: Watch>(
+pub fn run_load<
+    T: Threads + Wait + Clock + Sync,
+    R: SplitRegion + ReadRegion,
+    G: Gate + Sync,
+    W: Watch,
+>(
     rt: &T,
     alloc: Global,
     region: &mut R,

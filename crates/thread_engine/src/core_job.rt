@@ -8,6 +8,8 @@ ghost use Rattle.answer_cores.specs.Handing.{HandsOver};
 ghost use Rattle.thread_engine.specs.WindowJobs.{IsReady, MayHandOver, HandedOver, WorksWindow};
 ghost use Rattle.thread_engine.specs.WorkStates.{IsAtWork, Accepts, MakesTurn, OwnMove, WorksOn, GoesOn, HasEnded, takes, sight_by, stands_at, with_next};
 
+use crate::core_side::CoreSide;
+use crate::group_leads::AllLeads;
 use crate::work_rules;
 use answer_cores::hand_over;
 use answer_queue::{AnswerPass, AnswerQueue};
@@ -21,6 +23,7 @@ use std::collections::VecDeque;
 use std::sync::Wait;
 use std::sync::atomic::{AtomicBool, Ordering};
 use std::thread;
+use std::time::Clock;
 
 /// A core with its seat at the group's board, its piece of the region, its worker, and the requests that the worker has
 /// not accepted yet, with their numbers.
@@ -201,6 +204,14 @@ impl<B: Board, P: Region> CoreJob<B, P> {
             && (self.worker.winding_down() || (!self.worker.pending() && self.queue.is_empty()))
     }
 
+    // Whether it can only try to lead, or wait for what it posted.
+    fn is_settled(&self) -> bool {
+        !Worker::leading(&self.worker)
+            && self.worker.has_posted()
+            && !self.worker.has_staged()
+            && (self.queue.is_empty() || !CoreWorker::has_room(&self.worker))
+    }
+
     // Hands the worker's answers over.
     fn give_answers(&mut self, rt: &impl Wait, answers: &AnswerQueue)
         requires { MayHandOver answers.now self.old }
@@ -218,34 +229,54 @@ impl<B: Board, P: Region> CoreJob<B, P> {
     /// Works the requests of a window off, and hands the answers over.
     pub fn work_window<G: Gate>(
         &mut self,
-        rt: &impl Wait,
+        rt: &(impl Wait + Clock),
         alloc: Global,
         gate: &G,
         short: &AtomicBool,
         answers: &AnswerQueue,
+        leads: &AllLeads,
+        core: usize,
     )
         requires { IsReady B.seat (sight_by B.view B.trail B.at) P.state answers.now self.old }
         ensures { WorksWindow B.seat (sight_by B.view B.trail B.at) P.state (G.may_refuse gate.now)
             answers.now self.old self.new }
     {
         work_rules::every_chain();
-        self.work(rt, alloc, gate, short);
+        self.work(rt, alloc, gate, short, leads, core);
         self.give_answers(rt, answers);
     }
 
     /// Works the requests off, until all are answered, the worker leads nothing and a turn of it found nothing to do: so a
     /// cleaning that the last requests allow is made before the end, and a log that filled up has room for the next ones.
-    /// It waits for nobody: where there is nothing to do it asks again. A worker that finds no memory says so to the others, and all of them finish what is
-    /// posted or taken and begin nothing more.
-    pub fn work<G: Gate>(&mut self, rt: &impl Wait, alloc: Global, gate: &G, short: &AtomicBool)
+    /// Where there is nothing to do it asks again; it is held back a while where it could only try to lead and its group
+    /// is faster together. A worker that finds no memory says so to the others, and all of them finish what is posted or
+    /// taken and begin nothing more.
+    pub fn work<G: Gate>(
+        &mut self,
+        rt: &(impl Wait + Clock),
+        alloc: Global,
+        gate: &G,
+        short: &AtomicBool,
+        leads: &AllLeads,
+        core: usize,
+    )
         requires { IsAtWork (B.seat self.old.seat)
             (stands_at (sight_by B.view B.trail B.at) P.state self.old) }
         ensures worked { GoesOn B.seat (sight_by B.view B.trail B.at) P.state
             (G.may_refuse gate.now) self.old self.new }
         ensures ended { HasEnded (stands_at (sight_by B.view B.trail B.at) P.state self.new) }
     {
+        let mut side = CoreSide::begin(leads, core);
         for _ in rt.forever() {
-            if self.round(alloc, gate, short) && self.has_ended() {
+            if side.has_others() && self.is_settled() {
+                side.hold(rt);
+            } else {
+                side.go_on();
+            }
+            let idle = self.round(alloc, gate, short);
+            side.moved(rt, Worker::leading(&self.worker));
+            if idle && self.has_ended() {
+                side.end();
                 return;
             }
         }

@@ -10,6 +10,7 @@ ghost use Rattle.thread_engine.specs.WindowJobs.{Awaits, AllWorked, waiting_for}
 ghost use Rattle.thread_engine.specs.Desks.{IsOpen, IsFresh};
 
 use crate::core_job::CoreJob;
+use crate::group_leads::AllLeads;
 use crate::window_passes::{deal_passes, take_passes};
 use crate::work_all::work_all;
 use answer_queue::{AnswerPass, AnswerQueue, WINDOW, take_all};
@@ -20,6 +21,7 @@ use std::alloc::{AllocError, Global};
 use std::marker::Brand;
 use std::sync::Wait;
 use std::thread::Threads;
+use std::time::Clock;
 
 /// The queue of a window's answers, with the pass that has all its parts, and room for what is taken out of it.
 #[derive(Drop)]
@@ -47,13 +49,19 @@ impl Desk {
 
 /// Lets all cores work their requests off, each with a pass of the queue, and takes what they put there. Where there was
 /// no memory already, `short` says so: then nothing is begun. It takes no memory.
-pub fn work_at_desk<R: Threads + Wait + Sync, B: Board + Send, P: Region + Send, G: Gate + Sync>(
+pub fn work_at_desk<
+    R: Threads + Wait + Clock + Sync,
+    B: Board + Send,
+    P: Region + Send,
+    G: Gate + Sync,
+>(
     rt: &R,
     alloc: Global,
     jobs: &mut [CoreJob<B, P>],
     gate: &G,
     short: bool,
     desk: Desk,
+    leads: &AllLeads,
 ) -> Vec<Answer>
     requires awaits { (c : ℕ) (d : data_of.CoreJob B P) → c < length jobs.old
         → Awaits B.seat (sight_by B.view B.trail B.at) P.state (slice_index_or jobs.old c d) }
@@ -69,7 +77,7 @@ pub fn work_at_desk<R: Threads + Wait + Sync, B: Board + Send, P: Region + Send,
         room,
     } = desk;
     deal_passes(&queue, &mut pass, jobs);
-    work_all(rt, alloc, jobs, gate, short, &queue);
+    work_all(rt, alloc, jobs, gate, short, &queue, leads);
     take_passes(&queue, &mut pass, jobs);
     take_all(rt, &queue, &mut pass, room)
 }

@@ -9,6 +9,7 @@ ghost use Rattle.thread_engine.specs.Supplied.{IsSupplied, ArePartCuts};
 
 use crate::closing::{close_tables, token_rooms};
 use crate::crew::{Crew, Returned};
+use crate::group_leads::AllLeads;
 use crate::group_tables::open_tables;
 use crate::outlet::Outlet;
 use crate::requests::Requests;
@@ -29,6 +30,7 @@ use recover::Recovered;
 use std::alloc::Global;
 use std::sync::Wait;
 use std::thread::Threads;
+use std::time::Clock;
 
 /// What a run needs, all of it taken before the region is split.
 #[derive(Drop)]
@@ -112,7 +114,7 @@ fn supply<R: ReadRegion>(
 
 // Splits the region, lets the cores work, and joins it. The memory for what comes after the split is taken before it.
 fn run_supplied<
-    T: Threads + Wait + Sync,
+    T: Threads + Wait + Clock + Sync,
     R: SplitRegion + ReadRegion,
     O: Outlet,
     G: Gate + Sync,
@@ -156,6 +158,7 @@ fn run_supplied<
         cuts,
     } = supplies;
     let cores = layout.cores as usize;
+    let leads = AllLeads::open(alloc, tables.len(), layout.group)?;
     let jobs = Vec::with_capacity(alloc, cores)?;
     let room = Returned::with_room(alloc, cores)?;
     let pieces = region.split(alloc, &cuts)?;
@@ -172,6 +175,7 @@ fn run_supplied<
         room,
         requests,
         gate,
+        &leads,
         &mut answers,
     );
     close_tables(tables, layout.group, back.tokens, token_rooms);
@@ -195,7 +199,7 @@ fn run_supplied<
 /// Whatever the end of a run, the pieces are joined again. After an `Err` region and outlet are as they were:
 /// `RegionFault` comes where the region could not be split, and `Memory` where there was none for what the run needs.
 pub fn run<
-    T: Threads + Wait + Sync,
+    T: Threads + Wait + Clock + Sync,
     R: SplitRegion + ReadRegion,
     O: Outlet,
     G: Gate + Sync,

@@ -17,6 +17,7 @@ use recover::Recovered;
 use std::alloc::Global;
 use std::sync::Wait;
 use std::thread::Threads;
+use std::time::Clock;
 
 /// What a run came to whose replies went to a sink.
 #[derive(Drop)]
@@ -42,7 +43,7 @@ fn unwritten_by(heard: bool, cause: Option<Unwritten>) -> Option<Unwritten>
 ///
 /// After an `Err` region and sink are as they were.
 pub fn run_to_sink<
-    T: Threads + Wait + Sync,
+    T: Threads + Wait + Clock + Sync,
     R: SplitRegion + ReadRegion,
     O: Sink,
     G: Gate + Sync,

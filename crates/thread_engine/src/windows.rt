@@ -13,6 +13,7 @@ ghost use Rattle.thread_engine.specs.Outlets.{IsAsked};
 
 use crate::core_job::CoreJob;
 use crate::desk::{Desk, work_at_desk};
+use crate::group_leads::AllLeads;
 use crate::outlet::Outlet;
 use crate::requests::Requests;
 use crate::run_answers::{RunAnswers, clear_window, keep_taken};
@@ -26,6 +27,7 @@ use pm_region::{Region, SplitRegion};
 use std::alloc::Global;
 use std::sync::Wait;
 use std::thread::Threads;
+use std::time::Clock;
 
 /// How the windows of a run came to an end.
 #[derive(Clone, Copy, Debug)]
@@ -95,7 +97,7 @@ fn wind_all_down<B: Board, P: Region>(jobs: &mut [CoreJob<B, P>])
 // Deals the requests of a window, which are those before number `to`, lets all cores work them off, and keeps the
 // answers in the window's places. Answers whether there was memory for all.
 fn work_window<
-    T: Threads + Wait + Sync,
+    T: Threads + Wait + Clock + Sync,
     B: Board + Send,
     P: Region + Send,
     G: Gate + Sync,
@@ -106,6 +108,7 @@ fn work_window<
     requests: &mut Q,
     jobs: &mut [CoreJob<B, P>],
     gate: &G,
+    leads: &AllLeads,
     window: &mut Vec<Option<Stamped>>,
     from: u64,
     to: u64,
@@ -129,7 +132,7 @@ fn work_window<
         return false;
     };
     let dealt = deal_window(alloc, requests, jobs, from, to).is_ok();
-    let taken = work_at_desk(rt, alloc, jobs, gate, !dealt, desk);
+    let taken = work_at_desk(rt, alloc, jobs, gate, !dealt, desk, leads);
     keep_taken(taken, from, window);
     dealt && !is_short(jobs)
 }
@@ -185,7 +188,7 @@ fn note_window(answers: &mut RunAnswers, count: usize)
 /// begun, and every worker winds down; the answers of that window are not handed over. Where the outlet did not take a
 /// window's answers, no window is begun behind it, and the notes end with it.
 pub fn work_windows<
-    T: Threads + Wait + Sync,
+    T: Threads + Wait + Clock + Sync,
     R: SplitRegion,
     O: Outlet,
     B: Board + Send,
@@ -200,6 +203,7 @@ pub fn work_windows<
     requests: &mut Q,
     jobs: &mut [CoreJob<B, P>],
     gate: &G,
+    leads: &AllLeads,
     answers: &mut RunAnswers,
 ) -> Course
     requires some { 0 < length jobs.old }
@@ -220,7 +224,7 @@ pub fn work_windows<
         let to = window_end(from, count);
         let size = (to - from) as usize;
         let window = &mut answers.window;
-        let all = work_window(rt, alloc, requests, jobs, gate, window, from, to);
+        let all = work_window(rt, alloc, requests, jobs, gate, leads, window, from, to);
         note_window(answers, size);
         if !all {
             answers.notes.note_none(count - to);

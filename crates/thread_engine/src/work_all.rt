@@ -5,6 +5,7 @@ ghost use Rattle.thread_engine.specs.WorkStates.{sight_by};
 ghost use Rattle.thread_engine.specs.WindowJobs.{IsReady, WorksWindow};
 
 use crate::core_job::CoreJob;
+use crate::group_leads::AllLeads;
 use answer_queue::AnswerQueue;
 use core_worker::Gate;
 use group_board::Board;
@@ -14,17 +15,24 @@ use std::sync::Wait;
 use std::sync::atomic::AtomicBool;
 use std::thread;
 use std::thread::Threads;
+use std::time::Clock;
 
 /// Does the work of all cores in a window, each in a thread of its own, and returns when all have ended and have handed
 /// their answers over. Where a thread can't be started, its core's work is done by another one, before or after its own.
 /// Where there was no memory already, `short` says so: then nothing is begun. It takes no memory.
-pub fn work_all<R: Threads + Wait + Sync, B: Board + Send, P: Region + Send, G: Gate + Sync>(
+pub fn work_all<
+    R: Threads + Wait + Clock + Sync,
+    B: Board + Send,
+    P: Region + Send,
+    G: Gate + Sync,
+>(
     rt: &R,
     alloc: Global,
     jobs: &mut [CoreJob<B, P>],
     gate: &G,
     short: bool,
     answers: &AnswerQueue,
+    leads: &AllLeads,
 )
     requires { (c : ℕ) (d : data_of.CoreJob B P) → c < length jobs.old
         → IsReady B.seat (sight_by B.view B.trail B.at) P.state answers.now
@@ -42,6 +50,6 @@ pub fn work_all<R: Threads + Wait + Sync, B: Board + Send, P: Region + Send, G: 
         rt,
         jobs,
         threads,
-        &|_, job| job.work_window(rt, alloc, gate, &short, answers),
+        &|core, job| job.work_window(rt, alloc, gate, &short, answers, leads, core),
     );
 }

@@ -8,6 +8,7 @@ ghost use Rattle.thread_engine.specs.Returns.{IsCrew, HasRoomOf, Gave, AreMade, 
 
 use crate::core_job::CoreJob;
 use crate::crew::{Crew, Returned};
+use crate::group_leads::AllLeads;
 use crate::outlet::Outlet;
 use crate::requests::Requests;
 use crate::run_answers::RunAnswers;
@@ -19,6 +20,7 @@ use std::alloc::Global;
 use std::collections::VecDeque;
 use std::sync::Wait;
 use std::thread::Threads;
+use std::time::Clock;
 
 // A job for each core, at its group's table, with no request.
 fn make_jobs<'a, P: Region + Drop>(
@@ -84,7 +86,7 @@ fn take_apart<P: Region + Drop>(
 /// windows came to an end.
 pub fn work_apart<
     'a,
-    T: Threads + Wait + Sync,
+    T: Threads + Wait + Clock + Sync,
     R: SplitRegion,
     O: Outlet,
     P: Region + Drop + Send,
@@ -103,6 +105,7 @@ pub fn work_apart<
     room: Returned<P>,
     requests: &mut Q,
     gate: &G,
+    leads: &AllLeads,
     answers: &mut RunAnswers,
 ) -> (Returned<P>, Course)
     requires crew { IsCrew tables.now.items group (length pieces.items) crew }
@@ -120,7 +123,7 @@ pub fn work_apart<
 {
     let mut jobs = make_jobs(alloc, tables, group, pieces, crew, jobs);
     let course = work_windows(
-        rt, alloc, region, outlet, requests, &mut jobs, gate, answers,
+        rt, alloc, region, outlet, requests, &mut jobs, gate, leads, answers,
     );
     (take_apart(jobs, room), course)
 }
