@@ -2,11 +2,10 @@
 use Rattle.std.proofs.Common.{◌≡◌, ◌≢◌, ◌⊎◌, inl, inr, ⊎_elim, ℕ, ◌+◌, ◌≤◌, ◌<◌, ◌==◌, Bool, true, false, ◌&&◌, ◌||◌, List, [], ◌∷◌, ◌++◌, Option, Some, None, refl, sym, ◌∙◌, ap, arith}
 use Rattle.std.proofs.lemmas.Bool.{eq-eqb, lt-ltb, le-ltb, cond-true, cond-false, cases_eq, cases_lt}
 use Rattle.log_entry.specs.declared.entry.Body.{Body}
-use Rattle.core_index.specs.declared.types.LastChange.{LastChange}
 use Rattle.core_index.specs.declared.types.Standee.{Standee}
 use Rattle.core_index.specs.declared.types.StandingEntry.{StandingEntry}
 use Rattle.core_index.specs.Records.{KeyRecord, standing_with, standing_at, is_tombstone, stands_alone, is_dead, Awaits, last_of}
-use Rattle.core_index.specs.Slots.{record_with, known_with, AreBelow, home_in, home_alive, alive_at, standee_with, OnlyDead}
+use Rattle.core_index.specs.Slots.{LastChange, record_with, known_with, AreBelow, home_in, home_alive, alive_at, standee_with, OnlyDead}
 use Rattle.core_index.proofs.StandingLaws.{found_has, none_above, at_more, at_added, alone_none}
 
 -- the last version is dead exactly where it is a delete that stands alone

@@ -1,18 +1,20 @@
 -- Which entries wait to be told, after each change.
-use Rattle.std.proofs.Common.{◌≡◌, ◌≢◌, ◌⊎◌, inl, ⊎_elim, ℕ, ◌+◌, ◌≤◌, ◌==◌, Bool, true, false, cond, List, [], ◌∷◌, ◌++◌, Option, Some, None, option_map, length, inr, refl, sym, ◌∙◌, ap, subst, arith}
-use Rattle.std.specs.Prelude.{Result, Ok, Err, OnOk, OnErr}
+use Rattle.std.proofs.Common.{◌≡◌, ◌≢◌, ◌⊎◌, inl, ⊎_elim, ℕ, zero, suc, ◌+◌, ◌≤◌, ◌==◌, Bool, true, false, cond, ◌&&◌, take, List, [], ◌∷◌, ◌++◌, Option, Some, None, option_map, length, inr, refl, sym, ◌∙◌, ap, subst, arith}
+use Rattle.std.specs.Prelude.{Result, Ok, Err, OnOk, OnErr, is_some}
 use Rattle.std.specs.List.{AllByRecursion}
 use Rattle.std.proofs.lemmas.Bool.{cases_eq, eqb-true, eq-eqb, ne_eqb, cond-true, cond-false}
 use Rattle.std.proofs.lemmas.List.{append_assoc}
 use Rattle.log_entry.specs.declared.entry.EntryName.{EntryName}
-use Rattle.core_index.specs.declared.types.LastChange.{LastChange}
+use Rattle.core_index.specs.declared.types.Marked.{Marked}
 use Rattle.core_index.specs.declared.types.Record.{Record}
 use Rattle.core_index.specs.declared.types.Standee.{Standee}
 use Rattle.core_index.specs.declared.types.StandingEntry.{StandingEntry}
 use Rattle.core_index.specs.declared.types.Tombstone.{Tombstone}
-use Rattle.core_index.specs.Records.{KeyRecord, Awaits, is_dead, standing_at, standing_with, opened}
-use Rattle.core_index.specs.Slots.{Place, mortal, standee_with, count_dead, count_of, alive_at, home_in, home_alive, record_with, OnlyDead}
-use Rattle.core_index.specs.Noted.{Book, Noted, NotedIfDead, count_lively, name_with}
+use Rattle.core_index.specs.declared.types.TheConstants.{NAMES_OF_CHANGE}
+use Rattle.core_index.specs.Marks.{kept}
+use Rattle.core_index.specs.Records.{KeyRecord, Awaits, is_tombstone, is_dead, dies_of, standing_at, standing_of, standing_with, live_version, opened}
+use Rattle.core_index.specs.Slots.{Place, mortal, standee_with, count_dead, count_of, lone_deaths, alive_at, home_in, home_alive, OnlyDead}
+use Rattle.core_index.specs.Noted.{Book, Noted, NotedIfDead, count_dead_in, deaths_of, name_with}
 use Rattle.core_index.specs.declared.start_keys.StartKeys.{StartKeys}
 use Rattle.core_index.specs.declared.types.LiveKey.{LiveKey}
 use Rattle.core_index.specs.Lives.{entry_version, entry_home, live_key, live_place, bytes_in, placed_lives}
@@ -26,7 +28,7 @@ use Rattle.core_index.proofs.StartLaws.{value_waits}
 use Rattle.core_index.proofs.PlaceLaws.{place_there, place_else, place_kept, known_there, room_both}
 use Rattle.core_index.proofs.StandingLaws.{found_has}
 use Rattle.core_index.proofs.DeadLaws.{alive_is, alive_none}
-use Rattle.core_index.proofs.SlotLaws.{awaits_needs}
+use Rattle.core_index.proofs.SlotLaws.{awaits_needs, none_waits}
 
 -- a name that a home is still to be told
 abbrev pub Waiting : Book → StartKeys → ℕ → EntryName → Type 0
@@ -63,9 +65,9 @@ pub index_same : (es fs : List (ℕ × Place)) (a d : StartKeys) (b c : Book) (k
     → KeepsNames b c → KeepsAhead a d → all_mortal fs ≤ c.spare → IsIndex fs d c
 index_same es fs a d b c k is others only kept ahead le = index_step es fs a d b c k None is others (λ v h waits. inl (only v h waits)) (no_death k c) kept ahead le
 
-pub settled_index : (es fs : List (ℕ × Place)) (a : StartKeys) (b c : Book) (k : ℕ) (p now : Place) (dead : Option Standee) → IsIndex es a b → place_at es k ≡ Some p → Step es fs k (Some now) → OnlyDead (known_at es k) (known_at fs k) dead → mortal_in (place_at fs k) + count_dead dead ≤ mortal_in (place_at es k)
-    → ((v h : ℕ) → dead ≡ Some (standee_with v h) → Noted c h (name_with k v)) → KeepsNames b c → c.spare + count_dead dead ≡ b.spare → IsIndex fs a c
-settled_index es fs a b c k p now dead is at step only mortal added kept spare =
+pub settled_index : (es fs : List (ℕ × Place)) (a : StartKeys) (b c : Book) (k : ℕ) (p now : Place) (dead : Option Standee) (spared : ℕ) → IsIndex es a b → place_at es k ≡ Some p → Step es fs k (Some now) → OnlyDead (known_at es k) (known_at fs k) dead → mortal_in (place_at fs k) + count_dead dead + spared ≡ mortal_in (place_at es k)
+    → ((v h : ℕ) → dead ≡ Some (standee_with v h) → Noted c h (name_with k v)) → KeepsNames b c → c.spare + spared + count_dead dead ≡ b.spare → IsIndex fs a c
+settled_index es fs a b c k p now dead spared is at step only mortal added kept spare =
     let sum = step.count in
     let same : mortal_in (place_at fs k) ≡ mortal_in (Some now) = ap mortal_in step.here in
     let room = is.spare in
@@ -100,7 +102,7 @@ admits_others es fs a d k is j ne = ap room_in (place_kept es fs a d j (is.other
 pub same_places : (es fs : List (ℕ × Place)) (a d : StartKeys) → fs ≡ es → d ≡ a → all_places fs d ≡ all_places es a
 same_places es fs a d e f = λ i. all_places (e i) (f i)
 
-pub admitted_index : {T E : Type 0} (r : Result T E) (es fs : List (ℕ × Place)) (a d : StartKeys) (b c : Book) (k : ℕ) → IsIndex es a b → OnOk r (Admits es fs a d k) → OnErr r (fs ≡ es) → OnErr r (d ≡ a) → KeepsNames b c → c.spare ≡ b.spare + (1 + count_of (alive_at (known_at (started a) k))) → IsIndex fs d c
+pub admitted_index : {T E : Type 0} (r : Result T E) (es fs : List (ℕ × Place)) (a d : StartKeys) (b c : Book) (k : ℕ) → IsIndex es a b → OnOk r (Admits es fs a d k) → OnErr r (fs ≡ es) → OnErr r (d ≡ a) → KeepsNames b c → c.spare ≡ b.spare + NAMES_OF_CHANGE → IsIndex fs d c
 admitted_index (Err e) es fs a d b c k is ok err left same spare = subst (λ (xs : List (ℕ × Place)). IsIndex xs d c) (sym err) (subst (λ (x : StartKeys). IsIndex es x c) (sym left) (roomier es a b c is same (omega (arith, spare))))
 admitted_index (Ok x) es fs a d b c k is admits err left same spare =
     let known = admits_known es fs a d k admits in
@@ -195,38 +197,63 @@ none_awaits es a b home is none far n waits = ⊎_elim (λ (noted : Noted b home
 
 -- A record that is put in at the start.
 
-pub all_noted : (k : ℕ) (b : Book) (h : LastChange) (ss : List StandingEntry) → AllByRecursion (NotedIfDead b k (record_with h ss)) ss → (v home : ℕ) → Awaits (Some (record_with h ss)) home v → Noted b home (name_with k v)
-all_noted k b h ss all v home waits =
-    let needs = awaits_needs (record_with h ss) v home waits in
-    found_has (NotedIfDead b k (record_with h ss)) ss v (standing_with v home false) all needs.stands needs.dead
+pub all_noted : (k : ℕ) (b : Book) (o : Option KeyRecord) → AllByRecursion (NotedIfDead b k o) (standing_of o) → (v home : ℕ) → Awaits o home v → Noted b home (name_with k v)
+all_noted k b None all v home waits = absurd (none_waits home v waits)
+all_noted k b (Some r) all v home waits =
+    let needs = awaits_needs r v home waits in
+    found_has (NotedIfDead b k (Some r)) r.standing v (standing_with v home false) all needs.stands needs.dead
 
-pub noted_append : (k : ℕ) (b c : Book) (r : KeyRecord) (xs ys : List StandingEntry) → ((h : ℕ) (n : EntryName) → Noted b h n → Noted c h n) → AllByRecursion (NotedIfDead b k r) xs → AllByRecursion (NotedIfDead c k r) ys → AllByRecursion (NotedIfDead c k r) (xs ++ ys)
-noted_append k b c r [] ys kept all new = new
-noted_append k b c r (x ∷ xs) ys kept all new = (λ dies. kept x.home (name_with k x.version) (all.0 dies), noted_append k b c r xs ys kept all.1 new)
+pub noted_append : (k : ℕ) (b c : Book) (o : Option KeyRecord) (xs ys : List StandingEntry) → ((h : ℕ) (n : EntryName) → Noted b h n → Noted c h n) → AllByRecursion (NotedIfDead b k o) xs → AllByRecursion (NotedIfDead c k o) ys → AllByRecursion (NotedIfDead c k o) (xs ++ ys)
+noted_append k b c o [] ys kept all new = new
+noted_append k b c o (x ∷ xs) ys kept all new = (λ dies. kept x.home (name_with k x.version) (all.0 dies), noted_append k b c o xs ys kept all.1 new)
 
-pub lively_append : (r : KeyRecord) (xs ys : List StandingEntry) → count_lively r (xs ++ ys) ≡ count_lively r xs + count_lively r ys
-lively_append r [] ys = omega arith
-lively_append r (x ∷ xs) ys = let rest = lively_append r xs ys in omega (arith, rest)
+pub dead_append : (o : Option KeyRecord) (xs ys : List StandingEntry) → count_dead_in o (xs ++ ys) ≡ count_dead_in o xs + count_dead_in o ys
+dead_append o [] ys = omega arith
+dead_append o (x ∷ xs) ys = let rest = dead_append o xs ys in omega (arith, rest)
 
-found_lively : (r : KeyRecord) (ss : List StandingEntry) (v : ℕ) (s : StandingEntry) → standing_at ss v ≡ Some s → is_dead r v ≡ false → 1 ≤ count_lively r ss
-found_lively r [] v s is lives = absurd (cc is)
-found_lively r (x ∷ ss) v s is lives = by (found_lively r ss v s) (x.version == v) refl is
+pub dead_part : (o : Option KeyRecord) (ms : List Marked) (i : ℕ) → count_dead_in o (kept (take i ms)) ≤ count_dead_in o (kept ms)
+dead_part o ms zero = omega arith
+dead_part o [] (suc i) = omega arith
+dead_part o (m ∷ ms) (suc i) = let rest = dead_part o ms i in elim m.gone as (λ b. count_dead_in o (cond b (kept (take i ms)) (m.entry ∷ kept (take i ms))) ≤ count_dead_in o (cond b (kept ms) (m.entry ∷ kept ms))) [ true ↦ rest | false ↦ omega (arith, rest) ]
+
+dead_all : (o : Option KeyRecord) (ss : List StandingEntry) → count_dead_in o ss ≤ length ss
+dead_all o [] = omega arith
+dead_all o (x ∷ ss) = let rest = dead_all o ss in elim (dies_of o x.version) as (λ b. cond b 1 0 + count_dead_in o ss ≤ suc (length ss)) [ true ↦ omega (arith, rest) | false ↦ omega (arith, rest) ]
+
+found_lives : (r : KeyRecord) (ss : List StandingEntry) (v : ℕ) (s : StandingEntry) → standing_at ss v ≡ Some s → is_dead r v ≡ false → count_dead_in (Some r) ss + 1 ≤ length ss
+found_lives r [] v s is lives = absurd (cc is)
+found_lives r (x ∷ ss) v s is lives = by (found_lives r ss v s) (x.version == v) refl is
   where
-    by : (standing_at ss v ≡ Some s → is_dead r v ≡ false → 1 ≤ count_lively r ss) → (b : Bool) → (x.version == v) ≡ b → cond b (Some x) (standing_at ss v) ≡ Some s → 1 ≤ count_lively r (x ∷ ss)
-    by rest true same at = let e = eqb-true x.version v same in let one = cond-false {A = ℕ} (is_dead r x.version) 0 1 (ap (is_dead r) e ∙ lives) in omega (arith, one)
-    by rest false other at = let le = rest at lives in omega (arith, le)
+    by : (standing_at ss v ≡ Some s → is_dead r v ≡ false → count_dead_in (Some r) ss + 1 ≤ length ss) → (b : Bool) → (x.version == v) ≡ b → cond b (Some x) (standing_at ss v) ≡ Some s → count_dead_in (Some r) (x ∷ ss) + 1 ≤ length (x ∷ ss)
+    by rest true same at = let e = eqb-true x.version v same in let none = cond-false {A = ℕ} (is_dead r x.version) 1 0 (ap (is_dead r) e ∙ lives) in let le = dead_all (Some r) ss in omega (arith, none, le)
+    by rest false other at = let le = rest at lives in elim (is_dead r x.version) as (λ b. cond b 1 0 + count_dead_in (Some r) ss + 1 ≤ suc (length ss)) [ true ↦ omega (arith, le) | false ↦ omega (arith, le) ]
 
 -- the one that is alive is not dead
-pub alive_lively : (r : KeyRecord) → count_of (home_alive r) ≤ count_lively r r.standing
-alive_lively r = by (is_dead r r.version) refl (standing_at r.standing r.version) refl
+alive_not_dead : (r : KeyRecord) → count_dead_in (Some r) r.standing + count_of (home_alive r) ≤ length r.standing
+alive_not_dead r = by (is_dead r r.version) refl (standing_at r.standing r.version) refl
   where
-    by : (b : Bool) → is_dead r r.version ≡ b → (o : Option StandingEntry) → standing_at r.standing r.version ≡ o → count_of (home_alive r) ≤ count_lively r r.standing
-    by true dies o at = let none = ap count_of (alive_none r dies) in omega (arith, none)
-    by false lives None at = let none : count_of (home_alive r) ≡ 0 = ap count_of (cond-false (is_dead r r.version) None (home_in (standing_at r.standing r.version)) lives ∙ ap home_in at) in omega (arith, none)
-    by false lives (Some s) at = let one : count_of (home_alive r) ≡ 1 = ap count_of (alive_is r s lives at) in let le = found_lively r r.standing r.version s at lives in omega (arith, one, le)
+    by : (b : Bool) → is_dead r r.version ≡ b → (o : Option StandingEntry) → standing_at r.standing r.version ≡ o → count_dead_in (Some r) r.standing + count_of (home_alive r) ≤ length r.standing
+    by true dies o at = let none = ap count_of (alive_none r dies) in let le = dead_all (Some r) r.standing in omega (arith, none, le)
+    by false lives None at = let none : count_of (home_alive r) ≡ 0 = ap count_of (cond-false (is_dead r r.version) None (home_in (standing_at r.standing r.version)) lives ∙ ap home_in at) in let le = dead_all (Some r) r.standing in omega (arith, none, le)
+    by false lives (Some s) at = let one : count_of (home_alive r) ≡ 1 = ap count_of (alive_is r s lives at) in let le = found_lives r r.standing r.version s at lives in omega (arith, one, le)
+
+-- For how many entries a name is noted or may have to be: all that stand, but for the entry of a value that is alive.
+
+abbrev pub is_spared : Option KeyRecord → Bool
+is_spared o = is_some (alive_at o) && is_some (live_version o)
+
+pub names_known : (o : Option KeyRecord) → deaths_of o + lone_deaths o + cond (is_spared o) 1 0 ≤ length (standing_of o)
+names_known None = omega arith
+names_known (Some r) = let le = alive_not_dead r in by (is_tombstone r.body) (home_alive r) le
+  where
+    by : (b : Bool) (o : Option ℕ) → count_dead_in (Some r) r.standing + count_of o ≤ length r.standing → count_dead_in (Some r) r.standing + cond b (count_of o) 0 + cond (is_some o && is_some (cond b None (Some r.version))) 1 0 ≤ length r.standing
+    by true None le = omega (arith, le)
+    by true (Some h) le = omega (arith, le)
+    by false None le = omega (arith, le)
+    by false (Some h) le = omega (arith, le)
 
 -- a record that is put into the map
-pub entered_index : (es fs : List (ℕ × Place)) (a d : StartKeys) (b c : Book) (k : ℕ) (p : Place) → IsIndex es a b → Step es fs k (Some p) → StartTurns a d k None → p.room ≡ 0 → ((v h : ℕ) → Awaits p.known h v → Noted c h (name_with k v)) → KeepsNames b c → b.spare + count_of (alive_at p.known) ≤ c.spare → IsIndex fs d c
+pub entered_index : (es fs : List (ℕ × Place)) (a d : StartKeys) (b c : Book) (k : ℕ) (p : Place) → IsIndex es a b → Step es fs k (Some p) → StartTurns a d k None → p.room ≡ 0 → ((v h : ℕ) → Awaits p.known h v → Noted c h (name_with k v)) → KeepsNames b c → b.spare + lone_deaths p.known ≤ c.spare → IsIndex fs d c
 entered_index es fs a d b c k p is step turns none noted kept le =
     let known : known_at (all_places fs d) k ≡ p.known = ap known_in (place_there fs d k p step.here) in
     let sum = step.count in

@@ -4,6 +4,7 @@ pub mod DeadLaws
 pub mod SlotLaws
 pub mod NoticeLaws
 pub mod StepLaws
+pub mod SlabLaws
 pub mod OverLaws
 pub mod TombLaws
 pub mod LiveLaws

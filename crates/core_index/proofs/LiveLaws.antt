@@ -18,8 +18,8 @@ use Rattle.core_index.specs.declared.types.LiveFate.TheVariants.{Stands, Gone, M
 use Rattle.core_index.specs.declared.types.LiveKey.{LiveKey}
 use Rattle.core_index.specs.declared.types.Look.{Look}
 use Rattle.core_index.specs.declared.types.StandingEntry.{StandingEntry}
-use Rattle.core_index.specs.Records.{KeyRecord, Shows, ShowsBody, is_dead, is_tombstone, stands_alone, standing_at, standing_with, without}
-use Rattle.core_index.specs.Slots.{Place, alive_at, home_in, count_of}
+use Rattle.core_index.specs.Records.{KeyRecord, Shows, ShowsBody, is_dead, is_tombstone, stands_alone, standing_with, without}
+use Rattle.core_index.specs.Slots.{Place}
 use Rattle.core_index.specs.Lives.{entry_version, entry_home, AreLives, live_key, body_in, IsWithin, valued, valued_by, IsStanding, live_place, live_at, places_of, with_live_fate, turned, AllLess, KeysRise, IsNotThere}
 use Rattle.core_index.specs.Index.{place_at, known_in, room_in, known_at, room_at, untold_in, untold_of, all_untold, gone_place, cleared, TurnsAt}
 use Rattle.core_index.proofs.StepLaws.{apart}
@@ -277,14 +277,6 @@ no_tombstone bytes (Beside start size) = refl
 -- the one entry of a live key is not dead
 pub not_dead : (bytes : List ℕ) (h : ValuePlace) (v : ℕ) (ss : List StandingEntry) → is_dead (record { version = v; body = body_in bytes h; standing = ss }) v ≡ false
 not_dead bytes h v ss = ap (λ (b : Bool). b || ((v == v) && (is_tombstone (body_in bytes h) && stands_alone ss v))) (le-ltb v v (omega arith)) ∙ ap (λ (b : Bool). (v == v) && (b && stands_alone ss v)) (no_tombstone bytes h) ∙ ap (λ (b : Bool). b && false) (eq-eqb v v refl)
-
-pub one_alive : (bytes : List ℕ) (h : ValuePlace) (f : LiveFate) (v home : ℕ) → f ≡ Stands → count_of (alive_at (valued_by f v home (body_in bytes h))) ≡ 1
-one_alive bytes h f v home is = ap (λ (g : LiveFate). count_of (alive_at (valued_by g v home (body_in bytes h)))) is ∙ ap (λ (b : Bool). count_of (cond b None (home_in (standing_at (standing_with v home false ∷ []) v)))) (not_dead bytes h v (standing_with v home false ∷ [])) ∙ ap (λ (b : Bool). count_of (home_in (cond b (Some (standing_with v home false)) None))) (eq-eqb v v refl)
-
-pub none_alive : (bytes : List ℕ) (h : ValuePlace) (f : LiveFate) (v home : ℕ) → (f ≡ Stands → ⊥) → count_of (alive_at (valued_by f v home (body_in bytes h))) ≡ 0
-none_alive bytes h Stands v home ne = absurd (ne refl)
-none_alive bytes h Gone v home ne = ap (λ (b : Bool). count_of (cond b None None)) (not_dead bytes h v [])
-none_alive bytes h Moved v home ne = refl
 
 pub shows_valued : (f : LiveFate) (v home : ℕ) (b : Body) (l : Look) → (f ≡ Moved → ⊥) → ShowsBody b l → Shows (valued_by f v home b) l
 shows_valued Stands v home b l ne shows = shows

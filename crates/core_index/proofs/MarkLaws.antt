@@ -1,5 +1,5 @@
 -- Entries by rising version, some of which are gone.
-use Rattle.std.proofs.Common.{◌≡◌, ◌≢◌, ⊎_elim, ℕ, zero, suc, ◌+◌, ◌-◌, ◌<◌, ◌≤◌, ◌==◌, nat_lt, Bool, true, false, cond, ◌&&◌, ◌||◌, not, List, [], ◌∷◌, ◌++◌, length, get_or, take, map, Option, Some, None, refl, sym, ◌∙◌, ap, subst, arith, slice_set}
+use Rattle.std.proofs.Common.{◌≡◌, ◌≢◌, ⊎_elim, ℕ, zero, suc, ◌+◌, ◌-◌, ◌<◌, ◌≤◌, ◌==◌, nat_lt, Bool, true, false, cond, ◌&&◌, ◌||◌, not, List, [], ◌∷◌, ◌++◌, length, get_or, take, drop, drop-cons, add-one, map, Option, Some, None, refl, sym, ◌∙◌, ap, subst, arith, slice_set}
 use Rattle.std.specs.Prelude.{is_some}
 use Rattle.std.specs.List.{AllByRecursion, filter}
 use Rattle.std.specs.List.Sorted.{IsNonDecreasingBy, IsStrictlySortedBy}
@@ -10,12 +10,13 @@ use Rattle.std.specs.declared.cmp.Ordering.{Ordering}
 use Rattle.std.specs.declared.cmp.Ordering.TheVariants.{Less, Equal, Greater}
 use Rattle.std.proofs.lemmas.Bool.{eqb-true, eqb-false, eq-eqb, ne_eqb, le-ltb, cond-true, cond-false, cases_eq, cases_lt}
 use Rattle.std.proofs.lemmas.Map.Keys.{sorted_head, sorted_tail}
-use Rattle.std.proofs.lemmas.List.{take_more, append_assoc, length-append}
+use Rattle.std.proofs.lemmas.List.{take_more, length-append}
 use Rattle.core_index.specs.declared.types.Marked.{Marked}
 use Rattle.core_index.specs.declared.types.Standee.{Standee}
 use Rattle.core_index.specs.declared.types.StandingEntry.{StandingEntry}
-use Rattle.core_index.specs.Records.{standing_with, standing_at, stands_alone, with_told, others, homes_of, untold_at, by_version, untold}
-use Rattle.core_index.specs.Marks.{kept, marked, mark_of, Rises, IsAbsent, AreMarks, Gathering}
+use Rattle.core_index.specs.Records.{list_of, standing_with, standing_at, stands_alone, with_told, others, homes_of, untold_at, by_version, untold}
+use Rattle.core_index.specs.Marks.{kept, marked, mark_of, Rises, IsAbsent, AreMarks}
+use Rattle.core_index.specs.Pairs.{top_by}
 
 -- an element behind another is greater
 above_at : (w : ℕ) (ms : List Marked) (j : ℕ) (d : Marked) → AllByRecursion (λ (x : Marked). w < x.entry.version) ms → j < length ms → w < (get_or ms j d).entry.version
@@ -328,15 +329,9 @@ pub opened_at : (ss : List Standee) (v : ℕ) → standing_at (by_version ss) v 
 opened_at [] v = refl
 opened_at (s ∷ ss) v = at_insert (homes_of ss) s.version s.home v ∙ ap (λ (o : Option StandingEntry). cond (s.version == v) (Some (untold s)) o) (opened_at ss v)
 
-pub gathered_more : (all left less : List Standee) (es fs : List (ℕ × ℕ)) (s : Standee) → Gathering all left es → left ≡ less ++ s ∷ [] → fs ≡ insert_entry nat_cmp es s.version s.home → Gathering all less fs
-gathered_more all left less es fs s is pop more = record {
-  done = s ∷ is.done;
-  split = is.split ∙ ap (λ (xs : List Standee). xs ++ is.done) pop ∙ append_assoc less (s ∷ []) is.done;
-  homes = more ∙ ap (λ (xs : List (ℕ × ℕ)). insert_entry nat_cmp xs s.version s.home) is.homes;
-}
-
-pub gathered_all : (all left : List Standee) (es : List (ℕ × ℕ)) → Gathering all left es → left ≡ [] → es ≡ homes_of all
-gathered_all all left es is none = is.homes ∙ ap homes_of (sym (is.split ∙ ap (λ (xs : List Standee). xs ++ is.done) none))
+-- one more from behind
+pub homes_more : (ss : List Standee) (i : ℕ) (d : Standee) → i < length ss → homes_of (drop i ss) ≡ insert_entry nat_cmp (homes_of (drop (i + 1) ss)) (get_or ss i d).version (get_or ss i d).home
+homes_more ss i d lt = ap homes_of (drop-cons ss i d lt) ∙ ap (λ (n : ℕ). insert_entry nat_cmp (homes_of (drop n ss)) (get_or ss i d).version (get_or ss i d).home) (sym (add-one i))
 
 pub below_entries : (n : ℕ) (ss : List Standee) → AllByRecursion (λ (s : Standee). s.version ≤ n) ss → AllByRecursion (λ (s : StandingEntry). s.version ≤ n) (by_version ss)
 below_entries n ss all = each (homes_of ss) (below_homes n ss all) where
@@ -355,11 +350,6 @@ kept_append (x ∷ xs) ys = elim x.gone as (λ b. cond b (kept (xs ++ ys)) (x.en
 
 pub kept_more : (ms : List Marked) (i : ℕ) (d : Marked) → i < length ms → kept (take (i + 1) ms) ≡ kept (take i ms) ++ kept (get_or ms i d ∷ [])
 kept_more ms i d lt = ap kept (take_more ms i d lt) ∙ kept_append (take i ms) (get_or ms i d ∷ [])
-
-pub kept_part : (ms : List Marked) (i : ℕ) → length (kept (take i ms)) ≤ length (kept ms)
-kept_part ms zero = omega arith
-kept_part [] (suc i) = omega arith
-kept_part (m ∷ ms) (suc i) = let rest = kept_part ms i in elim m.gone as (λ b. length (cond b (kept (take i ms)) (m.entry ∷ kept (take i ms))) ≤ length (cond b (kept ms) (m.entry ∷ kept ms))) [ true ↦ rest | false ↦ omega (arith, rest) ]
 
 pub kept_short : (ms : List Marked) → length (kept ms) ≤ length ms
 kept_short [] = omega arith
@@ -405,3 +395,11 @@ made_marks ms es ss left top is homes sorted below count = subst (λ (xs : List 
 
 pub alone_from : (ms : List Marked) (left top v : ℕ) (b : Bool) → AreMarks ms left top → b ≡ ((left == 0) || ((left == 1) && is_some (standing_at (kept ms) v))) → b ≡ stands_alone (kept ms) v
 alone_from ms left top v b are is = is ∙ ap (λ (n : ℕ). (n == 0) || ((n == 1) && is_some (standing_at (kept ms) v))) are.count ∙ alone_kept ms v are.rises
+
+-- The entries of a pair.
+
+pub pair_below : (a b : Option StandingEntry) (n : ℕ) → AllByRecursion (λ (s : StandingEntry). s.version ≤ n) (list_of a ++ list_of b) → top_by a b ≤ n
+pair_below None None n all = omega arith
+pair_below (Some s) None n all = all.0
+pair_below None (Some t) n all = all.0
+pair_below (Some s) (Some t) n all = all.1.0

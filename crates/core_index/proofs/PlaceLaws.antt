@@ -1,17 +1,18 @@
 -- The map of keys beside the keys of the start.
-use Rattle.std.proofs.Common.{◌≡◌, ◌≢◌, inl, inr, ⊎_elim, ℕ, ◌+◌, ◌-◌, ◌<◌, ◌≤◌, true, List, Option, Some, None, option_map, refl, sym, ◌∙◌, ap, subst, arith}
+use Rattle.std.proofs.Common.{◌≡◌, ◌≢◌, inl, inr, ⊎_elim, ℕ, ◌+◌, ◌-◌, ◌*◌, ◌<◌, ◌≤◌, true, List, Option, Some, None, option_map, refl, sym, ◌∙◌, ap, subst, arith}
 use Rattle.std.specs.Prelude.{is_some, IfSome, IsTrue}
 use Rattle.std.proofs.lemmas.Bool.{cases_eq}
 use Rattle.log_entry.specs.declared.entry.EntryName.{EntryName}
 use Rattle.core_index.specs.declared.types.Standee.{Standee}
 use Rattle.core_index.specs.declared.types.Tombstone.{Tombstone}
+use Rattle.core_index.specs.declared.types.TheConstants.{NAMES_OF_CHANGE}
 use Rattle.core_index.specs.Records.{KeyRecord, Awaits, settled, told_in, without, is_forgettable}
-use Rattle.core_index.specs.Slots.{Place, mortal, OnlyDead, count_of, alive_at, standee_with}
+use Rattle.core_index.specs.Slots.{Place, mortal, lone_deaths, OnlyDead, standee_with}
 use Rattle.core_index.specs.declared.start_keys.StartKeys.{StartKeys}
 use Rattle.core_index.specs.Starts.{started}
 use Rattle.core_index.specs.Index.{IsCompact, place_at, known_in, room_in, known_at, room_at, mortal_in, untold_of, untold_by, all_untold, over, all_places, gone_place, Step, Changes, SameRoom, ToldAt, StartTurns, Forgets, GivesBack, Admits}
 use Rattle.core_index.proofs.OverLaws.{place_both, untold_both, some_of}
-use Rattle.core_index.proofs.StartLaws.{start_no_room, live_found}
+use Rattle.core_index.proofs.StartLaws.{start_no_room, start_calm, live_found}
 use Rattle.core_index.proofs.LiveLaws.{less_absent}
 use Rattle.core_index.proofs.StandingLaws.{count_added, fewer_others}
 use Rattle.log_entry.specs.declared.entry.Body.{Body}
@@ -174,8 +175,8 @@ forgotten_room es fs a b same = λ j. room_both fs b j ∙ same j ∙ sym (room_
 
 -- Room for one more change.
 
-pub grown : (o : Option Place) → mortal_in (Some (record { known = known_in o; room = room_in o + 1 })) ≡ mortal_in o + 1
-grown None = refl
+pub grown : (o : Option Place) → mortal_in (Some (record { known = known_in o; room = room_in o + 1 })) ≡ mortal_in o + NAMES_OF_CHANGE
+grown None = omega arith
 grown (Some p) = omega arith
 
 pub admits_there : (es fs : List (ℕ × Place)) (a : StartKeys) (k : ℕ) → known_at (all_places es a) k ≡ known_at es k → Step es fs k (Some (record { known = known_at es k; room = room_at es k + 1 })) → Admits es fs a a k
@@ -205,8 +206,9 @@ admits_moved es fs a b k p none is step turns fewer =
       count =
           let sum = step.count in
           let old : mortal_in (place_at es k) ≡ 0 = ap mortal_in none in
-          let new : mortal_in (Some p) ≡ 1 + count_of (alive_at (known_at (started a) k)) = ap mortal is in
-          omega (arith, sum, old, new);
+          let new : mortal_in (Some p) ≡ NAMES_OF_CHANGE * 1 + lone_deaths (known_at (started a) k) = ap mortal is in
+          let none_dies = start_calm a k in
+          omega (arith, sum, old, new, none_dies);
       untold =
           let sum = step.untold in
           let old : untold_of (place_at es k) ≡ 0 = ap untold_of none in

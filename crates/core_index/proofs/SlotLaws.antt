@@ -1,14 +1,13 @@
 -- What a key's calls make of its record.
 use Rattle.std.proofs.Common.{◌≡◌, ◌≢◌, inl, inr, ⊎_elim, ℕ, ◌+◌, ◌≤◌, ◌==◌, nat_lt, Bool, true, false, cond, ◌&&◌, ◌||◌, List, [], ◌∷◌, ◌++◌, Option, Some, None, refl, sym, ◌∙◌, ap, subst, arith}
-use Rattle.std.specs.List.{AllByRecursion}
-use Rattle.std.proofs.lemmas.Bool.{ne_eqb, cond-false}
+use Rattle.std.proofs.lemmas.Bool.{ne_eqb, cond-true, cond-false, cases_eq, eq-eqb}
 use Rattle.log_entry.specs.declared.entry.Body.{Body}
-use Rattle.core_index.specs.declared.types.LastChange.{LastChange}
+use Rattle.core_index.specs.declared.types.Standee.{Standee}
 use Rattle.core_index.specs.declared.types.StandingEntry.{StandingEntry}
-use Rattle.core_index.specs.Records.{KeyRecord, standing_with, standing_at, is_tombstone, stands_alone, is_dead, Awaits, last_of, with_told, told_in, others}
-use Rattle.core_index.specs.Slots.{record_with, known_with, AreBelow, home_in, home_alive, alive_at, count_of, standee_with, count_dead, dead_by, died, OnlyDead, TellsOne, IsSlot}
-use Rattle.core_index.specs.Marks.{Marks, Keeps}
-use Rattle.core_index.proofs.StandingLaws.{found_version, at_told, at_told_other, alone_told, below_told, none_above, at_added, below_more, at_without, at_without_other, alone_without, below_without}
+use Rattle.core_index.specs.Records.{KeyRecord, standing_with, standing_at, is_tombstone, stands_alone, is_dead, Awaits, last_of, with_told, told_in, others, dies_of, standing_of}
+use Rattle.core_index.specs.Slots.{LastChange, record_with, known_with, AreBelow, home_in, home_alive, alive_at, count_of, lone_deaths, standee_with, count_dead, dead_by, died, OnlyDead, TellsOne, IsSlot}
+use Rattle.core_index.specs.Marks.{Marks}
+use Rattle.core_index.proofs.StandingLaws.{found_version, at_told, at_told_other, alone_told, below_told, at_without, at_without_other, alone_without, below_without}
 use Rattle.core_index.proofs.DeadLaws.{dead_last, dead_alone, alive_is, alive_none, awaits_or_alive, settled_dead}
 
 same_standing : (s : StandingEntry) (v home : ℕ) → s.version ≡ v → s.home ≡ home → s.told ≡ false → s ≡ standing_with v home false
@@ -111,7 +110,7 @@ alive_without h ss v home is = by (is_dead (record_with h (others v ss)) h.versi
                 front true b is = refl
                 front false b is = absurd (cc is)
 
-pub gone_mortal : (h : LastChange) (ss : List StandingEntry) (v : ℕ) → count_of (home_alive (record_with h (others v ss))) + count_dead (died v h.version (home_alive (record_with h ss)) (home_alive (record_with h (others v ss)))) ≤ count_of (home_alive (record_with h ss))
+gone_mortal : (h : LastChange) (ss : List StandingEntry) (v : ℕ) → count_of (home_alive (record_with h (others v ss))) + count_dead (died v h.version (home_alive (record_with h ss)) (home_alive (record_with h (others v ss)))) ≤ count_of (home_alive (record_with h ss))
 gone_mortal h ss v = by (home_alive (record_with h (others v ss))) refl (home_alive (record_with h ss)) refl
   where
     by : (new : Option ℕ) → home_alive (record_with h (others v ss)) ≡ new → (old : Option ℕ) → home_alive (record_with h ss) ≡ old → count_of new + count_dead (died v h.version old new) ≤ count_of old
@@ -120,43 +119,101 @@ gone_mortal h ss v = by (home_alive (record_with h (others v ss))) refl (home_al
     by (Some home) now None was = let e = alive_without h ss v home now in absurd (cc (e, was))
     by (Some home) now (Some g) was = omega arith
 
+-- The entry of a value does not die by another one that is gone.
+
+value_alive : (r : KeyRecord) → is_tombstone r.body ≡ false → home_alive r ≡ home_in (standing_at r.standing r.version)
+value_alive r value = cond-false (is_dead r r.version) None (home_in (standing_at r.standing r.version)) (dead_last r ∙ ap (λ (b : Bool). b && stands_alone r.standing r.version) value)
+
+own_gone : (v last : ℕ) (old new : Option ℕ) → (v == last) ≡ true → count_dead (died v last old new) ≡ 0
+own_gone v last None new same = refl
+own_gone v last (Some h) None same = ap count_dead (cond-true (v == last) None (Some (standee_with last h)) same)
+own_gone v last (Some h) (Some g) same = refl
+
+still_there : (v last : ℕ) (old new : Option ℕ) → new ≡ old → count_dead (died v last old new) ≡ 0
+still_there v last old new same = ap (λ (o : Option ℕ). count_dead (died v last old o)) same ∙ by old
+  where
+    by : (o : Option ℕ) → count_dead (died v last o o) ≡ 0
+    by None = refl
+    by (Some h) = refl
+
+value_stays : (h : LastChange) (ss : List StandingEntry) (v : ℕ) → is_tombstone h.body ≡ false → count_dead (died v h.version (home_alive (record_with h ss)) (home_alive (record_with h (others v ss)))) ≡ 0
+value_stays h ss v value = ⊎_elim
+    (λ (same : v ≡ h.version). own_gone v h.version (home_alive (record_with h ss)) (home_alive (record_with h (others v ss))) (eq-eqb v h.version same))
+    (λ (ne : v ≢ h.version). still_there v h.version (home_alive (record_with h ss)) (home_alive (record_with h (others v ss))) (value_alive (record_with h (others v ss)) value ∙ ap home_in (at_without_other ss v h.version (λ e. ne (sym e))) ∙ sym (value_alive (record_with h ss) value)))
+    (cases_eq v h.version)
+
+pub gone_lone : (h : LastChange) (ss : List StandingEntry) (v : ℕ) → lone_deaths (Some (record_with h (others v ss))) + count_dead (died v h.version (home_alive (record_with h ss)) (home_alive (record_with h (others v ss)))) ≤ lone_deaths (Some (record_with h ss))
+gone_lone h ss v = by (is_tombstone h.body) refl
+  where
+    by : (b : Bool) → is_tombstone h.body ≡ b → cond b (count_of (home_alive (record_with h (others v ss)))) 0 + count_dead (died v h.version (home_alive (record_with h ss)) (home_alive (record_with h (others v ss)))) ≤ cond b (count_of (home_alive (record_with h ss))) 0
+    by true is = gone_mortal h ss v
+    by false is = let none = value_stays h ss v is in omega (arith, none)
+
+-- What dies by a change, and what may die behind it without one.
+
+pub one_lone : (o : Option KeyRecord) → lone_deaths o ≤ 1
+one_lone None = omega arith
+one_lone (Some r) = by (is_tombstone r.body) (home_alive r)
+  where
+    by : (b : Bool) (o : Option ℕ) → cond b (count_of o) 0 ≤ 1
+    by false o = omega arith
+    by true None = omega arith
+    by true (Some h) = omega arith
+
+pub one_dead : (d : Option Standee) → count_dead d ≤ 1
+one_dead None = omega arith
+one_dead (Some s) = omega arith
+
 -- The same where a key may have no record.
 
-none_waits : (home v : ℕ) → Awaits None home v → ⊥
+pub none_waits : (home v : ℕ) → Awaits None home v → ⊥
 none_waits home v w = let has = w.has in cc has
 
 pub gone_only : (o : Option LastChange) (ss : List StandingEntry) (v : ℕ) → AreBelow o ss → OnlyDead (known_with o ss) (known_with o (others v ss)) (died v (last_of (known_with o ss)) (alive_at (known_with o ss)) (alive_at (known_with o (others v ss))))
 gone_only None ss v below = λ w home after. absurd (none_waits home w after)
 gone_only (Some h) ss v below = gone_dead h ss v below
 
-pub gone_count : (o : Option LastChange) (ss : List StandingEntry) (v : ℕ) → count_of (alive_at (known_with o (others v ss))) + count_dead (died v (last_of (known_with o ss)) (alive_at (known_with o ss)) (alive_at (known_with o (others v ss)))) ≤ count_of (alive_at (known_with o ss))
+pub gone_count : (o : Option LastChange) (ss : List StandingEntry) (v : ℕ) → lone_deaths (known_with o (others v ss)) + count_dead (died v (last_of (known_with o ss)) (alive_at (known_with o ss)) (alive_at (known_with o (others v ss)))) ≤ lone_deaths (known_with o ss)
 gone_count None ss v = omega arith
-gone_count (Some h) ss v = gone_mortal h ss v
+gone_count (Some h) ss v = gone_lone h ss v
 
 last_same : (o : Option LastChange) (xs ys : List StandingEntry) → last_of (known_with o xs) ≡ last_of (known_with o ys)
 last_same None xs ys = refl
 last_same (Some h) xs ys = refl
 
--- the fields of a slot whose entries are others by now
-pub kept_slot : (o : Option LastChange) (m n : Marks) (room more : ℕ) (alive now : Option ℕ) → IsSlot o m room alive → AreBelow o n.items → n.top ≡ m.top → more ≤ n.room → now ≡ alive_at (known_with o n.items) → IsSlot o n more now
-kept_slot o m n room more alive now is below top fits lives = record { below = below; top = let t = is.top in let same = last_same o m.items n.items in omega (arith, t, top, same); fits = fits; alive_is = lives }
+-- What a slot's fields say of what is known.
 
-pub gone_slot : (o : Option LastChange) (m n : Marks) (v room : ℕ) (alive now : Option ℕ) → IsSlot o m room alive → n.items ≡ others v m.items → n.top ≡ m.top → n.room ≡ m.room → now ≡ alive_at (known_with o n.items) → IsSlot o n room now
-gone_slot o m n v room alive now is gone top same lives = kept_slot o m n room room alive now is (subst (AreBelow o) (sym gone) (by o is.below)) top (let f = is.fits in omega (arith, f, same)) lives
+pub standing_known : (o : Option LastChange) (ss : List StandingEntry) → AreBelow o ss → standing_of (known_with o ss) ≡ ss
+standing_known None ss none = sym none
+standing_known (Some h) ss all = refl
+
+-- whether an entry that is found waits to be told
+pub waits_found : (o : Option LastChange) (ss : List StandingEntry) (v home : ℕ) (s : StandingEntry) → AreBelow o ss → standing_at ss v ≡ Some s → s.home ≡ home → s.told ≡ false → dies_of (known_with o ss) v ≡ true → Awaits (known_with o ss) home v
+waits_found None ss v home s none at same new dies = let empty : standing_at ss v ≡ None = ap (λ (xs : List StandingEntry). standing_at xs v) none in absurd (cc (empty, at))
+waits_found (Some h) ss v home s all at same new dies = awaits_here (record_with h ss) v home s at same new dies
+
+pub waiting_dies : (o : Option LastChange) (ss : List StandingEntry) (v home : ℕ) → Awaits (known_with o ss) home v → dies_of (known_with o ss) v ≡ true
+waiting_dies None ss v home waits = absurd (none_waits home v waits)
+waiting_dies (Some h) ss v home waits = (awaits_needs (record_with h ss) v home waits).dead
+
+-- The fields of a slot whose entries are others by now.
+
+pub kept_slot : (o : Option LastChange) (m n : Marks) → IsSlot o m → AreBelow o n.items → n.top ≤ m.top → IsSlot o n
+kept_slot o m n is below top = record { below = below; top = let t = is.top in let same = last_same o m.items n.items in omega (arith, t, top, same) }
+
+pub gone_slot : (o : Option LastChange) (m n : Marks) (v : ℕ) → IsSlot o m → n.items ≡ others v m.items → n.top ≤ m.top → IsSlot o n
+gone_slot o m n v is gone top = kept_slot o m n is (subst (AreBelow o) (sym gone) (by o is.below)) top
   where
     by : (o : Option LastChange) → AreBelow o m.items → AreBelow o (others v m.items)
     by None none = ap (others v) none
     by (Some h) all = below_without m.items v h.version all
 
-pub told_slot : (o : Option LastChange) (m n : Marks) (v room : ℕ) (alive : Option ℕ) → IsSlot o m room alive → n.items ≡ with_told m.items v → n.top ≡ m.top → n.room ≡ m.room → alive_at (known_with o n.items) ≡ alive_at (known_with o m.items) → IsSlot o n room alive
-told_slot o m n v room alive is now top same lives = kept_slot o m n room room alive alive is (subst (AreBelow o) (sym now) (by o is.below)) top (let f = is.fits in omega (arith, f, same)) (is.alive_is ∙ sym lives)
+pub told_slot : (o : Option LastChange) (m n : Marks) (v : ℕ) → IsSlot o m → n.items ≡ with_told m.items v → n.top ≡ m.top → IsSlot o n
+told_slot o m n v is now top = kept_slot o m n is (subst (AreBelow o) (sym now) (by o is.below)) (omega (arith, top))
   where
     by : (o : Option LastChange) → AreBelow o m.items → AreBelow o (with_told m.items v)
     by None none = ap (λ (xs : List StandingEntry). with_told xs v) none
     by (Some h) all = below_told m.items v h.version all
-
-pub reserved_slot : (o : Option LastChange) (m n : Marks) (room more : ℕ) (alive : Option ℕ) → IsSlot o m room alive → Keeps m n → more ≤ n.room → IsSlot o n more alive
-reserved_slot o m n room more alive is keeps fits = kept_slot o m n room more alive alive is (subst (AreBelow o) (sym keeps.items) is.below) keeps.top fits (is.alive_is ∙ ap (λ (xs : List StandingEntry). alive_at (known_with o xs)) (sym keeps.items))
 
 pub told_one : (o : Option LastChange) (ss ts : List StandingEntry) (room v home : ℕ) → ts ≡ with_told ss v → Awaits (known_with o ss) home v → TellsOne (record { known = known_with o ss; room = room }) (record { known = known_with o ts; room = room }) home v
 told_one None ss ts room v home now waits = absurd (none_waits home v waits)
@@ -166,6 +223,10 @@ pub told_alive : (o : Option LastChange) (ss ts : List StandingEntry) (v : ℕ) 
 told_alive None ss ts v now = refl
 told_alive (Some h) ss ts v now = ap (λ (xs : List StandingEntry). home_alive (record_with h xs)) now ∙ alive_told (record_with h ss) v
 
+pub told_lone : (o : Option LastChange) (ss ts : List StandingEntry) (v : ℕ) → ts ≡ with_told ss v → lone_deaths (known_with o ts) ≡ lone_deaths (known_with o ss)
+told_lone None ss ts v now = refl
+told_lone (Some h) ss ts v now = ap (λ (a : Option ℕ). cond (is_tombstone h.body) (count_of a) 0) (told_alive (Some h) ss ts v now)
+
 pub settled_only : (o : Option LastChange) (ss : List StandingEntry) (b : Body) (n home : ℕ) → AreBelow o ss → n ≡ last_of (known_with o ss) + 1
     → OnlyDead (known_with o ss) (Some (record { version = n; body = b; standing = ss ++ standing_with n home false ∷ [] }))
     (dead_by n home (last_of (known_with o ss)) (alive_at (known_with o ss)) (alive_at (Some (record { version = n; body = b; standing = ss ++ standing_with n home false ∷ [] }))))
@@ -174,18 +235,3 @@ settled_only o ss b n home below next =
     settled_dead o ss b n home (dead_by n home (last_of (known_with o ss)) (alive_at (known_with o ss)) (home_alive new)) below next
     (λ none. ap (dead_by n home (last_of (known_with o ss)) (alive_at (known_with o ss))) none)
     (λ now was is had. ap (dead_by n home (last_of (known_with o ss)) (alive_at (known_with o ss))) is ∙ ap (λ (p : Option ℕ). dead_by n home (last_of (known_with o ss)) p (Some now)) had)
-
--- Who is alive once a change is settled: its own entry, but where it is dead at once.
-pub settled_alive : (o : Option LastChange) (ss : List StandingEntry) (b : Body) (n home : ℕ) (alive : Option ℕ) → AreBelow o ss → n ≡ last_of (known_with o ss) + 1
-    → alive ≡ cond (is_dead (record { version = n; body = b; standing = ss ++ standing_with n home false ∷ [] }) n) None (Some home)
-    → alive ≡ home_alive (record { version = n; body = b; standing = ss ++ standing_with n home false ∷ [] })
-settled_alive o ss b n home alive below next is =
-    is ∙ ap (λ x. cond (is_dead (record { version = n; body = b; standing = ss ++ standing_with n home false ∷ [] }) n) None (home_in x)) (sym (at_added ss (standing_with n home false) (none_yet o below next))) where
-      none_yet : (o : Option LastChange) → AreBelow o ss → n ≡ last_of (known_with o ss) + 1 → standing_at ss n ≡ None
-      none_yet None empty next = ap (λ xs. standing_at xs n) empty
-      none_yet (Some h) all next = none_above ss n h.version all (omega (arith, next))
-
--- and no entry stands above the new version
-pub settled_below : (o : Option LastChange) (ss : List StandingEntry) (b : Body) (n home : ℕ) → AreBelow o ss → n ≡ last_of (known_with o ss) + 1 → AreBelow (Some (record { version = n; body = b })) (ss ++ standing_with n home false ∷ [])
-settled_below None ss b n home empty next = subst (λ xs. AllByRecursion (λ (s : StandingEntry). s.version ≤ n) (xs ++ standing_with n home false ∷ [])) (sym empty) (omega arith, tt)
-settled_below (Some h) ss b n home all next = below_more ss (standing_with n home false) h.version n (omega (arith, next)) (omega arith) all

@@ -1,7 +1,7 @@
 -- Keys with a value before those that were deleted.
 use Rattle.std.proofs.Common.{◌≡◌, ℕ, ◌+◌, ◌≤◌, arith, ◌==◌, nat_lt, Bool, true, false, cond, ◌&&◌, ◌||◌, List, [], ◌∷◌, Option, Some, None, option_map, refl, sym, ◌∙◌, ap, subst}
 use Rattle.std.specs.Prelude.{is_some}
-use Rattle.std.proofs.lemmas.Bool.{eqb-true, eq-eqb}
+use Rattle.std.proofs.lemmas.Bool.{eqb-true, eq-eqb, cond-false}
 use Rattle.log_entry.specs.declared.entry.EntryName.{EntryName}
 use Rattle.core_index.specs.declared.start_keys.StartKeys.{StartKeys}
 use Rattle.core_index.specs.declared.types.ValuePlace.{ValuePlace}
@@ -13,8 +13,8 @@ use Rattle.core_index.specs.declared.types.Tombstone.{Tombstone}
 use Rattle.core_index.specs.declared.types.Fate.{Fate}
 use Rattle.core_index.specs.declared.types.Fate.TheVariants as fates
 use Rattle.core_index.proofs.DeadLaws.{alive_none}
-use Rattle.core_index.specs.Records.{KeyRecord, Awaits, is_dead, is_dead_in, is_empty, is_forgettable, stands_alone, standing_at, standing_with, without}
-use Rattle.core_index.specs.Slots.{Place, count_of, alive_at}
+use Rattle.core_index.specs.Records.{KeyRecord, Awaits, is_tombstone, is_dead, is_dead_in, is_empty, is_forgettable, stands_alone, standing_at, standing_with, without}
+use Rattle.core_index.specs.Slots.{Place, count_of, alive_at, lone_deaths}
 use Rattle.core_index.specs.Tombs.{tomb_version, tomb_home, Tombs, tomb_places, place_of, found_at, left_by, deleted}
 use Rattle.core_index.specs.Lives.{entry_version, entry_home, Lives, body_in, valued, valued_by, live_place, live_at, placed_lives}
 use Rattle.core_index.specs.Starts.{started, IsAhead}
@@ -115,7 +115,7 @@ start_cleared a b k live deleted = record {
     by None = deleted.here
     by (Some p) = refl
 
--- no deleted key has an entry that may still die
+-- No entry of these keys dies before a change of its key: that of a delete is dead, and that of a value only dies by a change.
 
 dead_now : (v : ℕ) (ss : List StandingEntry) → stands_alone ss v ≡ true → is_dead (deleted v ss) v ≡ true
 dead_now v ss alone = ap (λ (b : Bool). nat_lt v v || ((v == v) && b)) alone ∙ ap (λ (b : Bool). nat_lt v v || (b && true)) (eq-eqb v v refl) ∙ by (nat_lt v v)
@@ -124,18 +124,30 @@ dead_now v ss alone = ap (λ (b : Bool). nat_lt v v || ((v == v) && b)) alone �
     by true = refl
     by false = refl
 
-pub left_mortal : (f : Fate) (v home : ℕ) → count_of (alive_at (left_by f v home)) ≡ 0
-left_mortal fates.Untold v home = ap count_of (alive_none (deleted v (standing_with v home false ∷ [])) (dead_now v (standing_with v home false ∷ []) (ap (λ (b : Bool). b && true) (eq-eqb v v refl))))
-left_mortal fates.Told v home = ap count_of (alive_none (deleted v (standing_with v home true ∷ [])) (dead_now v (standing_with v home true ∷ []) (ap (λ (b : Bool). b && true) (eq-eqb v v refl))))
-left_mortal fates.Gone v home = ap count_of (alive_none (deleted v []) (dead_now v [] refl))
-left_mortal fates.Moved v home = refl
+left_calm : (f : Fate) (v home : ℕ) → lone_deaths (left_by f v home) ≡ 0
+left_calm fates.Untold v home = ap count_of (alive_none (deleted v (standing_with v home false ∷ [])) (dead_now v (standing_with v home false ∷ []) (ap (λ (b : Bool). b && true) (eq-eqb v v refl))))
+left_calm fates.Told v home = ap count_of (alive_none (deleted v (standing_with v home true ∷ [])) (dead_now v (standing_with v home true ∷ []) (ap (λ (b : Bool). b && true) (eq-eqb v v refl))))
+left_calm fates.Gone v home = ap count_of (alive_none (deleted v []) (dead_now v [] refl))
+left_calm fates.Moved v home = refl
 
-pub deleted_alive : (ts : List Tombstone) (k : ℕ) → count_of (alive_at (known_at (tomb_places ts) k)) ≡ 0
-deleted_alive ts k = ap (λ (o : Option Place). count_of (alive_at (known_in o))) (tomb_found ts k) ∙ by (found_at ts k)
+deleted_calm : (ts : List Tombstone) (k : ℕ) → lone_deaths (known_at (tomb_places ts) k) ≡ 0
+deleted_calm ts k = ap (λ (o : Option Place). lone_deaths (known_in o)) (tomb_found ts k) ∙ by (found_at ts k)
   where
-    by : (o : Option Tombstone) → count_of (alive_at (known_in (option_map place_of o))) ≡ 0
+    by : (o : Option Tombstone) → lone_deaths (known_in (option_map place_of o)) ≡ 0
     by None = refl
-    by (Some t) = left_mortal t.fate (tomb_version t) (tomb_home t)
+    by (Some t) = left_calm t.fate (tomb_version t) (tomb_home t)
+
+value_calm : (bytes : List ℕ) (h : ValuePlace) (f : LiveFate) (v home : ℕ) → lone_deaths (valued_by f v home (body_in bytes h)) ≡ 0
+value_calm bytes h Stands v home = cond-false (is_tombstone (body_in bytes h)) (count_of (alive_at (valued_by Stands v home (body_in bytes h)))) 0 (no_tombstone bytes h)
+value_calm bytes h Gone v home = cond-false (is_tombstone (body_in bytes h)) (count_of (alive_at (valued_by Gone v home (body_in bytes h)))) 0 (no_tombstone bytes h)
+value_calm bytes h Moved v home = refl
+
+pub start_calm : (a : StartKeys) (k : ℕ) → lone_deaths (known_at (started a) k) ≡ 0
+start_calm a k = ap (λ (o : Option Place). lone_deaths (known_in o)) (place_both (placed_lives a.live) (tomb_places a.deleted.items) k ∙ ap (λ (o : Option Place). over o (place_at (tomb_places a.deleted.items) k)) (placed_found a.live.bytes a.live.items k)) ∙ by (live_at a.live.items k)
+  where
+    by : (o : Option LiveKey) → lone_deaths (known_in (over (option_map (live_place a.live.bytes) o) (place_at (tomb_places a.deleted.items) k))) ≡ 0
+    by None = deleted_calm a.deleted.items k
+    by (Some x) = value_calm a.live.bytes x.held x.fate (entry_version x) (entry_home x)
 
 -- a key with a value that is added
 pub added_live : (a : StartKeys) (l : Lives) (k : ℕ) (p : Place) → TurnsAt (placed_lives a.live) (placed_lives l) k (Some p) → TurnsAt (started a) (started (record { live = l; deleted = a.deleted })) k (Some p)

@@ -1,5 +1,5 @@
 -- Changes of the map at one key.
-use Rattle.std.proofs.Common.{◌≡◌, ◌≢◌, ⊎_elim, ℕ, ◌+◌, ◌-◌, ◌<◌, ◌≤◌, ◌==◌, ◌&&◌, true, false, List, Option, Some, None, is_none, option_map, refl, sym, ◌∙◌, ap, subst, arith}
+use Rattle.std.proofs.Common.{◌≡◌, ◌≢◌, ⊎_elim, ℕ, ◌+◌, ◌-◌, ◌*◌, ◌<◌, ◌≤◌, ◌==◌, ◌&&◌, true, false, List, Option, Some, None, is_none, option_map, refl, sym, ◌∙◌, ap, subst, arith}
 use Rattle.std.specs.List.{sum_by}
 use Rattle.std.specs.Option.{unwrap_or}
 use Rattle.std.specs.Map.{values_of, keys_of, set_value, remove_entry}
@@ -13,6 +13,7 @@ use Rattle.std.specs.Prelude.{Result, Ok, Err, OnOk, OnErr}
 use Rattle.std.proofs.lemmas.Bool.{cases_eq}
 use Rattle.std.proofs.lemmas.Map.Steps.{set_value_same}
 use Rattle.log_entry.specs.declared.entry.EntryName.{EntryName}
+use Rattle.core_index.specs.declared.types.TheConstants.{NAMES_OF_CHANGE}
 use Rattle.core_index.specs.Records.{KeyRecord, Awaits, with_told, told_in, count_untold, standing_of}
 use Rattle.core_index.specs.Slots.{Place, mortal, TellsOne}
 use Rattle.core_index.specs.Index.{place_at, known_in, room_in, known_at, room_at, mortal_in, all_mortal, untold_in, untold_of, all_untold, Step, Changes, SameRoom, ToldAt, Forgets, GivesBack}
@@ -143,7 +144,7 @@ told_at es fs home n v w at is step one =
 pub told_mortal : (es fs : List (ℕ × Place)) (k : ℕ) (v w : Place) → place_at es k ≡ Some v → Step es fs k (Some w) → mortal w ≤ mortal v → all_mortal fs ≤ all_mortal es
 told_mortal es fs k v w at step le = let sum = step.count in let a : mortal_in (place_at es k) ≡ mortal v = ap mortal_in at in omega (arith, sum, a, le)
 
-room_mortal : (o : Option Place) → room_in o ≤ mortal_in o
+room_mortal : (o : Option Place) → NAMES_OF_CHANGE * room_in o ≤ mortal_in o
 room_mortal None = omega arith
 room_mortal (Some p) = omega arith
 
@@ -170,7 +171,7 @@ forgets_all es fs gs k first second none =
 
 -- Room that is given back.
 
-lowered : (o : Option Place) → 0 < room_in o → mortal_in (Some (record { known = known_in o; room = room_in o - 1 })) + 1 ≡ mortal_in o
+lowered : (o : Option Place) → 0 < room_in o → mortal_in (Some (record { known = known_in o; room = room_in o - 1 })) + NAMES_OF_CHANGE ≡ mortal_in o
 lowered None some = absurd (omega (arith, some))
 lowered (Some p) some = omega (arith, some)
 

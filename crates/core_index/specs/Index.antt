@@ -10,7 +10,8 @@ use Rattle.core_index.specs.declared.types.Record.{Record}
 use Rattle.core_index.specs.declared.types.LiveKey.{LiveKey}
 use Rattle.core_index.specs.declared.types.Tombstone.{Tombstone}
 use Rattle.core_index.specs.Records.{KeyRecord, Awaits, told_in, count_untold, standing_of, without, live_version, opened}
-use Rattle.core_index.specs.Slots.{Place, mortal, alive_at, count_of}
+use Rattle.core_index.specs.Slots.{Place, mortal}
+use Rattle.core_index.specs.declared.types.TheConstants.{NAMES_OF_CHANGE}
 use Rattle.core_index.specs.Noted.{Book, Noted, name_with}
 use Rattle.core_index.specs.declared.start_keys.StartKeys.{StartKeys}
 use Rattle.core_index.specs.Lives.{FitsLive, placed_lives}
@@ -104,7 +105,7 @@ pub record GivesBack (old new : List (ℕ × Place)) (k : ℕ) : Type 0 where
   pub here : known_at new k ≡ known_at old k
   pub room : room_at new k + 1 ≡ room_at old k
   pub others : (j : ℕ) → j ≢ k → place_at new j ≡ place_at old j
-  pub count : all_mortal new + 1 ≤ all_mortal old
+  pub count : all_mortal new + NAMES_OF_CHANGE ≤ all_mortal old
   pub untold : all_untold new ≤ all_untold old
 
 -- Of the room of all keys one has less now, where it had any.
@@ -161,7 +162,7 @@ pub record Admits (es fs : List (ℕ × Place)) (a b : StartKeys) (k : ℕ) : Ty
   pub others : (j : ℕ) → j ≢ k → place_at fs j ≡ place_at es j
   pub others_left : (j : ℕ) → j ≢ k → place_at (started b) j ≡ place_at (started a) j
   pub ahead : (home : ℕ) (n : EntryName) → IsAhead a home n → IsAhead b home n
-  pub count : all_mortal fs ≤ all_mortal es + 1 + count_of (alive_at (known_at (started a) k))
+  pub count : all_mortal fs ≤ all_mortal es + NAMES_OF_CHANGE
   pub untold : all_untold (all_places fs b) ≤ all_untold (all_places es a)
 
 -- What is true of the index's fields between two calls: each entry that waits to be told is noted, or its home will be

@@ -1,6 +1,9 @@
 pub mod Records
 pub mod Marks
+pub mod Pairs
+pub mod Helds
 pub mod Slots
+pub mod Slabs
 pub mod Noted
 pub mod Short
 pub mod Tombs

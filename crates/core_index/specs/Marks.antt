@@ -1,10 +1,9 @@
 -- The entries of a key in a list by rising version, in which an entry that is gone keeps its place for a while.
-use Rattle.std.specs.Prelude.{◌≡◌, ◌≢◌, ℕ, ◌<◌, ◌≤◌, false, List, [], ◌∷◌, ◌++◌, length, slice_index_or, if◌then◌else◌}
+use Rattle.std.specs.Prelude.{◌≡◌, ◌≢◌, ℕ, ◌<◌, ◌≤◌, false, List, [], ◌∷◌, length, slice_index_or, if◌then◌else◌}
 use Rattle.std.specs.List.{AllByRecursion}
 use Rattle.core_index.specs.declared.types.Marked.{Marked}
-use Rattle.core_index.specs.declared.types.Standee.{Standee}
 use Rattle.core_index.specs.declared.types.StandingEntry.{StandingEntry}
-use Rattle.core_index.specs.Records.{standing_with, homes_of}
+use Rattle.core_index.specs.Records.{standing_with}
 
 -- the entries that stand, room for more, and a version that none is above
 pub record Marks : Type 0 where
@@ -19,6 +18,9 @@ kept (m ∷ ms) = if m.gone then kept ms else m.entry ∷ kept ms
 
 abbrev pub marked : ℕ → ℕ → Marked
 marked v home = record { entry = standing_with v home false; gone = false }
+
+abbrev pub marked_as : StandingEntry → Marked
+marked_as s = record { entry = s; gone = false }
 
 abbrev pub mark_of : (ℕ × ℕ) → Marked
 mark_of e = marked e.0 e.1
@@ -48,9 +50,3 @@ pub record Keeps (old new : Marks) : Type 0 where
   pub items : new.items ≡ old.items
   pub top : new.top ≡ old.top
   pub room : old.room ≤ new.room
-
--- Of all these some are left, and the map has the homes of the others.
-pub record Gathering (all left : List Standee) (es : List (ℕ × ℕ)) : Type 0 where
-  pub done : List Standee
-  pub split : all ≡ left ++ done
-  pub homes : es ≡ homes_of done

@@ -4,7 +4,7 @@ use Rattle.std.specs.List.{AllByRecursion}
 use Rattle.log_entry.specs.declared.entry.EntryName.{EntryName}
 use Rattle.core_index.specs.declared.death_notices.NoticeNode.{NoticeNode}
 use Rattle.core_index.specs.declared.types.StandingEntry.{StandingEntry}
-use Rattle.core_index.specs.Records.{KeyRecord, is_dead}
+use Rattle.core_index.specs.Records.{KeyRecord, dies_of, standing_of}
 
 abbrev pub name_with : ℕ → ℕ → EntryName
 name_with k v = record { key = k; version = v }
@@ -104,10 +104,14 @@ pub record Grows (old new : List NoticeNode) : Type 0 where
       → slice_index_or new i d ≡ slice_index_or old i d
   pub count : count_used new ≡ count_used old
 
-abbrev pub NotedIfDead : Book → ℕ → KeyRecord → StandingEntry → Type 0
-NotedIfDead b k r s = is_dead r s.version ≡ true → Noted b s.home (name_with k s.version)
+abbrev pub NotedIfDead : Book → ℕ → Option KeyRecord → StandingEntry → Type 0
+NotedIfDead b k o s = dies_of o s.version ≡ true → Noted b s.home (name_with k s.version)
 
--- how many entries of the list are not dead
-abbrev pub count_lively : KeyRecord → List StandingEntry → ℕ
-count_lively r [] = 0
-count_lively r (s ∷ ss) = (if is_dead r s.version then 0 else 1) + count_lively r ss
+-- how many of these entries of a key are dead
+abbrev pub count_dead_in : Option KeyRecord → List StandingEntry → ℕ
+count_dead_in o [] = 0
+count_dead_in o (s ∷ ss) = (if dies_of o s.version then 1 else 0) + count_dead_in o ss
+
+-- how many entries of the key stand and are dead
+abbrev pub deaths_of : Option KeyRecord → ℕ
+deaths_of o = count_dead_in o (standing_of o)

@@ -20,6 +20,10 @@ pub record KeyRecord : Type 0 where
 abbrev pub standing_with : ℕ → ℕ → Bool → StandingEntry
 standing_with v home told = record { version = v; home = home; told = told }
 
+abbrev pub list_of : Option StandingEntry → List StandingEntry
+list_of None = []
+list_of (Some s) = s ∷ []
+
 -- The entries that stand are a map from versions.
 abbrev pub standing_at : List StandingEntry → ℕ → Option StandingEntry
 standing_at [] v = None
@@ -35,9 +39,11 @@ abbrev pub stands_alone : List StandingEntry → ℕ → Bool
 stands_alone ss v = list_all (λ s. s.version == v) ss
 
 -- A version is dead where a later one is finished. A delete that is the last version is dead once no other version stands.
+abbrev pub dies_in : ℕ → Bool → List StandingEntry → ℕ → Bool
+dies_in last deleted ss v = nat_lt v last || (v == last && (deleted && stands_alone ss v))
+
 abbrev pub is_dead : KeyRecord → ℕ → Bool
-is_dead r v = nat_lt v r.version || (v == r.version &&
-    (is_tombstone r.body && stands_alone r.standing v))
+is_dead r v = dies_in r.version (is_tombstone r.body) r.standing v
 
 -- The version stands at this home, is dead, and was not told.
 pub record Awaits (o : Option KeyRecord) (home v : ℕ) : Type 0 where
@@ -50,6 +56,10 @@ pub record Awaits (o : Option KeyRecord) (home v : ℕ) : Type 0 where
 abbrev pub last_of : Option KeyRecord → ℕ
 last_of None = 0
 last_of (Some r) = r.version
+
+abbrev pub is_deleted : Option KeyRecord → Bool
+is_deleted None = false
+is_deleted (Some r) = is_tombstone r.body
 
 abbrev pub standing_of : Option KeyRecord → List StandingEntry
 standing_of None = []
@@ -138,6 +148,10 @@ untold_at e = standing_with e.0 e.1 false
 -- the entries by rising version
 abbrev pub by_version : List Standee → List StandingEntry
 by_version ss = map untold_at (homes_of ss)
+
+-- the version is dead, if it stands
+abbrev pub dies_of : Option KeyRecord → ℕ → Bool
+dies_of o v = dies_in (last_of o) (is_deleted o) (standing_of o) v
 
 -- what is known of a key at the start: no death was told yet
 abbrev pub opened_with : ℕ → Body → List Standee → KeyRecord

@@ -5,7 +5,6 @@ use Rattle.log_entry.specs.declared.entry.Body.TheVariants as bodies
 use Rattle.log_entry.specs.declared.entry.EntryName.{EntryName}
 use Rattle.core_index.specs.declared.types.Fate.{Fate}
 use Rattle.core_index.specs.declared.types.Fate.TheVariants.{Untold, Told, Gone, Moved}
-use Rattle.core_index.specs.declared.types.LastChange.{LastChange}
 use Rattle.core_index.specs.declared.types.StandingEntry.{StandingEntry}
 use Rattle.core_index.specs.declared.types.Tombstone.{Tombstone}
 use Rattle.core_index.specs.Records.{KeyRecord, standing_with}
@@ -45,10 +44,6 @@ IsThere Moved = ⊥
 abbrev pub StandsAs : ℕ → Tombstone → Type 0
 StandsAs v t = ((tomb_version t) ≡ v) × IsThere t.fate
 
-abbrev pub list_of : Option StandingEntry → List StandingEntry
-list_of None = []
-list_of (Some s) = s ∷ []
-
 abbrev pub standing_by : Fate → ℕ → ℕ → Option StandingEntry
 standing_by Untold v home = Some (standing_with v home false)
 standing_by Told v home = Some (standing_with v home true)
@@ -58,9 +53,6 @@ standing_by Moved v home = None
 -- the entry, where it stands
 abbrev pub standing_left : Tombstone → Option StandingEntry
 standing_left t = standing_by t.fate (tomb_version t) (tomb_home t)
-
-abbrev pub delete_at : ℕ → LastChange
-delete_at v = record { version = v; body = bodies.Tombstone }
 
 -- the record of the key, where it is not elsewhere
 abbrev pub left_of : Tombstone → Option KeyRecord

@@ -6,15 +6,15 @@ ghost use Rattle.core_index.specs.Slots.{count_dead, OnlyDead};
 ghost use Rattle.core_index.specs.Starts.{IsAhead};
 ghost use Rattle.core_index.specs.Index.{Admits, Changes, LessRoom, SameRoom, room_at, IsCompact, IsCompactLive, ToldAt, all_places, all_mortal, all_untold, known_at};
 
-use crate::key_slot::KeySlot;
-use crate::map::{enter_at, forget_there, give_back_at, gone_at, has, reserve_at, tell_at};
+use crate::slot_map::{
+    SlotMap, enter_at, forget_there, give_back_at, gone_at, has, reserve_at, tell_at,
+};
 use crate::start_keys::StartKeys;
 use crate::tombstones::tombstone_of;
-use crate::types::{LiveKey, Standee, Tombstone};
+use crate::types::{GoneEffect, LiveKey, NAMES_OF_CHANGE, Standee, Tombstone};
 use fs_model::{Key, Memory, Version};
 use log_entry::{Body, EntryName};
 use std::alloc::Global;
-use std::collections::BTreeMap;
 
 /// A copy of a body.
 pub fn copy_of(alloc: Global, body: &Body) -> Result<Body, Memory>
@@ -29,7 +29,7 @@ pub fn copy_of(alloc: Global, body: &Body) -> Result<Body, Memory>
 
 /// What is known of a key at the start, where it fits into the list of deleted keys.
 pub fn compact(
-    slots: &BTreeMap<Key, KeySlot>,
+    slots: &SlotMap,
     start: &StartKeys,
     key: Key,
     version: Version,
@@ -52,7 +52,7 @@ pub fn compact(
 
 /// The same, where it fits into the list of keys with a value.
 pub fn compact_live(
-    slots: &BTreeMap<Key, KeySlot>,
+    slots: &SlotMap,
     start: &StartKeys,
     key: Key,
     version: Version,
@@ -72,7 +72,7 @@ pub fn compact_live(
 /// Makes room for one more change of a key. It is in the map then.
 pub fn admit_at(
     alloc: Global,
-    slots: &mut BTreeMap<Key, KeySlot>,
+    slots: &mut SlotMap,
     start: &mut StartKeys,
     key: Key,
 ) -> Result<(), Memory>
@@ -93,12 +93,7 @@ pub fn admit_at(
 }
 
 /// Tells a home of a dead entry, where it waits to be told.
-pub fn tell_in(
-    slots: &mut BTreeMap<Key, KeySlot>,
-    start: &mut StartKeys,
-    name: EntryName,
-    home: u32,
-) -> bool
+pub fn tell_in(slots: &mut SlotMap, start: &mut StartKeys, name: EntryName, home: u32) -> bool
     ensures told { result ≡ true → ToldAt (all_places slots.old.entries start.old)
         (all_places slots.new.entries start.new) home name }
     ensures mortal { result ≡ true → all_mortal slots.new.entries ≤ all_mortal slots.old.entries }
@@ -116,20 +111,16 @@ pub fn tell_in(
 }
 
 /// Takes an entry out of those that stand. Gives the entry that died by it.
-pub fn gone_in(
-    slots: &mut BTreeMap<Key, KeySlot>,
-    start: &mut StartKeys,
-    name: EntryName,
-) -> Option<Standee>
+pub fn gone_in(slots: &mut SlotMap, start: &mut StartKeys, name: EntryName) -> GoneEffect
     ensures gone { Changes (all_places slots.old.entries start.old)
         (all_places slots.new.entries start.new) name.key (option_map (without name.version)
         (known_at (all_places slots.old.entries start.old) name.key)) }
     ensures room { SameRoom (all_places slots.old.entries start.old)
         (all_places slots.new.entries start.new) }
     ensures dead { OnlyDead (known_at (all_places slots.old.entries start.old) name.key)
-        (known_at (all_places slots.new.entries start.new) name.key) result }
-    ensures mortal { all_mortal slots.new.entries + count_dead result
-        ≤ all_mortal slots.old.entries }
+        (known_at (all_places slots.new.entries start.new) name.key) result.dead }
+    ensures mortal { all_mortal slots.new.entries + count_dead result.dead + result.spared
+        ≡ all_mortal slots.old.entries }
     ensures untold { all_untold (all_places slots.new.entries start.new)
         ≤ all_untold (all_places slots.old.entries start.old) }
     ensures ahead { (h : ℕ) (n : EntryName) → IsAhead start.old h n → IsAhead start.new h n }
@@ -138,12 +129,15 @@ pub fn gone_in(
         gone_at(slots, name)
     } else {
         start.gone(name);
-        None
+        GoneEffect {
+            dead: None,
+            spared: 0,
+        }
     }
 }
 
 /// Takes out the record of a key that is deleted and of which nothing stands.
-pub fn forget_in(slots: &mut BTreeMap<Key, KeySlot>, start: &mut StartKeys, key: Key)
+pub fn forget_in(slots: &mut SlotMap, start: &mut StartKeys, key: Key)
     requires { IsTrue (is_forgettable (known_at (all_places slots.old.entries start.old)
         key)) }
     ensures change { Changes (all_places slots.old.entries start.old)
@@ -160,11 +154,12 @@ pub fn forget_in(slots: &mut BTreeMap<Key, KeySlot>, start: &mut StartKeys, key:
 }
 
 /// Gives back the room for one change of a key of the map. Nothing is kept of a key that has neither room nor a record.
-pub fn give_back_in(slots: &mut BTreeMap<Key, KeySlot>, start: &mut StartKeys, key: Key)
+pub fn give_back_in(slots: &mut SlotMap, start: &mut StartKeys, key: Key)
     requires { 0 < room_at slots.old.entries key }
     ensures less { LessRoom (all_places slots.old.entries start.old)
         (all_places slots.new.entries start.new) key }
-    ensures mortal { all_mortal slots.new.entries + 1 ≤ all_mortal slots.old.entries }
+    ensures mortal { all_mortal slots.new.entries + NAMES_OF_CHANGE
+        ≤ all_mortal slots.old.entries }
     ensures ahead { (h : ℕ) (n : EntryName) → IsAhead start.old h n → IsAhead start.new h n }
 {
     give_back_at(slots, key);

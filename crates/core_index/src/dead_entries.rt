@@ -1,37 +1,27 @@
-// Which entries of a key are dead, and which are still to be told.
-ghost use Rattle.std.specs.Prelude.{◌≡◌, Some};
-ghost use Rattle.std.specs.Bool.{Decides};
-ghost use Rattle.core_index.specs.Records.{is_dead, is_tombstone, Awaits};
-ghost use Rattle.core_index.specs.Slots.{record_with};
+// Which entries of a key are dead.
+ghost use Rattle.std.specs.Prelude.{◌≡◌};
+ghost use Rattle.core_index.specs.Records.{dies_in};
+ghost use Rattle.core_index.specs.Slots.{alive_in};
 
 use crate::entries::Entries;
-use crate::types::LastChange;
 use fs_model::Version;
-use log_entry::Body;
 
-/// Whether it is that of a delete.
-pub fn is_tombstone(body: &Body) -> bool
-    ensures { result ≡ is_tombstone body.now }
+/// Whether a version is dead, by the last version and whether that was a delete.
+pub fn is_dead(last: Version, deleted: bool, standing: &Entries, version: Version) -> bool
+    ensures { result ≡ dies_in last deleted standing.now.items version }
 {
-    matches!(body, Body::Tombstone)
+    version < last || (version == last && deleted && standing.stands_alone(version))
 }
 
-/// Whether a version is dead.
-pub fn is_dead(head: &LastChange, standing: &Entries, version: Version) -> bool
-    ensures { result ≡ is_dead (record_with head.now standing.now.items) version }
+/// The home of the last version's entry, where it stands and is not dead.
+pub fn alive_in(last: Version, deleted: bool, standing: &Entries) -> Option<u32>
+    ensures { result ≡ alive_in last deleted standing.now.items }
 {
-    let newest = head.version;
-    version < newest
-        || (version == newest && is_tombstone(&head.body) && standing.stands_alone(version))
-}
-
-/// Whether a version stands at this home, is dead, and was not told.
-pub fn awaits(head: &LastChange, standing: &Entries, version: Version, home: u32) -> bool
-    ensures { Decides result (Awaits (Some (record_with head.now standing.now.items)) home
-        version) }
-{
-    match standing.find(version) {
-        None => false,
-        Some(s) => s.home == home && !s.told && is_dead(head, standing, version),
+    if is_dead(last, deleted, standing, last) {
+        return None;
+    }
+    match standing.find(last) {
+        None => None,
+        Some(entry) => Some(entry.home),
     }
 }

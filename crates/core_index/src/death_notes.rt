@@ -10,13 +10,12 @@ ghost use Rattle.core_index.specs.Index.{IsIndex, Tells, ToldAt, all_places, all
 
 use crate::compact::tell_in;
 use crate::death_notices::DeathNotices;
-use crate::key_slot::KeySlot;
+use crate::slot_map::SlotMap;
 use crate::start_keys::StartKeys;
 use crate::tombstones::{home_of, name_of};
 use crate::types::{Standee, Tombstone};
 use fs_model::Key;
 use log_entry::EntryName;
-use std::collections::BTreeMap;
 
 /// Notes an entry that died, where one did.
 pub fn note_dead(notices: &mut DeathNotices, key: Key, dead: Option<Standee>)
@@ -37,7 +36,7 @@ pub fn note_dead(notices: &mut DeathNotices, key: Key, dead: Option<Standee>)
 
 /// Tells a home of a dead entry. A name that is noted and does not wait any more is passed over.
 pub fn next_dead(
-    slots: &mut BTreeMap<Key, KeySlot>,
+    slots: &mut SlotMap,
     start: &mut StartKeys,
     notices: &mut DeathNotices,
     home: u32,
@@ -63,7 +62,7 @@ pub fn next_dead(
 
 // The same where no name is noted for the home: of the keys that were deleted before the start.
 fn next_deleted(
-    slots: &mut BTreeMap<Key, KeySlot>,
+    slots: &mut SlotMap,
     start: &mut StartKeys,
     notices: &DeathNotices,
     home: u32,
@@ -89,12 +88,7 @@ fn next_deleted(
 }
 
 // Tells a home of such a key's entry, where it waits to be told to this home.
-fn tell_passed(
-    slots: &mut BTreeMap<Key, KeySlot>,
-    start: &mut StartKeys,
-    tombstone: &Tombstone,
-    home: u32,
-) -> bool
+fn tell_passed(slots: &mut SlotMap, start: &mut StartKeys, tombstone: &Tombstone, home: u32) -> bool
     ensures told { result ≡ true → ToldAt (all_places slots.old.entries start.old)
         (all_places slots.new.entries start.new) home (name_of tombstone.now) }
     ensures mortal { result ≡ true → all_mortal slots.new.entries ≤ all_mortal slots.old.entries }

@@ -217,13 +217,13 @@ impl DeathNotices {
         Ok(())
     }
 
-    /// Gives back the room for one name.
-    pub fn give_back(&mut self)
-        requires { 0 < self.old.spare }
+    /// Gives back the room for so many names.
+    pub fn give_back(&mut self, less: u64)
+        requires { less ≤ self.old.spare }
         ensures kept { (h : ℕ) (n : EntryName) → Noted self.old h n → Noted self.new h n }
-        ensures spare { self.new.spare + 1 ≡ self.old.spare }
+        ensures spare { self.new.spare + less ≡ self.old.spare }
     {
-        self.spare -= 1;
+        self.spare -= less;
     }
 
     /// Notes a name for a home.

@@ -1,213 +1,285 @@
-// The entries of one key that stand in a log, by rising version.
-ghost use Rattle.std.specs.Prelude.{◌≡◌, ◌+◌, ◌<◌, ◌≤◌, ◌++◌, ◌∷◌, [], ℕ, map, false, true, Some, None, IfOk, IfSome, IfNone, OnOk, length};
+// The entries of one key that stand in a log, by rising version, in place or in a list.
+ghost use Rattle.std.specs.Prelude.{◌≡◌, ℕ, ◌+◌, ◌-◌, ◌<◌, ◌≤◌, ◌++◌, ◌∷◌, [], false, IfOk, OnOk, OnErr, length};
 ghost use Rattle.std.specs.List.{AllByRecursion};
-ghost use Rattle.std.specs.BTreeMap.{IsOrdered};
-ghost use Rattle.std.specs.Ordering.{nat_cmp};
-ghost use Rattle.std.specs.Vec.{vec_capacity};
-ghost use Rattle.core_index.specs.Records.{standing_at, standing_with, stands_alone, with_told, others, homes_of, by_version};
-ghost use Rattle.core_index.specs.Tombs.{list_of};
-ghost use Rattle.core_index.specs.Marks.{kept, mark_of, Rises, IsPlace, IsAbsent, AreMarks, marked, Keeps};
+ghost use Rattle.core_index.specs.Records.{list_of, standing_at, standing_with, stands_alone, with_told, others, by_version};
+ghost use Rattle.core_index.specs.Marks.{kept};
+ghost use Rattle.core_index.specs.Pairs.{in_pair, top_of, IsRising};
+ghost use Rattle.core_index.specs.Helds.{entry_in, pair_in, IsFew, Holds};
 
-use crate::types::{Marked, Standee, StandingEntry};
+use crate::entry_list::EntryList;
+use crate::types::{Held, IN_PLACE, Marked, Pair, Presence, Standee, StandingEntry};
 use fs_model::{Memory, Version};
 use std::alloc::Global;
-use std::collections::BTreeMap;
 use std::marker::Model;
 
-/// The entries of a key that stand in a log, by rising version. One that is gone keeps its place until the list is
-/// closed up, so that taking one out moves no other. `left` counts those that stand, and no version is above `top`.
-/// Only `of`, `of_one`, `with_room` and `reserve` take memory.
+/// The entries of a key that stand in a log, by rising version, and room for so many more. Only `of` and `reserve` take
+/// memory.
 #[derive(Drop)]
 pub struct Entries {
-    marks: Vec<Marked>,
-    left: u64,
-    top: Version,
+    held: Held,
 }
 
 impl Model for Entries {
-    ghost use Rattle.std.specs.Prelude.{length, ◌-◌};
-    ghost use Rattle.std.specs.Vec.{vec_capacity};
-    ghost use Rattle.core_index.specs.Tombs.{list_of};
-    ghost use Rattle.core_index.specs.Marks.{Marks, AreMarks, kept};
+    ghost use Rattle.core_index.specs.Marks.{Marks};
+    ghost use Rattle.core_index.specs.Helds.{items_in, room_in, top_in, IsHeld};
 
     ghost Value = { Marks };
 
-    ghost view = { λ a. record {
-      items = kept a.marks.items;
-      room = vec_capacity a.marks - length a.marks.items;
-      top = a.top;
-    } };
+    ghost view = { λ a. record { items = items_in a.held; room = room_in a.held; top = top_in a.held } };
 
-    ghost invariant = { λ a. AreMarks a.marks.items a.left a.top };
+    ghost invariant = { λ a. IsHeld a.held };
 }
 
-// Where a version is.
-fn place_of(marks: &[Marked], version: Version) -> Option<usize>
-    requires { Rises marks.now }
-    ensures found { IfSome result (IsPlace marks.now version) }
-    ensures absent { IfNone result (IsAbsent marks.now version) }
+fn entry_in(presence: Presence, name: Standee) -> Option<StandingEntry>
+    ensures { result ≡ entry_in presence name }
 {
-    let at = marks.partition_point(|m| m.entry.version < version);
-    if at >= marks.len() {
-        return None;
-    }
-    if marks[at].entry.version != version {
-        return None;
-    }
-    Some(at)
+    let told = match presence {
+        Presence::Free => return None,
+        Presence::Untold => false,
+        Presence::Told => true,
+    };
+    Some(StandingEntry {
+        version: name.version,
+        home: name.home,
+        told,
+    })
 }
 
-// The homes by version. Where a version is listed twice, the first one counts.
-fn homes_of(alloc: Global, standees: Vec<Standee>) -> Result<BTreeMap<Version, u32>, Memory>
-    ensures homes { IfOk result (λ homes. homes.entries ≡ homes_of standees.items) }
-    ensures ordered { IfOk result (λ homes. IsOrdered nat_cmp homes) }
+fn pair_in(first: Presence, second: Presence, first_name: Standee, second_name: Standee) -> Pair
+    ensures { result ≡ pair_in first second first_name second_name }
 {
-    let mut homes = BTreeMap::new(alloc);
-    let mut left = standees;
-    while let Some(standee) = left.pop() {
-        let _ = homes.insert(standee.version, standee.home)?;
-    }
-    Ok(homes)
-}
-
-// An entry for each of these homes, of which none was told.
-fn marks_of(alloc: Global, homes: &BTreeMap<Version, u32>) -> Result<Vec<Marked>, Memory>
-    ensures { IfOk result (λ marks. marks.items ≡ map mark_of homes.now.entries) }
-{
-    let mut marks = Vec::with_capacity(alloc, homes.len())?;
-    for (version, home) in homes.iter() {
-        marks.push(marked(*version, *home))?;
-    }
-    Ok(marks)
-}
-
-fn marked(version: Version, home: u32) -> Marked
-    ensures { result ≡ marked version home }
-{
-    Marked {
-        entry: StandingEntry {
-            version,
-            home,
-            told: false,
-        },
-        gone: false,
+    Pair {
+        first: entry_in(first, first_name),
+        second: entry_in(second, second_name),
     }
 }
 
-// Takes out the places of entries that are gone, where they are half of all or more.
-fn close_up(marks: &mut Vec<Marked>, left: u64)
-    ensures marks { (n top : ℕ) → AreMarks marks.old.items n top → AreMarks marks.new.items n top }
-    ensures kept { kept marks.new.items ≡ kept marks.old.items }
-    ensures length { length marks.new.items ≤ length marks.old.items }
-    ensures capacity { vec_capacity marks.new ≡ vec_capacity marks.old }
+// A place with this, in its two parts.
+fn parted(entry: Option<StandingEntry>) -> (Presence, Standee)
+    ensures { entry_in result.0 result.1 ≡ entry }
 {
-    if left > marks.len() as u64 / 2 {
-        return;
+    match entry {
+        None => (
+            Presence::Free,
+            Standee {
+                version: 0,
+                home: 0,
+            },
+        ),
+        Some(entry) => {
+            let presence = if entry.told {
+                Presence::Told
+            } else {
+                Presence::Untold
+            };
+            (
+                presence,
+                Standee {
+                    version: entry.version,
+                    home: entry.home,
+                },
+            )
+        }
     }
-    marks.retain(|m| !m.gone);
+}
+
+fn few(pair: Pair, room: u32) -> Held
+    requires { IsFew pair room }
+    ensures { Holds result (in_pair pair) room (top_of pair) }
+{
+    let (first, first_name) = parted(pair.first);
+    let (second, second_name) = parted(pair.second);
+    Held::Few {
+        first,
+        second,
+        room,
+        first_name,
+        second_name,
+    }
+}
+
+// Entries in place, with so much room: in a list where there is no place for it.
+fn with_room(alloc: Global, pair: Pair, room: u32) -> Result<Held, Memory>
+    requires { IsRising pair }
+    ensures { IfOk result (λ held. Holds held (in_pair pair) room (top_of pair)) }
+{
+    if room <= IN_PLACE && pair.len() <= IN_PLACE - room {
+        return Ok(few(pair, room));
+    }
+    let list = EntryList::of_pair(alloc, pair, room)?;
+    Ok(Held::Many {
+        room,
+        list: Box::new(alloc, list)?,
+    })
 }
 
 impl Entries {
-    /// No entries, and room for one.
-    pub fn with_room(alloc: Global) -> Result<Entries, Memory>
-        ensures { IfOk result (λ entries. (entries.items ≡ []) × (1 ≤ entries.room)
-            × (entries.top ≡ 0)) }
+    /// No entries, and no room.
+    pub fn empty() -> Entries
+        ensures { result ≡ record { items = []; room = 0; top = 0 } }
     {
-        Ok(Entries {
-            marks: Vec::with_capacity(alloc, 1)?,
-            left: 0,
-            top: 0,
-        })
+        Entries {
+            held: few(Pair::empty(), 0),
+        }
     }
 
-    /// The entries of a start, of which none is above `top`.
-    pub fn of(alloc: Global, standees: Vec<Standee>, top: Version) -> Result<Entries, Memory>
-        requires { AllByRecursion (λ s. s.version ≤ top) standees.items }
-        ensures items { IfOk result (λ entries. entries.items ≡ by_version standees.items) }
-        ensures top { IfOk result (λ entries. entries.top ≡ top) }
+    /// One entry at most, and room for one more.
+    pub fn of_one(only: Option<StandingEntry>) -> Entries
+        ensures items { result.items ≡ list_of only }
+        ensures room { result.room ≡ 1 }
+        ensures top { (v : ℕ) → AllByRecursion (λ s. s.version ≤ v) (list_of only) → result.top ≤ v }
     {
-        let homes = homes_of(alloc, standees)?;
-        let marks = marks_of(alloc, &homes)?;
-        Ok(Entries {
-            left: marks.len() as u64,
-            marks,
-            top,
-        })
-    }
-
-    /// The one entry of a start, where it stands, and room for one more.
-    pub fn of_one(
-        alloc: Global,
-        only: Option<StandingEntry>,
-        top: Version,
-    ) -> Result<Entries, Memory>
-        requires { AllByRecursion (λ s. s.version ≤ top) (list_of only) }
-        ensures items { IfOk result (λ entries. entries.items ≡ list_of only) }
-        ensures room { IfOk result (λ entries. 1 ≤ entries.room) }
-        ensures top { IfOk result (λ entries. entries.top ≡ top) }
-    {
-        let Some(entry) = only else {
-            return Ok(Entries {
-                marks: Vec::with_capacity(alloc, 1)?,
-                left: 0,
-                top,
-            });
+        let pair = Pair {
+            first: only,
+            second: None,
         };
-        let mut marks = Vec::with_capacity(alloc, 2)?;
-        marks.push(Marked { entry, gone: false })?;
+        Entries { held: few(pair, 1) }
+    }
+
+    /// The entries of a start, of which none is above `top`, and no room.
+    pub fn of(alloc: Global, standees: &[Standee], top: Version) -> Result<Entries, Memory>
+        requires { AllByRecursion (λ s. s.version ≤ top) standees.now }
+        ensures items { IfOk result (λ entries. entries.items ≡ by_version standees.now) }
+        ensures room { IfOk result (λ entries. entries.room ≡ 0) }
+        ensures top { IfOk result (λ entries. entries.top ≤ top) }
+    {
+        if let Some(pair) = Pair::of(standees) {
+            return Ok(Entries { held: few(pair, 0) });
+        }
+        let list = EntryList::of(alloc, standees, top)?;
         Ok(Entries {
-            marks,
-            left: 1,
-            top,
+            held: Held::Many {
+                room: 0,
+                list: Box::new(alloc, list)?,
+            },
         })
     }
 
-    /// Makes room for so many more, first of all by closing up, where no more than half of the places stand.
-    pub fn reserve(&mut self, room: u64) -> Result<(), Memory>
-        ensures ok { OnOk result (room ≤ self.new.room) }
-        ensures keeps { Keeps self.old self.new }
+    /// Makes room for one more.
+    pub fn reserve(&mut self, alloc: Global) -> Result<(), Memory>
+        ensures ok { OnOk result (self.new.room ≡ self.old.room + 1) }
+        ensures err { OnErr result (self.new.room ≡ self.old.room) }
+        ensures items { self.new.items ≡ self.old.items }
+        ensures top { self.new.top ≡ self.old.top }
     {
-        close_up(&mut self.marks, self.left);
-        self.marks.reserve(room as usize)?;
-        Ok(())
+        match &mut self.held {
+            Held::Few {
+                first,
+                second,
+                room,
+                first_name,
+                second_name,
+            } => {
+                let pair = pair_in(*first, *second, *first_name, *second_name);
+                let more = room.checked_add(1).ok_or(Memory)?;
+                self.held = with_room(alloc, pair, more)?;
+                Ok(())
+            }
+            Held::Many { room, list } => {
+                let more = room.checked_add(1).ok_or(Memory)?;
+                list.reserve(u64::from(more))?;
+                *room = more;
+                Ok(())
+            }
+        }
+    }
+
+    /// Gives back the room for one.
+    pub fn give_back(&mut self)
+        requires { 0 < self.old.room }
+        ensures items { self.new.items ≡ self.old.items }
+        ensures top { self.new.top ≡ self.old.top }
+        ensures room { self.new.room ≡ self.old.room - 1 }
+    {
+        match &mut self.held {
+            Held::Few { room, .. } => *room -= 1,
+            Held::Many { room, .. } => *room -= 1,
+        }
+    }
+
+    /// For how many more there is room.
+    pub fn room(&self) -> u32
+        ensures { result ≡ self.now.room }
+    {
+        match &self.held {
+            Held::Few { room, .. } => *room,
+            Held::Many { room, .. } => *room,
+        }
     }
 
     /// How many stand.
     pub fn len(&self) -> u64
         ensures { result ≡ length self.now.items }
     {
-        self.left
+        match &self.held {
+            Held::Few {
+                first,
+                second,
+                first_name,
+                second_name,
+                ..
+            } => u64::from(pair_in(*first, *second, *first_name, *second_name).len()),
+            Held::Many { list, .. } => list.len(),
+        }
     }
 
     /// The entry of a version, where it stands.
     pub fn find(&self, version: Version) -> Option<StandingEntry>
         ensures { result ≡ standing_at self.now.items version }
     {
-        let Some(place) = place_of(&self.marks, version) else {
-            return None;
-        };
-        let found = self.marks[place];
-        if found.gone { None } else { Some(found.entry) }
+        match &self.held {
+            Held::Few {
+                first,
+                second,
+                first_name,
+                second_name,
+                ..
+            } => pair_in(*first, *second, *first_name, *second_name).find(version),
+            Held::Many { list, .. } => list.find(version),
+        }
     }
 
     /// Whether no other version stands.
     pub fn stands_alone(&self, version: Version) -> bool
         ensures { result ≡ stands_alone self.now.items version }
     {
-        self.left == 0 || (self.left == 1 && self.find(version).is_some())
+        match &self.held {
+            Held::Few {
+                first,
+                second,
+                first_name,
+                second_name,
+                ..
+            } => pair_in(*first, *second, *first_name, *second_name).stands_alone(version),
+            Held::Many { list, .. } => list.stands_alone(version),
+        }
     }
 
-    /// Adds an entry of a later version.
+    /// Adds an entry of a later version, for which there is room.
     pub fn push(&mut self, version: Version, home: u32)
         requires later { self.old.top < version }
         requires room { 0 < self.old.room }
         ensures items { self.new.items ≡ self.old.items ++ standing_with version home false ∷ [] }
         ensures top { self.new.top ≡ version }
-        ensures room { self.old.room ≤ self.new.room + 1 }
+        ensures room { self.new.room ≡ self.old.room - 1 }
     {
-        self.marks.push(marked(version, home)).unwrap();
-        self.left += 1;
-        self.top = version;
+        match &mut self.held {
+            Held::Few {
+                first,
+                second,
+                room,
+                first_name,
+                second_name,
+            } => {
+                let pair = pair_in(*first, *second, *first_name, *second_name);
+                let less = *room - 1;
+                self.held = few(pair.with(version, home), less);
+            }
+            Held::Many { room, list } => {
+                list.push(version, home);
+                *room -= 1;
+            }
+        }
     }
 
     /// Notes that the death of a version was told.
@@ -216,43 +288,72 @@ impl Entries {
         ensures top { self.new.top ≡ self.old.top }
         ensures room { self.new.room ≡ self.old.room }
     {
-        let Some(place) = place_of(&self.marks, version) else {
-            return;
-        };
-        self.marks[place].entry.told = true;
+        match &mut self.held {
+            Held::Few {
+                first,
+                second,
+                room,
+                first_name,
+                second_name,
+            } => {
+                let pair = pair_in(*first, *second, *first_name, *second_name);
+                let room = *room;
+                self.held = few(pair.told(version), room);
+            }
+            Held::Many { list, .. } => list.tell(version),
+        }
     }
 
     /// Takes a version out.
     pub fn take_out(&mut self, version: Version)
         ensures items { self.new.items ≡ others version self.old.items }
-        ensures top { self.new.top ≡ self.old.top }
+        ensures top { self.new.top ≤ self.old.top }
         ensures room { self.new.room ≡ self.old.room }
     {
-        let Some(place) = place_of(&self.marks, version) else {
-            return;
-        };
-        if self.marks[place].gone {
-            return;
+        match &mut self.held {
+            Held::Few {
+                first,
+                second,
+                room,
+                first_name,
+                second_name,
+            } => {
+                let pair = pair_in(*first, *second, *first_name, *second_name);
+                let room = *room;
+                self.held = few(pair.without(version), room);
+            }
+            Held::Many { list, .. } => list.take_out(version),
         }
-        self.marks[place].gone = true;
-        self.left -= 1;
     }
 
     /// Takes all out.
     pub fn clear(&mut self)
         ensures items { self.new.items ≡ [] }
         ensures top { self.new.top ≡ 0 }
-        ensures room { self.old.room ≤ self.new.room }
+        ensures room { self.new.room ≡ self.old.room }
     {
-        self.marks.clear();
-        self.left = 0;
-        self.top = 0;
+        match &mut self.held {
+            Held::Few { room, .. } => {
+                let room = *room;
+                self.held = few(Pair::empty(), room);
+            }
+            Held::Many { list, .. } => list.clear(),
+        }
     }
 
-    /// The places.
-    pub fn marks(&self) -> &[Marked]
-        ensures { kept result.now ≡ self.now.items }
+    /// The entries in place, and the places of the list.
+    pub fn parts(&self) -> (Pair, &[Marked])
+        ensures { self.now.items ≡ in_pair result.0 ++ kept result.1.now }
     {
-        &self.marks
+        match &self.held {
+            Held::Few {
+                first,
+                second,
+                first_name,
+                second_name,
+                ..
+            } => (pair_in(*first, *second, *first_name, *second_name), &[]),
+            Held::Many { list, .. } => (Pair::empty(), list.marks()),
+        }
     }
 }

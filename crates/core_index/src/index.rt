@@ -12,13 +12,12 @@ use crate::death_notes::{next_dead, note_dead};
 use crate::death_notices::DeathNotices;
 use crate::key_slot::KeySlot;
 use crate::live_keys::live_in;
-use crate::map::{enter_at, settle_at};
+use crate::slot_map::{SlotMap, enter_at, settle_at};
 use crate::start_keys::StartKeys;
-use crate::types::{Look, Record, Spent, Standee};
+use crate::types::{Look, NAMES_OF_CHANGE, Record, Spent, Standee};
 use fs_model::{Key, Memory, Version};
 use log_entry::{Body, Entry, EntryName, LAST_PUT_VERSION};
 use std::alloc::Global;
-use std::collections::BTreeMap;
 use std::marker::Model;
 
 /// The keys of one core: for each its last version, the value or block that this left, and the entries that
@@ -26,7 +25,7 @@ use std::marker::Model;
 /// its last version, takes twelve bytes until it is changed where it was deleted, and 24 beside its value else.
 #[derive(Drop)]
 pub struct CoreIndex {
-    slots: BTreeMap<Key, KeySlot>,
+    slots: SlotMap,
     start: StartKeys,
     notices: DeathNotices,
 }
@@ -56,7 +55,13 @@ impl CoreIndex {
         let mut index = CoreIndex::empty(alloc)?;
         let mut left = records;
         while let Some(record) = left.pop() {
-            index.enter_record(alloc, record)?;
+            let Record {
+                key,
+                version,
+                body,
+                standing,
+            } = record;
+            index.enter_known(alloc, key, version, body, &standing)?;
         }
         Ok(index)
     }
@@ -67,7 +72,7 @@ impl CoreIndex {
         ensures room { IfOk result (λ index. (k : ℕ) → room_at index k ≡ 0) }
     {
         Ok(CoreIndex {
-            slots: BTreeMap::new(alloc),
+            slots: SlotMap::empty(alloc),
             start: StartKeys::empty(alloc),
             notices: DeathNotices::open(alloc)?,
         })
@@ -94,23 +99,25 @@ impl CoreIndex {
         if let Some(live) = compact_live(&self.slots, &self.start, key, version, body, standing) {
             return self.start.add_live(live, body);
         }
-        let start = Record {
-            key,
-            version,
-            body: copy_of(alloc, body)?,
-            standing: Vec::from_slice(alloc, standing)?,
-        };
-        self.enter_record(alloc, start)
+        let copy = copy_of(alloc, body)?;
+        self.enter_known(alloc, key, version, copy, standing)
     }
 
-    // Puts a record into the map, in place of anything that its key has.
-    fn enter_record(&mut self, alloc: Global, start: Record) -> Result<(), Memory>
-        requires { HasNoneAbove start }
-        ensures { OnOk result (EntersAs self.old self.new start.key (opened start)) }
+    // Puts what is known of a key into the map, in place of anything that it has.
+    fn enter_known(
+        &mut self,
+        alloc: Global,
+        key: Key,
+        version: Version,
+        body: Body,
+        standing: &[Standee],
+    ) -> Result<(), Memory>
+        requires { AllByRecursion (λ s. s.version ≤ version) standing.now }
+        ensures { OnOk result (EntersAs self.old self.new key
+            (opened_with version body standing.now)) }
     {
-        let key = start.key;
-        let slot = KeySlot::of(alloc, start)?;
-        self.notices.reserve(slot.len())?;
+        let slot = KeySlot::of(alloc, version, body, standing)?;
+        self.notices.reserve(slot.names())?;
         slot.note_dead(key, &mut self.notices);
         enter_at(&mut self.slots, key, slot)?;
         self.start.clear(key);
@@ -125,7 +132,7 @@ impl CoreIndex {
         ensures untold { all_untold self.new ≤ all_untold self.old }
         ensures err { OnErr result (self.new ≡ self.old) }
     {
-        self.notices.reserve(1 + self.start.count_alive(key))?;
+        self.notices.reserve(NAMES_OF_CHANGE)?;
         admit_at(alloc, &mut self.slots, &mut self.start, key)
     }
 
@@ -136,7 +143,7 @@ impl CoreIndex {
     {
         if self.room(key) > 0 {
             give_back_in(&mut self.slots, &mut self.start, key);
-            self.notices.give_back();
+            self.notices.give_back(NAMES_OF_CHANGE);
         }
     }
 
@@ -144,7 +151,7 @@ impl CoreIndex {
     pub fn room(&self, key: Key) -> u64
         ensures { result ≡ room_at self.now key }
     {
-        match self.slots.get(&key) {
+        match self.slots.get(key) {
             None => 0,
             Some(slot) => slot.room(),
         }
@@ -154,7 +161,7 @@ impl CoreIndex {
     pub fn look(&self, key: Key) -> Look<'_>
         ensures { Shows (known_at self.now key) result }
     {
-        match self.slots.get(&key) {
+        match self.slots.get(key) {
             None => self.start.look(key),
             Some(slot) => slot.look(),
         }
@@ -163,7 +170,7 @@ impl CoreIndex {
     fn last(&self, key: Key) -> Version
         ensures { result ≡ last_of (known_at self.now key) }
     {
-        match self.slots.get(&key) {
+        match self.slots.get(key) {
             None => self.start.last(key),
             Some(slot) => slot.last(),
         }
@@ -202,6 +209,7 @@ impl CoreIndex {
         let Entry { key, version, body } = entry;
         let settled = settle_at(&mut self.slots, key, version, body, home);
         note_dead(&mut self.notices, key, settled.dead);
+        self.notices.give_back(settled.spared);
         settled.replaced
     }
 
@@ -223,15 +231,16 @@ impl CoreIndex {
         ensures untold { all_untold self.new ≤ all_untold self.old }
         ensures room { SameRoom self.old self.new }
     {
-        let dead = gone_in(&mut self.slots, &mut self.start, name);
-        note_dead(&mut self.notices, name.key, dead);
+        let gone = gone_in(&mut self.slots, &mut self.start, name);
+        note_dead(&mut self.notices, name.key, gone.dead);
+        self.notices.give_back(gone.spared);
     }
 
     /// Whether the key has a record, is deleted, and has no standing entry.
     pub fn forgettable(&self, key: Key) -> bool
         ensures { result ≡ is_forgettable (known_at self.now key) }
     {
-        match self.slots.get(&key) {
+        match self.slots.get(key) {
             None => self.start.is_forgettable(key),
             Some(slot) => slot.is_forgettable(),
         }
@@ -241,7 +250,7 @@ impl CoreIndex {
     pub fn is_dead(&self, name: EntryName) -> bool
         ensures { result ≡ is_dead_in (known_at self.now name.key) name.version }
     {
-        match self.slots.get(&name.key) {
+        match self.slots.get(name.key) {
             None => self.start.is_dead(name),
             Some(slot) => slot.is_dead(name.version),
         }

@@ -1,107 +1,126 @@
 // What the index keeps of one key.
-ghost use Rattle.std.specs.Prelude.{◌≡◌, ◌+◌, ◌-◌, ◌<◌, ◌≤◌, ◌∷◌, ℕ, Some, None, [], true, false, if◌then◌else◌, option_map, length, IfOk, IfSome, OnOk, OnErr, IsTrue};
+ghost use Rattle.std.specs.Prelude.{◌≡◌, ◌+◌, ◌-◌, ◌<◌, ◌≤◌, ◌∷◌, ℕ, Some, None, [], true, false, option_map, length, IfOk, IfSome, OnOk, OnErr, IsTrue};
 ghost use Rattle.std.specs.Bool.{Decides};
 ghost use Rattle.std.specs.List.{AllByRecursion};
 ghost use Rattle.log_entry.specs.declared.entry.EntryName.{EntryName};
 ghost use Rattle.core_index.specs.Marks.{kept};
-ghost use Rattle.core_index.specs.Noted.{Noted, NotedIfDead, count_lively, name_with};
-ghost use Rattle.core_index.specs.Records.{Awaits, is_dead, is_dead_in, standing_of, Shows, settled, opened, told_in, without, last_of, block_of, is_forgettable, live_version};
-ghost use Rattle.core_index.specs.Tombs.{tomb_version, left_of, list_of, standing_left, delete_at};
-ghost use Rattle.core_index.specs.Slots.{alive_at, home_alive, record_with, known_with, mortal, count_of, count_dead, dead_by, died, is_bare, OnlyDead, TellsOne};
+ghost use Rattle.core_index.specs.Noted.{Noted, NotedIfDead, count_dead_in, deaths_of, name_with};
+ghost use Rattle.core_index.specs.Records.{Awaits, KeyRecord, list_of, dies_of, is_dead_in, is_deleted, standing_of, Shows, settled, opened_with, told_in, without, last_of, block_of, is_forgettable, live_version};
+ghost use Rattle.core_index.specs.Pairs.{in_pair};
+ghost use Rattle.core_index.specs.Tombs.{left_of, standing_left};
+ghost use Rattle.core_index.specs.Slots.{alive_at, change_in, mortal, lone_deaths, count_dead, dead_by, died, is_bare, OnlyDead, TellsOne};
 
-use crate::dead_entries::{awaits, is_dead, is_tombstone};
+use crate::dead_entries::{alive_in, is_dead};
 use crate::death_notices::DeathNotices;
 use crate::entries::Entries;
 use crate::tombstones::{home_of, version_of};
 use crate::types::{
-    ChangeEffect, Fate, LastChange, Look, Marked, Record, Standee, StandingEntry, Tombstone,
+    ChangeEffect, Fate, GoneEffect, Head, Look, Marked, NAMES_OF_CHANGE, Pair, Standee,
+    StandingEntry, Tombstone,
 };
 use fs_model::{Key, Memory, Version};
 use log_entry::{Body, EntryName};
 use std::alloc::Global;
 use std::marker::Model;
-use std::mem::replace;
 
-/// A key's record, where it has one, and room for so many changes to come. No call but `with_room`, `of` and
+/// A key's record, where it has one, and room for so many changes to come. It takes 56 bytes. No call but `of` and
 /// `reserve` takes memory.
 #[derive(Drop)]
 pub struct KeySlot {
-    head: Option<LastChange>,
+    head: Head,
     standing: Entries,
-    room: u64,
-    // The home of the last version's entry, where it stands and is not dead.
-    alive: Option<u32>,
 }
 
 impl Model for KeySlot {
-    ghost use Rattle.core_index.specs.Slots.{Place, known_with, IsSlot};
+    ghost use Rattle.core_index.specs.Slots.{Place, known_with, change_in, IsSlot};
 
     ghost Value = { Place };
 
-    ghost view = { λ a. record { known = known_with a.head a.standing.items; room = a.room } };
+    ghost view = { λ a. record {
+      known = known_with (change_in a.head) a.standing.items;
+      room = a.standing.room;
+    } };
 
-    ghost invariant = { λ a. IsSlot a.head a.standing a.room a.alive };
+    ghost invariant = { λ a. IsSlot (change_in a.head) a.standing };
 }
 
 impl KeySlot {
-    /// No record, and room for one change.
-    pub fn with_room(alloc: Global) -> Result<KeySlot, Memory>
-        ensures { IfOk result (λ slot. slot ≡ record { known = None; room = 1 }) }
+    /// Neither a record nor room.
+    pub fn bare() -> KeySlot
+        ensures { result ≡ record { known = None; room = 0 } }
     {
-        Ok(KeySlot {
-            head: None,
-            standing: Entries::with_room(alloc)?,
-            room: 1,
-            alive: None,
-        })
+        KeySlot {
+            head: Head::Absent,
+            standing: Entries::empty(),
+        }
+    }
+
+    /// No record, and room for one change.
+    pub fn with_room() -> KeySlot
+        ensures { result ≡ record { known = None; room = 1 } }
+    {
+        KeySlot {
+            head: Head::Absent,
+            standing: Entries::of_one(None),
+        }
     }
 
     /// A record at the start, with no room.
-    pub fn of(alloc: Global, start: Record) -> Result<KeySlot, Memory>
-        requires { AllByRecursion (λ s. s.version ≤ start.version) start.standing.items }
-        ensures { IfOk result (λ slot. slot ≡ record { known = Some (opened start); room = 0 }) }
+    pub fn of(
+        alloc: Global,
+        version: Version,
+        body: Body,
+        standing: &[Standee],
+    ) -> Result<KeySlot, Memory>
+        requires { AllByRecursion (λ s. s.version ≤ version) standing.now }
+        ensures { IfOk result (λ slot. slot ≡ record {
+          known = Some (opened_with version body standing.now);
+          room = 0;
+        }) }
     {
-        let standing = Entries::of(alloc, start.standing, start.version)?;
-        let head = LastChange {
-            version: start.version,
-            body: start.body,
-        };
-        let alive = alive_in(&head, &standing);
         Ok(KeySlot {
-            head: Some(head),
-            standing,
-            room: 0,
-            alive,
+            standing: Entries::of(alloc, standing, version)?,
+            head: head_of(version, body),
         })
+    }
+
+    /// A record of which one entry stands at most, and room for one change.
+    pub fn of_one(version: Version, body: Body, only: Option<StandingEntry>) -> KeySlot
+        requires { AllByRecursion (λ s. s.version ≤ version) (list_of only) }
+        ensures { result ≡ record {
+          known = Some (record { version = version; body = body; standing = list_of only });
+          room = 1;
+        } }
+    {
+        KeySlot {
+            head: head_of(version, body),
+            standing: Entries::of_one(only),
+        }
     }
 
     /// What there is of a key that was deleted before the start, and room for one change.
-    pub fn of_tombstone(alloc: Global, tombstone: &Tombstone) -> Result<KeySlot, Memory>
-        ensures { IfOk result (λ slot. slot ≡ record { known = left_of tombstone.now; room = 1 }) }
+    pub fn of_tombstone(tombstone: &Tombstone) -> KeySlot
+        ensures { result ≡ record { known = left_of tombstone.now; room = 1 } }
     {
-        let Some(head) = head_of(tombstone) else {
-            return KeySlot::with_room(alloc);
-        };
-        Ok(KeySlot {
-            head: Some(head),
-            standing: Entries::of_one(alloc, standing_of(tombstone), version_of(tombstone))?,
-            room: 1,
-            alive: None,
-        })
+        match tombstone.fate {
+            Fate::Moved => KeySlot::with_room(),
+            _ => KeySlot::of_one(
+                version_of(tombstone),
+                Body::Tombstone,
+                standing_of(tombstone),
+            ),
+        }
     }
 
     /// Makes room for one more change.
-    pub fn reserve(&mut self) -> Result<(), Memory>
+    pub fn reserve(&mut self, alloc: Global) -> Result<(), Memory>
         ensures ok { OnOk result (self.new ≡ record {
           known = self.old.known;
           room = self.old.room + 1;
         }) }
         ensures err { OnErr result (self.new ≡ self.old) }
     {
-        let room = self.room.checked_add(1).ok_or(Memory)?;
-        self.standing.reserve(room)?;
-        self.room = room;
-        Ok(())
+        self.standing.reserve(alloc)
     }
 
     /// The last version, or 0 where there is no record.
@@ -109,38 +128,66 @@ impl KeySlot {
         ensures { result ≡ last_of self.now.known }
     {
         match &self.head {
-            None => 0,
-            Some(head) => head.version,
+            Head::Absent => 0,
+            Head::Block { version, .. } => *version,
+            Head::Embedded { version, .. } => *version,
+            Head::Deleted { version } => *version,
         }
+    }
+
+    // Whether the last change was a delete.
+    fn is_deleted(&self) -> bool
+        ensures { result ≡ is_deleted self.now.known }
+    {
+        matches!(&self.head, Head::Deleted { .. })
+    }
+
+    // The block of the value.
+    fn block(&self) -> Option<u64>
+        ensures { result ≡ block_of self.now.known }
+    {
+        match &self.head {
+            Head::Block { pointer, .. } => Some(*pointer),
+            _ => None,
+        }
+    }
+
+    // Whether a version that stands is dead.
+    fn dies(&self, version: Version) -> bool
+        ensures { result ≡ dies_of self.now.known version }
+    {
+        is_dead(self.last(), self.is_deleted(), &self.standing, version)
     }
 
     /// Whether a version stands and is dead.
     pub fn is_dead(&self, version: Version) -> bool
         ensures { result ≡ is_dead_in self.now.known version }
     {
-        match &self.head {
-            None => false,
-            Some(head) => {
-                self.standing.find(version).is_some() && is_dead(head, &self.standing, version)
-            }
-        }
+        self.standing.find(version).is_some() && self.dies(version)
     }
 
     /// Whether the key is deleted and nothing of it stands.
     pub fn is_forgettable(&self) -> bool
         ensures { result ≡ is_forgettable self.now.known }
     {
-        match &self.head {
-            None => false,
-            Some(head) => is_tombstone(&head.body) && self.standing.len() == 0,
-        }
+        self.is_deleted() && self.standing.len() == 0
     }
 
-    /// The home of the last version's entry, where it stands and is not dead.
-    pub fn alive(&self) -> Option<u32>
+    // The home of the last version's entry, where it stands and is not dead.
+    fn alive(&self) -> Option<u32>
         ensures { result ≡ alive_at self.now.known }
     {
-        self.alive
+        alive_in(self.last(), self.is_deleted(), &self.standing)
+    }
+
+    // Whether an entry may die without a change.
+    fn lone_deaths(&self) -> u64
+        ensures { result ≡ lone_deaths self.now.known }
+    {
+        match (self.is_deleted(), self.alive()) {
+            (true, Some(_)) => 1,
+            _ => 0,
+        }
     }
 
     /// Records a finished change.
@@ -154,29 +201,46 @@ impl KeySlot {
         } }
         ensures replaced { result.replaced ≡ block_of self.old.known }
         ensures dead { OnlyDead self.old.known self.new.known result.dead }
-        ensures mortal { mortal self.new + count_dead result.dead ≤ mortal self.old }
+        ensures mortal { mortal self.new + count_dead result.dead + result.spared
+            ≡ mortal self.old }
     {
+        let replaced = self.block();
         let last = self.last();
-        let before = self.alive;
-        self.standing.push(version, home);
-        self.room -= 1;
-        let head = LastChange { version, body };
-        self.alive = alive_at_end(&head, &self.standing, home);
-        let dead = dead_by(Standee { version, home }, last, before, self.alive);
-        let old = replace(&mut self.head, Some(head));
+        let before = self.alive();
+        let lone = self.lone_deaths();
+        self.change(version, body, home);
+        let dead = dead_by(Standee { version, home }, last, before, self.alive());
+        let needed = self.lone_deaths() + count_dead(dead);
         ChangeEffect {
-            replaced: block_in(old),
+            replaced,
             dead,
+            spared: NAMES_OF_CHANGE + lone - needed,
         }
+    }
+
+    // The same of the record alone.
+    fn change(&mut self, version: Version, body: Body, home: u32)
+        requires room { 0 < self.old.room }
+        requires next { version ≡ last_of self.old.known + 1 }
+        ensures settled { self.new ≡ record {
+          known = Some
+              (settled self.old.known version body home);
+          room = self.old.room - 1;
+        } }
+        ensures dead { OnlyDead self.old.known self.new.known (dead_by version home
+            (last_of self.old.known) (alive_at self.old.known) (alive_at self.new.known)) }
+    {
+        self.standing.push(version, home);
+        self.head = head_of(version, body);
     }
 
     // Whether an entry is dead and waits to be told to its home.
     fn awaits(&self, version: Version, home: u32) -> bool
         ensures { Decides result (Awaits self.now.known home version) }
     {
-        match &self.head {
+        match self.standing.find(version) {
             None => false,
-            Some(head) => awaits(head, &self.standing, version, home),
+            Some(entry) => entry.home == home && !entry.told && self.dies(version),
         }
     }
 
@@ -195,33 +259,39 @@ impl KeySlot {
     }
 
     /// Takes an entry out of those that stand. Gives the entry that died by it.
-    pub fn gone(&mut self, version: Version) -> Option<Standee>
+    pub fn gone(&mut self, version: Version) -> GoneEffect
         ensures gone { self.new ≡ record {
           known = option_map (without version) self.old.known;
           room = self.old.room;
         } }
-        ensures dead { OnlyDead self.old.known self.new.known result }
-        ensures mortal { mortal self.new + count_dead result ≤ mortal self.old }
+        ensures dead { OnlyDead self.old.known self.new.known result.dead }
+        ensures mortal { mortal self.new + count_dead result.dead + result.spared
+            ≡ mortal self.old }
     {
         let last = self.last();
-        let before = self.alive;
+        let before = self.alive();
+        let lone = self.lone_deaths();
         self.standing.take_out(version);
-        self.alive = alive_of(&self.head, &self.standing);
-        died(version, last, before, self.alive)
+        let dead = died(version, last, before, self.alive());
+        let needed = self.lone_deaths() + count_dead(dead);
+        GoneEffect {
+            dead,
+            spared: lone - needed,
+        }
     }
 
     /// Notes each entry that is dead and was not told.
     pub fn note_dead(&self, key: Key, notices: &mut DeathNotices)
-        requires { length (standing_of self.now.known) ≤ notices.old.spare }
+        requires { deaths_of self.now.known ≤ notices.old.spare }
         ensures noted { (v h : ℕ) → Awaits self.now.known h v
             → Noted notices.new h (name_with key v) }
         ensures kept { (h : ℕ) (n : EntryName) → Noted notices.old h n → Noted notices.new h n }
-        ensures spare { notices.old.spare + count_of (alive_at self.now.known) ≤ notices.new.spare
-            + length (standing_of self.now.known) }
+        ensures spare { notices.old.spare ≤ notices.new.spare + deaths_of self.now.known }
     {
-        if let Some(head) = &self.head {
-            note_all(head, &self.standing, self.standing.marks(), key, notices);
-        }
+        let (pair, marks) = self.standing.parts();
+        self.note(pair.first, key, notices);
+        self.note(pair.second, key, notices);
+        self.note_marks(marks, key, notices);
     }
 
     /// Takes out the record of a key that is deleted and of which nothing stands.
@@ -229,13 +299,23 @@ impl KeySlot {
         requires { IsTrue (is_forgettable self.old.known) }
         ensures { self.new ≡ record { known = None; room = self.old.room } }
     {
-        self.head = None;
+        self.head = Head::Absent;
         self.standing.clear();
-        self.alive = None;
     }
 
-    /// How many entries stand.
-    pub fn len(&self) -> u64
+    /// For how many entries a name is noted, or may have to be without a change to come.
+    pub fn names(&self) -> u64
+        ensures { deaths_of self.now.known + lone_deaths self.now.known ≤ result }
+    {
+        // The entry of a value that is alive dies by a change to come alone.
+        match (self.alive(), self.live_version()) {
+            (Some(_), Some(_)) => self.len() - 1,
+            _ => self.len(),
+        }
+    }
+
+    // How many entries stand.
+    fn len(&self) -> u64
         ensures { result ≡ length (standing_of self.now.known) }
     {
         self.standing.len()
@@ -246,21 +326,21 @@ impl KeySlot {
         requires { 0 < self.old.room }
         ensures { self.new ≡ record { known = self.old.known; room = self.old.room - 1 } }
     {
-        self.room -= 1;
+        self.standing.give_back();
     }
 
     /// Whether there is neither a record nor room.
     pub fn is_bare(&self) -> bool
         ensures { result ≡ is_bare self.now }
     {
-        self.room == 0 && self.head.is_none()
+        self.room() == 0 && matches!(&self.head, Head::Absent)
     }
 
     /// How many changes there is room for.
     pub fn room(&self) -> u64
         ensures { result ≡ self.now.room }
     {
-        self.room
+        u64::from(self.standing.room())
     }
 
     /// The last version, where the key has a value.
@@ -268,14 +348,9 @@ impl KeySlot {
         ensures { result ≡ live_version self.now.known }
     {
         match &self.head {
-            None => None,
-            Some(head) => {
-                if is_tombstone(&head.body) {
-                    None
-                } else {
-                    Some(head.version)
-                }
-            }
+            Head::Block { version, .. } => Some(*version),
+            Head::Embedded { version, .. } => Some(*version),
+            _ => None,
         }
     }
 
@@ -284,28 +359,64 @@ impl KeySlot {
         ensures { Shows self.now.known result }
     {
         match &self.head {
-            None => Look::Unknown,
-            Some(head) => match &head.body {
-                Body::Tombstone => Look::Deleted,
-                Body::Pointer(pointer) => Look::Block(*pointer),
-                Body::Embedded(value) => Look::Embedded(value.bytes()),
-            },
+            Head::Absent => Look::Unknown,
+            Head::Deleted { .. } => Look::Deleted,
+            Head::Block { pointer, .. } => Look::Block(*pointer),
+            Head::Embedded { value, .. } => Look::Embedded(value.bytes()),
+        }
+    }
+
+    // Notes an entry, where it is dead.
+    fn note(&self, entry: Option<StandingEntry>, key: Key, notices: &mut DeathNotices)
+        requires { count_dead_in self.now.known (list_of entry) ≤ notices.old.spare }
+        ensures noted { AllByRecursion (NotedIfDead notices.new key self.now.known)
+            (list_of entry) }
+        ensures kept { (h : ℕ) (n : EntryName) → Noted notices.old h n → Noted notices.new h n }
+        ensures spare { notices.old.spare ≤ notices.new.spare
+            + count_dead_in self.now.known (list_of entry) }
+    {
+        let Some(entry) = entry else {
+            return;
+        };
+        if self.dies(entry.version) {
+            let name = EntryName {
+                key,
+                version: entry.version,
+            };
+            notices.push(entry.home, name);
+        }
+    }
+
+    // Notes each of these entries that is dead.
+    fn note_marks(&self, marks: &[Marked], key: Key, notices: &mut DeathNotices)
+        requires { count_dead_in self.now.known (kept marks.now) ≤ notices.old.spare }
+        ensures noted { AllByRecursion (NotedIfDead notices.new key self.now.known)
+            (kept marks.now) }
+        ensures kept { (h : ℕ) (n : EntryName) → Noted notices.old h n → Noted notices.new h n }
+        ensures spare { notices.old.spare ≤ notices.new.spare
+            + count_dead_in self.now.known (kept marks.now) }
+    {
+        for mark in marks {
+            self.note(entry_of(mark), key, notices);
         }
     }
 }
 
-// The last change of such a key, where its record is not elsewhere.
-fn head_of(tombstone: &Tombstone) -> Option<LastChange>
-    ensures known { known_with result (list_of (standing_left tombstone.now))
-        ≡ left_of tombstone.now }
-    ensures head { IfSome result (λ h. h ≡ delete_at (tomb_version tombstone.now)) }
+// The entry of a place, where it stands.
+fn entry_of(mark: &Marked) -> Option<StandingEntry>
+    ensures { list_of result ≡ kept (mark.now ∷ []) }
 {
-    match tombstone.fate {
-        Fate::Moved => None,
-        _ => Some(LastChange {
-            version: version_of(tombstone),
-            body: Body::Tombstone,
-        }),
+    if mark.gone { None } else { Some(mark.entry) }
+}
+
+// The last change with what it left.
+fn head_of(version: Version, body: Body) -> Head
+    ensures { change_in result ≡ Some (record { version = version; body = body }) }
+{
+    match body {
+        Body::Tombstone => Head::Deleted { version },
+        Body::Pointer(pointer) => Head::Block { version, pointer },
+        Body::Embedded(value) => Head::Embedded { version, value },
     }
 }
 
@@ -339,6 +450,15 @@ fn dead_by(own: Standee, last: Version, before: Option<u32>, after: Option<u32>)
     }
 }
 
+fn count_dead(dead: Option<Standee>) -> u64
+    ensures { result ≡ count_dead dead }
+{
+    match dead {
+        None => 0,
+        Some(_) => 1,
+    }
+}
+
 // The entry of the last version, where it was alive and is no more, and is not the one that went.
 fn died(version: Version, last: Version, before: Option<u32>, after: Option<u32>) -> Option<Standee>
     ensures { result ≡ died version last before after }
@@ -348,102 +468,6 @@ fn died(version: Version, last: Version, before: Option<u32>, after: Option<u32>
             version: last,
             home,
         }),
-        _ => None,
-    }
-}
-
-// Notes an entry, where it stands and is dead.
-fn note_mark(
-    head: &LastChange,
-    standing: &Entries,
-    mark: Marked,
-    key: Key,
-    notices: &mut DeathNotices,
-)
-    requires { length (kept (mark ∷ [])) ≤ notices.old.spare }
-    ensures noted { AllByRecursion (NotedIfDead notices.new key
-        (record_with head.now standing.now.items)) (kept (mark ∷ [])) }
-    ensures kept { (h : ℕ) (n : EntryName) → Noted notices.old h n → Noted notices.new h n }
-    ensures spare { notices.old.spare + count_lively (record_with head.now standing.now.items)
-        (kept (mark ∷ [])) ≤ notices.new.spare + length (kept (mark ∷ [])) }
-{
-    let Marked { entry, gone } = mark;
-    if gone {
-        return;
-    }
-    if is_dead(head, standing, entry.version) {
-        let name = EntryName {
-            key,
-            version: entry.version,
-        };
-        notices.push(entry.home, name);
-    }
-}
-
-// Notes each of these entries that is dead.
-fn note_all(
-    head: &LastChange,
-    standing: &Entries,
-    marks: &[Marked],
-    key: Key,
-    notices: &mut DeathNotices,
-)
-    requires { length (kept marks.now) ≤ notices.old.spare }
-    ensures noted { AllByRecursion (NotedIfDead notices.new key
-        (record_with head.now standing.now.items)) (kept marks.now) }
-    ensures kept { (h : ℕ) (n : EntryName) → Noted notices.old h n → Noted notices.new h n }
-    ensures spare { notices.old.spare + count_lively (record_with head.now standing.now.items)
-        (kept marks.now) ≤ notices.new.spare + length (kept marks.now) }
-{
-    for mark in marks {
-        note_mark(head, standing, *mark, key, notices);
-    }
-}
-
-// The home of the last version's entry, which is the last of these and stands there, where it is not dead.
-fn alive_at_end(head: &LastChange, standing: &Entries, home: u32) -> Option<u32>
-    ensures { result ≡ (if is_dead (record_with head.now standing.now.items) head.now.version then
-        None else Some home) }
-{
-    if is_dead(head, standing, head.version) {
-        None
-    } else {
-        Some(home)
-    }
-}
-
-// The home of the last version's entry, looked for among the entries.
-fn alive_of(head: &Option<LastChange>, standing: &Entries) -> Option<u32>
-    ensures { result ≡ alive_at (known_with head.now standing.now.items) }
-{
-    match head {
-        None => None,
-        Some(head) => alive_in(head, standing),
-    }
-}
-
-fn alive_in(head: &LastChange, standing: &Entries) -> Option<u32>
-    ensures { result ≡ home_alive (record_with head.now standing.now.items) }
-{
-    if is_dead(head, standing, head.version) {
-        return None;
-    }
-    match standing.find(head.version) {
-        None => None,
-        Some(s) => Some(s.home),
-    }
-}
-
-fn block_in(head: Option<LastChange>) -> Option<u64>
-    ensures { result ≡ block_of (known_with head []) }
-{
-    match head {
-        Some(
-            LastChange {
-                body: Body::Pointer(pointer),
-                ..
-            },
-        ) => Some(pointer),
         _ => None,
     }
 }

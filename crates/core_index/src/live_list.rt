@@ -4,13 +4,12 @@ ghost use Rattle.std.specs.List.{AllByRecursion};
 ghost use Rattle.log_entry.specs.declared.entry.EntryName.{EntryName};
 ghost use Rattle.core_index.specs.Index.{all_untold, place_at, untold_of, TurnsAt, gone_place, cleared};
 ghost use Rattle.core_index.specs.Noted.{name_with};
-ghost use Rattle.core_index.specs.Records.{Shows, ShowsBody, without, opened_with, last_of, live_version};
-ghost use Rattle.core_index.specs.Slots.{alive_at, count_of};
+ghost use Rattle.core_index.specs.Records.{Shows, ShowsBody, without, opened_with, standing_with, last_of, live_version};
 ghost use Rattle.core_index.specs.Lives.{entry_home, entry_version, live_key, bytes_in, body_in, IsWithin, valued, IsStanding, live_place, live_at, turned, AllLess, KeysRise, IsLiveSpot, IsNotThere, placed_lives, FitsLive};
 
 use crate::key_slot::KeySlot;
 use crate::short_names::{self, short_of};
-use crate::types::{LiveFate, LiveKey, Look, Record, SHARE, Standee, ValuePlace};
+use crate::types::{LiveFate, LiveKey, Look, SHARE, Standee, StandingEntry, ValuePlace};
 use fs_model::{Key, Memory, Value, Version};
 use log_entry::{Body, EntryName};
 use std::alloc::Global;
@@ -187,29 +186,15 @@ fn add_bytes(bytes: &mut Vec<u8>, body: &Body) -> Result<(), Memory>
     Ok(())
 }
 
-// What there is of a key, and room for one change.
-fn slot_with(
-    alloc: Global,
-    key: Key,
-    version: Version,
-    body: Body,
-    standing: &[Standee],
-) -> Result<KeySlot, Memory>
-    requires { AllByRecursion (λ s. s.version ≤ version) standing.now }
-    ensures { IfOk result (λ slot. slot ≡ record {
-      known = Some (opened_with version body standing.now);
-      room = 1;
-    }) }
+// The entry of a key, where it stands.
+fn standing_of(live: &LiveKey) -> StandingEntry
+    ensures { result ≡ standing_with (entry_version live.now) (entry_home live.now) false }
 {
-    let start = Record {
-        key,
-        version,
-        body,
-        standing: Vec::from_slice(alloc, standing)?,
-    };
-    let mut slot = KeySlot::of(alloc, start)?;
-    slot.reserve()?;
-    Ok(slot)
+    StandingEntry {
+        version: version_of(live),
+        home: home_of(live),
+        told: false,
+    }
 }
 
 // What there is of a key, where it is not elsewhere, and room for one change.
@@ -217,23 +202,15 @@ fn slot_of(alloc: Global, bytes: &[u8], live: &LiveKey) -> Result<KeySlot, Memor
     requires { IsWithin bytes.now live.now.held }
     ensures { IfOk result (λ slot. slot ≡ record { known = valued bytes.now live.now; room = 1 }) }
 {
-    let key = key_of(live);
-    let version = version_of(live);
     match live.fate {
-        LiveFate::Moved => KeySlot::with_room(alloc),
-        LiveFate::Gone => slot_with(alloc, key, version, body_of(alloc, bytes, live.held)?, &[]),
+        LiveFate::Moved => Ok(KeySlot::with_room()),
+        LiveFate::Gone => {
+            let body = body_of(alloc, bytes, live.held)?;
+            Ok(KeySlot::of_one(version_of(live), body, None))
+        }
         LiveFate::Stands => {
-            let only = Standee {
-                version,
-                home: home_of(live),
-            };
-            slot_with(
-                alloc,
-                key,
-                version,
-                body_of(alloc, bytes, live.held)?,
-                &[only],
-            )
+            let body = body_of(alloc, bytes, live.held)?;
+            Ok(KeySlot::of_one(version_of(live), body, Some(standing_of(live))))
         }
     }
 }
@@ -245,16 +222,6 @@ pub fn last_of(live: &LiveKey) -> Version
     match live.fate {
         LiveFate::Moved => 0,
         _ => version_of(live),
-    }
-}
-
-/// How many entries of the key may still die.
-pub fn count_alive(live: &LiveKey) -> u64
-    ensures { (bytes : List ℕ) → result ≡ count_of (alive_at (valued bytes live.now)) }
-{
-    match live.fate {
-        LiveFate::Stands => 1,
-        _ => 0,
     }
 }
 

@@ -3,13 +3,12 @@ ghost use Rattle.std.specs.Prelude.{◌≡◌, ◌≢◌, ◌⊎◌, ℕ, ◌+�
 ghost use Rattle.log_entry.specs.declared.entry.EntryName.{EntryName};
 ghost use Rattle.core_index.specs.Index.{all_untold, known_at, place_at, untold_by, ToldAt, TurnsAt, StartTurns};
 ghost use Rattle.core_index.specs.Records.{Awaits, Shows, without, last_of, is_dead_in, is_forgettable};
-ghost use Rattle.core_index.specs.Slots.{alive_at, count_of};
 ghost use Rattle.core_index.specs.Starts.{started, IsAhead};
 ghost use Rattle.core_index.specs.Tombs.{tomb_home, key_of, name_of, AreLess, passed_at};
 ghost use Rattle.core_index.specs.Lives.{live_key, live_place, bytes_in, AllLess, IsWithin};
 
 use crate::key_slot::KeySlot;
-use crate::live_list::{LiveList, count_alive, last_of};
+use crate::live_list::{LiveList, last_of};
 use crate::tombstones::Tombstones;
 use crate::types::{LiveKey, Look, Tombstone};
 use fs_model::{Key, Memory, Version};
@@ -86,16 +85,6 @@ impl StartKeys {
         }
     }
 
-    /// How many entries of the key may still die.
-    pub fn count_alive(&self, key: Key) -> u64
-        ensures { result ≡ count_of (alive_at (known_at (started self.now) key)) }
-    {
-        match self.live.find(key) {
-            None => 0,
-            Some(live) => count_alive(&live),
-        }
-    }
-
     /// Whether a key of these is deleted and nothing of it stands.
     pub fn is_forgettable(&self, key: Key) -> bool
         ensures { result ≡ is_forgettable (known_at (started self.now) key) }
@@ -135,7 +124,7 @@ impl StartKeys {
         let Some(tombstone) = self.deleted.find(key) else {
             return Ok(None);
         };
-        Ok(Some(KeySlot::of_tombstone(alloc, &tombstone)?))
+        Ok(Some(KeySlot::of_tombstone(&tombstone)))
     }
 
     /// Tells a home of a dead entry, where it waits to be told.

@@ -1,5 +1,6 @@
 // What goes into an index and what comes out of it.
-use fs_model::{Key, Version};
+use crate::entry_list::EntryList;
+use fs_model::{Key, Value, Version};
 use log_entry::Body;
 
 /// An entry that stands in a log. `home` is the core in whose log it stands.
@@ -64,23 +65,84 @@ pub struct Marked {
     pub gone: bool,
 }
 
-/// The last change of a key.
-#[derive(Drop)]
-pub struct LastChange {
-    /// The key's last.
-    pub version: Version,
-    /// What it left.
-    pub body: Body,
+/// Two places for entries of one key.
+#[derive(Clone, Copy)]
+pub struct Pair {
+    /// Its version is below that of the second.
+    pub first: Option<StandingEntry>,
+    /// Either may be free.
+    pub second: Option<StandingEntry>,
 }
 
-/// What a finished change did: the block of the value before it, and the entry that died by it.
+/// Whether a place has an entry, and whether the death of that was told.
+#[derive(Clone, Copy)]
+pub enum Presence {
+    /// It has none.
+    Free,
+    /// It stands, and its death was not told.
+    Untold,
+    /// It stands, and its death was told.
+    Told,
+}
+
+/// As many entries of a key stand in place.
+pub const IN_PLACE: u32 = 2;
+
+/// The entries of a key that stand in a log, with room for so many more. It takes 24 bytes, so a place is parted: what
+/// it has, and the name of that.
+#[derive(Drop)]
+pub enum Held {
+    /// In place.
+    Few {
+        first: Presence,
+        second: Presence,
+        room: u32,
+        first_name: Standee,
+        second_name: Standee,
+    },
+    /// More of them, or with more room.
+    Many {
+        room: u32,
+        list: Box<EntryList>,
+    },
+}
+
+/// The last change of a key, where it has a record. It takes 32 bytes, with the version in what a `Body` leaves free.
+#[derive(Drop)]
+pub enum Head {
+    /// The key has no record.
+    Absent,
+    /// A value in a block.
+    Block { version: Version, pointer: u64 },
+    /// A value beside the key.
+    Embedded { version: Version, value: Value },
+    /// A delete.
+    Deleted { version: Version },
+}
+
+/// What a finished change did: the block of the value before it, the entry that died by it, and for how many names no
+/// room is kept any more.
 #[derive(Clone, Copy)]
 pub struct ChangeEffect {
     /// The block's first byte in the region divided by 256.
     pub replaced: Option<u64>,
     /// None where none died.
     pub dead: Option<Standee>,
+    /// Besides that of the entry that died.
+    pub spared: u64,
 }
+
+/// What came of an entry that is gone: another one that died by it, and for how many names no room is kept any more.
+#[derive(Clone, Copy)]
+pub struct GoneEffect {
+    /// None where none died.
+    pub dead: Option<Standee>,
+    /// Besides that of the entry that died.
+    pub spared: u64,
+}
+
+/// So many names may be noted because of one change: those of the entry before it and of its own.
+pub const NAMES_OF_CHANGE: u64 = 2;
 
 /// A key is parted in two halves by this. Pointers and places of values that are kept in half a word are below it.
 pub const SHARE: u64 = 4_294_967_296;

@@ -23,7 +23,7 @@ returns-then-has-clause-dead c =
     let es = c.args.slots.now.entries in
     let k = c.args.name.key in
     let there = some_of (place_at es k) (sym c.has.ensures ∙ c.if-has.true) in
-    only_there es c.gone_at.new.slots.entries c.args.start.now k c.args.name.version there.0 c.gone_at.result there.1 c.gone_at.ensures.step c.gone_at.ensures.dead
+    only_there es c.gone_at.new.slots.entries c.args.start.now k c.args.name.version there.0 c.gone_at.result.dead there.1 c.gone_at.ensures.step c.gone_at.ensures.dead
 
 pub returns-else-has-clause-gone : goal.returns-else-has-clause-gone
 returns-else-has-clause-gone c =

@@ -1,11 +1,13 @@
-use Rattle.std.proofs.Common.{map, ◌∙◌, ap, rules}
-use Rattle.core_index.specs.Records.{untold_at}
-use Rattle.core_index.specs.Marks.{kept}
-use Rattle.core_index.proofs.MarkLaws.{made_marks, kept_marks}
+use Rattle.std.proofs.Common.{◌≤◌, List, sym, subst, arith}
+use Rattle.std.specs.List.{AllByRecursion}
+use Rattle.core_index.specs.declared.types.StandingEntry.{StandingEntry}
+use Rattle.core_index.proofs.MarkLaws.{below_entries, pair_below}
 use Rattle.core_index.proofs.entries.Entries.of.Goals as goal
 
-pub invariant_of-result : goal.invariant_of-result
-invariant_of-result c = made_marks c.in_ok-marks.marks.items c.in_ok-homes.homes.entries c.args.standees.items c.len.result c.args.top c.in_ok-marks.ensures c.in_ok-homes.ensures.homes c.in_ok-homes.ensures.ordered c.requires (search rules)
-
-pub returns-clause-items : goal.returns-clause-items
-returns-clause-items c = ap kept c.in_ok-marks.ensures ∙ kept_marks c.in_ok-homes.homes.entries ∙ ap (map untold_at) c.in_ok-homes.ensures.homes
+pub returns-in-Some-clause-top : goal.returns-in-Some-clause-top
+returns-in-Some-clause-top c =
+    let p = c.in-Some.pair in
+    let all = subst (λ (xs : List StandingEntry). AllByRecursion (λ (s : StandingEntry). s.version ≤ c.args.top) xs) (sym c.in-Some.ensures.items) (below_entries c.args.top c.args.standees.now c.requires) in
+    let le = pair_below p.first p.second c.args.top all in
+    let same = c.few.ensures.top_is in
+    omega (arith, le, same)

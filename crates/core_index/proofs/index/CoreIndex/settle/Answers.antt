@@ -43,7 +43,8 @@ invariant_of-self c =
     let known = known_there es a k there.0 there.1 in
     let s = c.settle_at-settled.ensures in
     let n = c.note_dead.ensures in
-    settled_index es c.settle_at-settled.new.slots.entries a c.self.inside.notices c.note_dead.new.notices k there.0 _ c.settle_at-settled.result.dead c.self.invariant there.1 s.step s.dead s.mortal n.added n.kept n.spare
+    let g = c.give_back.ensures in
+    settled_index es c.settle_at-settled.new.slots.entries a c.self.inside.notices c.give_back.new.self k there.0 _ c.settle_at-settled.result.dead c.settle_at-settled.result.spared c.self.invariant there.1 s.step s.dead s.mortal (λ v h died. g.kept h _ (n.added v h died)) (λ h m noted. g.kept h m (n.kept h m noted)) (let a = g.spare in let b = n.spare in omega (arith, a, b))
 
 pub returns-clause-settled : goal.returns-clause-settled
 returns-clause-settled c =

@@ -15,4 +15,4 @@ returns-in_default-find-clause-none c =
 pub returns-clause-slot : goal.returns-clause-slot
 returns-clause-slot c =
     let a = c.args.self.now in
-    c.in_ok-of_tombstone.ensures ∙ ap (λ (o : Option KeyRecord). record { known = o; room = 1 }) (sym (known_deleted a c.args.key c.in_default.ensures.found ∙ known_found a.deleted.items c.args.key (Some c.in-Some-find.tombstone) c.in-Some-find.ensures))
+    c.of_tombstone.ensures ∙ ap (λ (o : Option KeyRecord). record { known = o; room = 1 }) (sym (known_deleted a c.args.key c.in_default.ensures.found ∙ known_found a.deleted.items c.args.key (Some c.in-Some-find.tombstone) c.in-Some-find.ensures))

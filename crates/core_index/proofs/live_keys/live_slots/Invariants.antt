@@ -1,6 +1,0 @@
-use Rattle.std.proofs.Common.{◌≡◌, ◌++◌}
-use Rattle.core_index.specs.Index.{live_names}
-use Rattle.core_index.proofs.live_keys.live_slots.Given as goal
-
-abbrev pub invariant-loop-key : goal.invariant-loop-key
-invariant-loop-key l = l.names.items ++ live_names l.key-iterator ≡ live_names l.slots.entries
