@@ -34,7 +34,7 @@ use Rattle.core_worker.specs.Supplies.{supply_of, lacks, why, free_blocks}
 use Rattle.core_worker.specs.Refusals.{reply_to}
 use Rattle.core_worker.specs.Answering.{IsCause, IsSaid, AddsAnswers, ShowsCause}
 use Rattle.core_worker.proofs.Given.{said_same, given_by, adds_none, adds_one, answer_untold}
-use Rattle.core_worker.specs.Beginning.{answers_of, answer_with, OnlyBegins, IsAnswered, IsStaged, GoesOn, BeginsBy, BeginsAs, Begins}
+use Rattle.core_worker.specs.Beginning.{answers_of, answer_with, OnlyBegins, IsAnswered, IsStaged, AnswersOrStages, BeginsBy, BeginsAs, Begins}
 use Rattle.core_worker.specs.Ties.{Tie}
 use Rattle.core_worker.specs.Accepting.{IsAsBefore, IsTied, StaysTied, HoldsOrBegins, HoldsOrBeginsByEachView, AcceptsAs, AcceptMoves}
 use Rattle.core_worker.specs.WorkerMoves.{asked, BeginsIn, SpendsIn, Fixed, replied, placed_in, placed_for, asked_by, stock_of, hands_of, requests_for, fixed_of, AnswersKey}
@@ -286,7 +286,7 @@ module _ (s : State) (w b : Worker) (n : ℕ) (r : Request) (works : w.winds_dow
     runs_false : (d : Bool) → u.stopped ≡ d → d ≡ false → (a : Reply) → w.stopped ≡ true → a ≡ replies.Stopped
     runs_false d e f a stopped = absurd (let both : true ≡ false = sym stopped ∙ stopped_before ∙ e ∙ f in cc both)
 
-    goes_on : (c : Bool) → is_too_long u.layout r ≡ false → u.stopped ≡ false → is_change r cell ≡ c → GoesOn (IsTelling s) c u b cell n r → (fs : List Fixed) × Fixes fs
+    goes_on : (c : Bool) → is_too_long u.layout r ≡ false → u.stopped ≡ false → is_change r cell ≡ c → AnswersOrStages (IsTelling s) c u b cell n r → (fs : List Fixed) × Fixes fs
     goes_on false short runs e is = answered (answer_to r cell) is.0 None is.1 (answer_untold r cell e) tt is.2 (inl refl) (still_left r cell e) (runs_false false runs refl (answer_to r cell)) (λ same. absurd (still_runs r cell same)) (answer_causeless x.place.layout (x.view.last (key_of r)) r cell e) (λ full. absurd (answer_not_full r cell e full))
     goes_on true short runs e is = (
       [],

@@ -28,7 +28,7 @@ use Rattle.core_worker.specs.OwnPlaces.{own}
 use Rattle.core_worker.specs.Supplies.{supply_of, under_way, rest, KeepsRule, HasKeptRoom, room_for}
 use Rattle.core_worker.specs.Refusals.{IsCounted}
 use Rattle.core_worker.specs.Ties.{Holds}
-use Rattle.core_worker.specs.Turns.{TakesFor, appended_to}
+use Rattle.core_worker.specs.Turns.{TakesChunkIf, appended_to}
 use Rattle.core_worker.proofs.Beginnings.{aside_of}
 use Rattle.core_worker.proofs.Pointers.{measured}
 use Rattle.core_worker.proofs.Writing.{none_counted}
@@ -90,7 +90,7 @@ opened_some log None some = some_number log.opened (some refl)
 opened_some log (Some j) some = (j, refl)
 
 -- where the batch goes, as the leader was told of it
-pub space_is : (w : Worker) (a : Sets) (f : Bool) (o : Option ℕ) (lines n : ℕ) → HasSpace (room_for w) f lines n → TakesFor f w.allocator a o
+pub space_is : (w : Worker) (a : Sets) (f : Bool) (o : Option ℕ) (lines n : ℕ) → HasSpace (room_for w) f lines n → TakesChunkIf f w.allocator a o
     → (space (room_for w) f ≡ room_of (opened_for w.log o)) × (2 ≤ left_free (room_for w) f → 2 ≤ free_chunk_count a)
 space_is w a true None lines n had takes = absurd (let some = had.1 refl in let none = none_counted (chunk_is_free w.allocator) (numbers 0 w.allocator.layout.chunks) takes.0 in omega (arith, some, none))
 space_is w a true (Some j) lines n had takes =
@@ -101,7 +101,7 @@ space_is w a false None lines n had takes = (refl, λ two. subst (λ (x : Sets).
 space_is w a false (Some j) lines n had takes = absurd (cc takes.0)
 
 -- After the batch, once its own entries pledge nothing any more.
-module _ (p : group.Place) (m : ℕ) (v : View) (w u : Worker) (H : Holds p m v w) (f : Bool) (o : Option ℕ) (lines : ℕ) (ws : List ℕ) (had : HasSpace (room_for w) f lines (length ws)) (takes : TakesFor f w.allocator u.allocator o)
+module _ (p : group.Place) (m : ℕ) (v : View) (w u : Worker) (H : Holds p m v w) (f : Bool) (o : Option ℕ) (lines : ℕ) (ws : List ℕ) (had : HasSpace (room_for w) f lines (length ws)) (takes : TakesChunkIf f w.allocator u.allocator o)
     (opened : o ≡ None → is_some w.log.opened ≡ true) (log : u.log ≡ appended_to (opened_for w.log o) (padded ws)) (less : own u.places.items + lines ≡ own w.places.items) (cleaning : under_way u ≡ under_way w) (clean : under_way w ≡ Nothing) where
   pub room_wrote : HasKeptRoom w → HasKeptRoom u
   room_wrote h =

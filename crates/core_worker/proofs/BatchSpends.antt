@@ -22,7 +22,7 @@ use Rattle.engine_laws.specs.StockChanges.{lines_in, one_if, Spends}
 use Rattle.core_worker.specs.declared.worker.Worker.{Worker}
 use Rattle.core_worker.specs.Supplies.{room_for}
 use Rattle.core_worker.specs.Ties.{Holds}
-use Rattle.core_worker.specs.Turns.{TakesFor, Persists}
+use Rattle.core_worker.specs.Turns.{TakesChunkIf, Persists}
 use Rattle.core_worker.specs.WorkerMoves.{awaits_chunk, lines_free, stock_of}
 use Rattle.core_worker.proofs.BatchRoom.{room_appended, opened_some, space_is}
 use Rattle.core_worker.proofs.CauseFacts.{lines_low, lines_open, lines_few}
@@ -43,9 +43,9 @@ some_words (t ∷ ts) e =
     let one = some_word t.change.entry in
     omega (arith, words, one)
 
-is_open : (w : Worker) (f : Bool) (o : Option ℕ) (own n : ℕ) (a : Sets) → HasSpace (room_for w) f own n → 1 ≤ n → TakesFor f w.allocator a o → o ≡ None → is_some w.log.opened ≡ true
+is_open : (w : Worker) (f : Bool) (o : Option ℕ) (own n : ℕ) (a : Sets) → HasSpace (room_for w) f own n → 1 ≤ n → TakesChunkIf f w.allocator a o → o ≡ None → is_some w.log.opened ≡ true
 is_open w true o own n a had some takes none = absurd (no_chunk o takes none) where
-  no_chunk : (o : Option ℕ) → TakesFor true w.allocator a o → o ≡ None → ⊥
+  no_chunk : (o : Option ℕ) → TakesChunkIf true w.allocator a o → o ≡ None → ⊥
   no_chunk None takes none = (let free = had.1 refl in let zero_is = none_counted (chunk_is_free w.allocator) (numbers 0 w.allocator.layout.chunks) takes.0 in omega (arith, free, zero_is))
   no_chunk (Some j) takes none = cc none
 is_open w false o own n a had some takes none = by w.log.opened refl where
@@ -53,7 +53,7 @@ is_open w false o own n a had some takes none = by w.log.opened refl where
   by (Some j) e = ap is_some e
   by None e = absurd (let fits = had.0 in let empty = ap (lines_left w.log) e in omega (arith, fits, empty, some))
 
-taken_chunks : (f : Bool) (old new : Sets) (o : Option ℕ) → TakesFor f old new o → (free_chunk_count old ≤ free_chunk_count new + one_if f) × ((c : ℕ) → free_block_count new c ≡ free_block_count old c)
+taken_chunks : (f : Bool) (old new : Sets) (o : Option ℕ) → TakesChunkIf f old new o → (free_chunk_count old ≤ free_chunk_count new + one_if f) × ((c : ℕ) → free_block_count new c ≡ free_block_count old c)
 taken_chunks true old new None takes = ((let same = ap free_chunk_count takes.1 in omega (arith, same)), λ c. ap (λ a. free_block_count a c) takes.1)
 taken_chunks true old new (Some j) takes = ((let count = takes.chunk_count in omega (arith, count)), takes.count)
 taken_chunks false old new o takes = ((let same = ap free_chunk_count takes.1 in omega (arith, same)), λ c. ap (λ a. free_block_count a c) takes.1)

@@ -40,7 +40,7 @@ use Rattle.core_worker.specs.Supplies.{supply_of, why}
 use Rattle.core_worker.specs.Refusals.{reply_to}
 use Rattle.core_worker.specs.Answering.{IsSaid}
 use Rattle.core_worker.specs.Outbox.{as_told}
-use Rattle.core_worker.specs.Beginning.{answer_with, IsAnswered, IsStaged, BeginsBy, BeginsAs, GoesOn, OnlyAnswers, OnlyStages, OnlyBegins, Begins, UsesRoom, HoldsAside}
+use Rattle.core_worker.specs.Beginning.{answer_with, IsAnswered, IsStaged, BeginsBy, BeginsAs, AnswersOrStages, OnlyAnswers, OnlyStages, OnlyBegins, Begins, UsesRoom, HoldsAside}
 
 pub begins_stopped : (Known : Type 0) (w u : Worker) (cell : Option (List ℕ)) (n : ℕ) (r : Request) → w.stopped ≡ true → IsAnswered w u (answer_with n replies.Stopped None) → Begins Known w u cell n r
 begins_stopped Known w u cell n r stopped a = subst (λ (b : Bool). BeginsAs Known b w u cell n r) (sym stopped) a
@@ -56,7 +56,7 @@ module _ (Known : Type 0) (w u : Worker) (cell : Option (List ℕ)) (n : ℕ) (r
   begins_refused o s is why a = by_why (Some s) (sym why ∙ is) a
 
   pub begins_answered : (o : Option Shortage) → o ≡ None → o ≡ cause → is_change r cell ≡ false → (a : Reply) → IsSaid Known r (answer_to r cell) a → IsAnswered w u (answer_with n a None) → Begins Known w u cell n r
-  begins_answered o is why change reply said a = by_why None (sym why ∙ is) (subst (λ (c : Bool). GoesOn Known c w u cell n r) (sym change) (reply, said, a))
+  begins_answered o is why change reply said a = by_why None (sym why ∙ is) (subst (λ (c : Bool). AnswersOrStages Known c w u cell n r) (sym change) (reply, said, a))
 
 -- an answer more changes none of the ties
 abbrev pub with_answers : Worker → VecDeque Answer Global → Worker

@@ -9,7 +9,7 @@ use Rattle.group_laws.specs.MemberViews.{View, view_of}
 use Rattle.group_board.specs.Seats.{SeatAt}
 use Rattle.core_worker.specs.declared.worker.Worker.{Worker}
 use Rattle.log_cleaner.specs.Floors.{Searches}
-use Rattle.core_worker.specs.BeginsCleaning.{Begins, BeginsNone, BeginsOne, LooksForOne}
+use Rattle.core_worker.specs.BeginsCleaning.{BeginsAtMostOne, BeginsNone, BeginsOne, LooksForOne}
 use Rattle.core_worker.specs.Mails.{NoneTold, PassesMail}
 use Rattle.core_worker.specs.Readying.{PassesSending, SendsShort, TakesDead}
 use Rattle.core_worker.specs.Ties.{HoldsAt, StandsAt}
@@ -21,11 +21,11 @@ use Rattle.core_worker.proofs.SendTurns.{keeps_short, looks_none, none_yet}
 use Rattle.core_worker.proofs.SentTurns.{passes_is, passes_takes}
 use Rattle.core_worker.proofs.Winding.{wound_holds, wound_stands}
 
-pub was_begun : (b : Bool) (s : State) (w x : Worker) → b ≡ true → Begins (Ok b) s w x → BeginsOne s w x
+pub was_begun : (b : Bool) (s : State) (w x : Worker) → b ≡ true → BeginsAtMostOne (Ok b) s w x → BeginsOne s w x
 was_begun true s w x is B = B
 was_begun false s w x is B = absurd (cc is)
 
-pub was_none_begun : (b : Bool) (s : State) (w x : Worker) → b ≡ false → Begins (Ok b) s w x → BeginsNone s w x
+pub was_none_begun : (b : Bool) (s : State) (w x : Worker) → b ≡ false → BeginsAtMostOne (Ok b) s w x → BeginsNone s w x
 was_none_begun true s w x is B = absurd (cc is)
 was_none_begun false s w x is B = B
 

@@ -8,7 +8,7 @@ use Rattle.core_log.proofs.Clients.{tail_set, tail_other}
 use Rattle.lazy_alloc.specs.Sets.{Sets, AreSets, chunk_is_free, chunk_class}
 use Rattle.batch_leader.specs.Persisting.{opened_for}
 use Rattle.core_worker.specs.OwnChunks.{IsFreeOrData, IsTaken, HasChunk, AreChunks}
-use Rattle.core_worker.specs.Turns.{TakesFor}
+use Rattle.core_worker.specs.Turns.{TakesChunkIf}
 
 -- the allocator keeps what it has, and takes back nothing
 pub chunk_kept : (a b : Sets) (cs : List LogChunk) (j : ℕ) → (IsFreeOrData a j → IsFreeOrData b j) → (IsTaken a j → IsTaken b j) → HasChunk a cs j → HasChunk b cs j
@@ -58,7 +58,7 @@ none_more log (Some j) t i opened ne none =
     tail_other (with_tail log.chunks j 0) j t i off ∙ tail_other log.chunks j 0 i off ∙ none
 
 -- what the allocator had it has, but for the chunk that was taken
-pub taken_or_had : (f : Bool) (old new : Sets) (o : Option ℕ) → TakesFor f old new o → (i : ℕ) → IsFreeOrData old i → ((o ≡ Some i → ⊥) × IsFreeOrData new i) ⊎ (o ≡ Some i)
+pub taken_or_had : (f : Bool) (old new : Sets) (o : Option ℕ) → TakesChunkIf f old new o → (i : ℕ) → IsFreeOrData old i → ((o ≡ Some i → ⊥) × IsFreeOrData new i) ⊎ (o ≡ Some i)
 taken_or_had true old new None t i had = inl ((λ e. cc e), subst (λ (a : Sets). IsFreeOrData a i) (sym t.1) had)
 taken_or_had true old new (Some j) t i had = ⊎_elim
     (λ same. inr (ap Some (sym same)))
@@ -67,7 +67,7 @@ taken_or_had true old new (Some j) t i had = ⊎_elim
 taken_or_had false old new o t i had = inl ((λ e. (let both : None ≡ Some i = sym t.0 ∙ e in cc both)), subst (λ (a : Sets). IsFreeOrData a i) (sym t.1) had)
 
 -- the chunk that was taken is the allocator's no more
-pub taken_gone : (f : Bool) (old new : Sets) (o : Option ℕ) → AreSets old → TakesFor f old new o → (i : ℕ) → o ≡ Some i → IsTaken new i
+pub taken_gone : (f : Bool) (old new : Sets) (o : Option ℕ) → AreSets old → TakesChunkIf f old new o → (i : ℕ) → o ≡ Some i → IsTaken new i
 taken_gone true old new None sets t i e = absurd (cc e)
 taken_gone true old new (Some j) sets t i e =
     let same : j ≡ i = cc e in
@@ -80,13 +80,13 @@ taken_gone true old new (Some j) sets t i e =
 taken_gone false old new o sets t i e = absurd (let both : None ≡ Some i = sym t.0 ∙ e in cc both)
 
 -- what it had given away it hasn't
-pub taken_still : (f : Bool) (old new : Sets) (o : Option ℕ) → TakesFor f old new o → (i : ℕ) → IsTaken old i → IsTaken new i
+pub taken_still : (f : Bool) (old new : Sets) (o : Option ℕ) → TakesChunkIf f old new o → (i : ℕ) → IsTaken old i → IsTaken new i
 taken_still true old new None t i was = subst (λ (a : Sets). IsTaken a i) (sym t.1) was
 taken_still true old new (Some j) t i was = (t.free i ∙ ap (λ (b : Bool). b && not (i == j)) was.0, t.classes i ∙ was.1)
 taken_still false old new o t i was = subst (λ (a : Sets). IsTaken a i) (sym t.1) was
 
 -- a chunk is opened, or none
-pub chunks_opened : (n : ℕ) (f : Bool) (old new : Sets) (o : Option ℕ) (log log' : LogState) → AreSets old → TakesFor f old new o → log' ≡ opened_for log o
+pub chunks_opened : (n : ℕ) (f : Bool) (old new : Sets) (o : Option ℕ) (log log' : LogState) → AreSets old → TakesChunkIf f old new o → log' ≡ opened_for log o
     → AreChunks n old log.chunks → AreChunks n new log'.chunks
 chunks_opened n f old new o log log' sets takes is had j low = ⊎_elim
     (λ x. ⊎_elim
@@ -101,7 +101,7 @@ chunks_opened n f old new o log log' sets takes is had j low = ⊎_elim
     none_opened log (Some k) i ne none = tail_other log.chunks k 0 i (λ same. ne (ap Some (sym same))) ∙ none
 
 -- and a batch is appended
-pub chunks_wrote : (n : ℕ) (f : Bool) (old new : Sets) (o : Option ℕ) (log log' : LogState) (batch : List ℕ) → AreSets old → TakesFor f old new o → HasOpen log o
+pub chunks_wrote : (n : ℕ) (f : Bool) (old new : Sets) (o : Option ℕ) (log log' : LogState) (batch : List ℕ) → AreSets old → TakesChunkIf f old new o → HasOpen log o
     → log' ≡ record (opened_for log o) { chunks = with_tail (opened_for log o).chunks (open_number (opened_for log o)) (open_tail (opened_for log o) + length batch) }
     → AreChunks n old log.chunks → AreChunks n new log'.chunks
 chunks_wrote n f old new o log log' batch sets takes opened is had j low = ⊎_elim

@@ -17,7 +17,7 @@ use Rattle.core_worker.specs.KeepsCleaning.{Cleans, IsBegun}
 use Rattle.core_worker.specs.Order.{InOrder}
 use Rattle.core_worker.specs.OwnChunks.{AreChunks, IsTaken}
 use Rattle.core_worker.specs.Supplies.{under_way}
-use Rattle.core_worker.specs.TakenChunks.{TakesFor}
+use Rattle.core_worker.specs.TakenChunks.{TakesChunkIf}
 use Rattle.core_worker.specs.Ties.{HasSpaceFor, Holds}
 use Rattle.core_worker.proofs.ChunksKept.{HasOpen, opened_more, taken_still}
 use Rattle.core_worker.proofs.CopiedLog.{copied_layout, copied_part, copied_opened, copied_more, opened_part, chunks_copied, room_open, taken_few, left_few, left_short}
@@ -68,7 +68,7 @@ module _ (p : Place) (m : ℕ) (v : View) (w x : Worker) (victim : Victim) (firs
     by (Some j) e is =
         let here : Some j ≡ Some C.now.chunk = ap (λ (f : Option ℕ). (opened_for w.log f).opened) (sym e) ∙ is in
         let j_is : j ≡ C.now.chunk = cc here in
-        let free = taken_free (needs_chunk first w) w.allocator x.allocator j (subst (λ (f : Option ℕ). TakesFor (needs_chunk first w) w.allocator x.allocator f) e K.takes) in
+        let free = taken_free (needs_chunk first w) w.allocator x.allocator j (subst (λ (f : Option ℕ). TakesChunkIf (needs_chunk first w) w.allocator x.allocator f) e K.takes) in
         (let both : true ≡ false = sym free ∙ ap (chunk_is_free w.allocator) j_is ∙ C.taken in cc both)
 
   pub chunks_now : AreChunks p.layout.chunks x.allocator x.log.chunks

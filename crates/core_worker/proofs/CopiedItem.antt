@@ -28,7 +28,7 @@ use Rattle.core_room.specs.RoomRule.{KeepsRoom}
 use Rattle.core_room.specs.declared.supply.Supply.{Supply}
 use Rattle.core_worker.specs.OwnPlaces.{place_at}
 use Rattle.core_worker.specs.Refusals.{IsMeasured}
-use Rattle.core_worker.specs.TakenChunks.{TakesFor}
+use Rattle.core_worker.specs.TakenChunks.{TakesChunkIf}
 use Rattle.core_worker.proofs.CleaningKept.{small_way}
 use Rattle.core_worker.proofs.Pointers.{each, counted}
 use Rattle.engine_laws.proofs.Clients.{quiet_refuses}
@@ -71,7 +71,7 @@ pub lacks_of : (w : Worker) (victim : Victim) (first : Bool) → under_way w ≡
 lacks_of w victim first way supply is lacks = (let a = ap (λ (y : Supply). y.rest_lines) is in let b = ap (λ (y : Supply). y.open_lines) is in let c = ap rest way in omega (arith, a, b, c, lacks))
 
 -- So the words of the batch have room where they go.
-pub has_room : (s : State) (p : Place) (m : ℕ) (v : View) (w : Worker) (victim : Victim) (first : Bool) → Holds p m v w → Stands s p m v w → under_way w ≡ Copying victim first → (f : Bool) (a : Sets) (o : Option ℕ) → TakesFor f w.allocator a o → (o ≡ None → rest (Copying victim first) ≤ room_of w.log) → HasRoom s w.log victim.words o
+pub has_room : (s : State) (p : Place) (m : ℕ) (v : View) (w : Worker) (victim : Victim) (first : Bool) → Holds p m v w → Stands s p m v w → under_way w ≡ Copying victim first → (f : Bool) (a : Sets) (o : Option ℕ) → TakesChunkIf f w.allocator a o → (o ≡ None → rest (Copying victim first) ≤ room_of w.log) → HasRoom s w.log victim.words o
 has_room s p m v w victim first H S way f a None takes fits = (let room = fits refl in omega (arith, room))
 has_room s p m v w victim first H S way f a (Some j) takes fits =
     let free = taken_free f w.allocator a j takes in
@@ -79,7 +79,7 @@ has_room s p m v w victim first H S way f a (Some j) takes fits =
     (omega (arith, third), subst (λ (l : Geometry). j < l.chunks) (H.allocator_layout ∙ sym H.log_layout) (H.sets.free_in j free).0, λ telling. (S.free (cleaning.cleans p m v w H victim first way).runs j free telling).1)
 
 -- where no chunk was taken the allocator is as it was
-pub none_same : (f : Bool) (old new : Sets) (o : Option ℕ) → TakesFor f old new o → o ≡ None → new ≡ old
+pub none_same : (f : Bool) (old new : Sets) (o : Option ℕ) → TakesChunkIf f old new o → o ≡ None → new ≡ old
 none_same true old new None takes none = takes.1
 none_same true old new (Some j) takes none = absurd (cc none)
 none_same false old new o takes none = takes.1
@@ -159,7 +159,7 @@ module _ (p : Place) (m : ℕ) (v u : View) (w x : Worker) (victim : Victim) (fi
         omega (arith, same, kept, was, less)
 
 pub copied_lower : (before after : Option Group) (m : ℕ) (u : View) (w x : Worker) → Makes before m Kind.Commit after u → IsLawful before → left x < left w → Lowers before after w x
-copied_lower before after m u w x made lawful less = lowers_step before after m Kind.Commit u w x made lawful (λ a b L step. let way = ap counts.under_way step.1 in omega (arith, way, less))
+copied_lower before after m u w x made lawful less = lowers_step before after m Kind.Commit u w x made lawful (λ a b L step. let way = ap counts.group_left step.1 in omega (arith, way, less))
 
 -- The batch keeps what a turn keeps.
 pub keeps_copied : (seat : SeatAt) (s t : State) (before after : Option Group) (v u : View) (w x : Worker) (victim : Victim) (first : Bool) (H : HoldsAt seat v w) (S : StandsAt s seat v w) (O : InOrderAt seat v w) (own : IsOwn w.log) (way : under_way w ≡ Copying victim first) (some : 0 < victim.entries)

@@ -13,7 +13,7 @@ use Rattle.lazy_alloc.specs.Sets.{Sets, AreSets, free_chunk_count}
 use Rattle.batch_leader.specs.Persisting.{opened_for}
 use Rattle.core_worker.specs.CopyTurns.{copied_to}
 use Rattle.core_worker.specs.OwnChunks.{AreChunks}
-use Rattle.core_worker.specs.TakenChunks.{TakesFor, appended_to}
+use Rattle.core_worker.specs.TakenChunks.{TakesChunkIf, appended_to}
 use Rattle.core_worker.proofs.BatchRoom.{room_appended}
 use Rattle.core_worker.proofs.ChunksKept.{HasOpen, has_more, chunks_opened, chunks_wrote}
 
@@ -48,7 +48,7 @@ opened_else log None i ne = refl
 opened_else log (Some j) i ne = tail_other log.chunks j 0 i ne
 
 -- each chunk is its allocator's or its log's
-pub chunks_copied : (k : ℕ) (f : Bool) (old new : Sets) (o : Option ℕ) (log log' : LogState) (n : ℕ) (ws : List ℕ) → AreSets old → TakesFor f old new o → HasOpen log o → log' ≡ copied_to n (opened_for log o) ws
+pub chunks_copied : (k : ℕ) (f : Bool) (old new : Sets) (o : Option ℕ) (log log' : LogState) (n : ℕ) (ws : List ℕ) → AreSets old → TakesChunkIf f old new o → HasOpen log o → log' ≡ copied_to n (opened_for log o) ws
     → AreChunks k old log.chunks → AreChunks k new log'.chunks
 chunks_copied k f old new o log log' zero ws sets takes opened is had = chunks_opened k f old new o log log' sets takes is had
 chunks_copied k f old new o log log' (suc n) ws sets takes opened is had = chunks_wrote k f old new o log log' (padded ws) sets takes opened is had
@@ -61,7 +61,7 @@ room_open log some = by log.opened refl where
   by (Some j) e = ap is_some e
 
 -- no chunk more is free
-pub taken_few : (f : Bool) (old new : Sets) (o : Option ℕ) → TakesFor f old new o → free_chunk_count new ≤ free_chunk_count old
+pub taken_few : (f : Bool) (old new : Sets) (o : Option ℕ) → TakesChunkIf f old new o → free_chunk_count new ≤ free_chunk_count old
 taken_few true old new None t = (let same = ap free_chunk_count t.1 in omega (arith, same))
 taken_few true old new (Some j) t = (let count = t.chunk_count in omega (arith, count))
 taken_few false old new o t = (let same = ap free_chunk_count t.1 in omega (arith, same))

@@ -22,7 +22,7 @@ use Rattle.core_worker.specs.CopyTurns.{left_of}
 use Rattle.core_worker.specs.OwnPlaces.{own, lines_in, place_at}
 use Rattle.core_worker.specs.Refusals.{IsCounted}
 use Rattle.core_worker.specs.Supplies.{supply_of, under_way, left_in, no_more_than, rest, KeepsRule, HasKeptRoom}
-use Rattle.core_worker.specs.TakenChunks.{TakesFor}
+use Rattle.core_worker.specs.TakenChunks.{TakesChunkIf}
 use Rattle.core_worker.specs.Ties.{Holds}
 use Rattle.core_worker.proofs.BatchRoom.{few_lines}
 use Rattle.core_worker.proofs.CleaningKept.{runs_way}
@@ -59,7 +59,7 @@ module _ (p : Place) (m : ℕ) (v : View) (w : Worker) (victim : Victim) (first 
   rested = ap rest way
 
   -- where no chunk is opened, all that is promised fits in the open one
-  fits_open : HasKeptRoom w → (b : Bool) → first ≡ b → TakesFor (needs_chunk b w) w.allocator a None → own w.places.items + rest (Copying victim first) ≤ room_of w.log
+  fits_open : HasKeptRoom w → (b : Bool) → first ≡ b → TakesChunkIf (needs_chunk b w) w.allocator a None → own w.places.items + rest (Copying victim first) ≤ room_of w.log
   fits_open had false e takes =
       let kept : KeepsRule (Copying victim false) (supply_of w) = subst (λ (c : Cleaning). KeepsRule c (supply_of w)) (way ∙ ap (Copying victim) e) had in
       let is = rested in let few = scarce in
@@ -67,10 +67,10 @@ module _ (p : Place) (m : ℕ) (v : View) (w : Worker) (victim : Victim) (first 
   fits_open had true e takes =
       let kept : KeepsRule (Copying victim true) (supply_of w) = subst (λ (c : Cleaning). KeepsRule c (supply_of w)) (way ∙ ap (Copying victim) e) had in
       by (ltb (room_of w.log) (pledged (supply_of w))) refl takes kept where
-        by : (b : Bool) → ltb (room_of w.log) (pledged (supply_of w)) ≡ b → TakesFor (ltb (room_of w.log) (pledged (supply_of w))) w.allocator a None → KeepsRoomAtCleaning (supply_of w) → own w.places.items + rest (Copying victim first) ≤ room_of w.log
+        by : (b : Bool) → ltb (room_of w.log) (pledged (supply_of w)) ≡ b → TakesChunkIf (ltb (room_of w.log) (pledged (supply_of w))) w.allocator a None → KeepsRoomAtCleaning (supply_of w) → own w.places.items + rest (Copying victim first) ≤ room_of w.log
         by false e takes kept = (let enough = ltb-false (room_of w.log) (pledged (supply_of w)) e in let is = rested in omega (arith, enough, is))
         by true e takes kept =
-            let none : TakesFor true w.allocator a None = subst (λ (b : Bool). TakesFor b w.allocator a None) e takes in
+            let none : TakesChunkIf true w.allocator a None = subst (λ (b : Bool). TakesChunkIf b w.allocator a None) e takes in
             let zero = none_counted (chunk_is_free w.allocator) (numbers 0 w.allocator.layout.chunks) none.0 in
             let less = ltb-true (room_of w.log) (pledged (supply_of w)) e in
             absurd (⊎_elim
@@ -95,7 +95,7 @@ module _ (p : Place) (m : ℕ) (v : View) (w x : Worker) (victim : Victim) (firs
     by : (o : Option ℕ) → K.fresh ≡ o → own w.places.items + rest (Copying victim first) ≤ room_of (opened_for w.log K.fresh)
     by None e =
         let at = ap (λ (f : Option ℕ). room_of (opened_for w.log f)) e in
-        let fits = fits_open p m v w victim first H way x.allocator had first refl (subst (λ (f : Option ℕ). TakesFor (needs_chunk first w) w.allocator x.allocator f) e K.takes) in
+        let fits = fits_open p m v w victim first H way x.allocator had first refl (subst (λ (f : Option ℕ). TakesChunkIf (needs_chunk first w) w.allocator x.allocator f) e K.takes) in
         omega (arith, at, fits)
     by (Some j) e =
         let at = ap (λ (f : Option ℕ). room_of (opened_for w.log f)) e ∙ room_opened w.log j in

@@ -32,7 +32,7 @@ use Rattle.core_worker.specs.declared.types.Leading.TheVariants as leads
 use Rattle.core_worker.specs.declared.worker.Worker.{Worker}
 use Rattle.core_worker.specs.CopyItems.{CopiesOn, needs_chunk}
 use Rattle.core_worker.specs.Counted.{MayOpen}
-use Rattle.core_worker.specs.TakenChunks.{TakesFor}
+use Rattle.core_worker.specs.TakenChunks.{TakesChunkIf}
 use Rattle.core_worker.specs.CopyTurns.{CopiesInRegion, left_of}
 use Rattle.core_worker.specs.KeepsCleaning.{Cleans}
 use Rattle.core_worker.specs.LogNames.{IsClosed, NamesStand}
@@ -143,7 +143,7 @@ module _ (s t : State) (p : Place) (m : ℕ) (v : View) (w x : Worker) (victim :
     by : (o : Option ℕ) → K.fresh ≡ o → MayOpen w.log K.fresh
     by None e = subst (MayOpen w.log) (sym e) (let room = K.fits e in room_open w.log (omega (arith, room, some)))
     by (Some j) e =
-        let free = taken_free (needs_chunk first w) w.allocator x.allocator j (subst (λ (f : Option ℕ). TakesFor (needs_chunk first w) w.allocator x.allocator f) e K.takes) in
+        let free = taken_free (needs_chunk first w) w.allocator x.allocator j (subst (λ (f : Option ℕ). TakesChunkIf (needs_chunk first w) w.allocator x.allocator f) e K.takes) in
         subst (MayOpen w.log) (sym e) (subst (λ (l : Geometry). j < l.chunks) (H.allocator_layout ∙ sym H.log_layout) (H.sets.free_in j free).0, (S.free runs j free telling).0)
 
   tail_kept : (j : ℕ) → j ≢ n → tail_of x.log.chunks j ≡ tail_of w.log.chunks j

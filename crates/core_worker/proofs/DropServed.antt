@@ -7,7 +7,7 @@ use Rattle.core_worker.specs.OwnPlaces.{place_at, key_in, is_staged}
 use Rattle.core_worker.specs.Ties.{Tie}
 use Rattle.core_worker.specs.Serving.{OnlyServes}
 use Rattle.core_worker.specs.Finishing.{IsToServe, IsServed, Serves, ServesByEachView, ServesShort, ShortOf}
-use Rattle.core_worker.specs.Stopping.{FreesBySight, PutsAway, Drops, staged_block}
+use Rattle.core_worker.specs.Stopping.{FreesBySight, PutsAway, DropsStaged, staged_block}
 use Rattle.core_worker.proofs.Dropping.{StagedAt, staged_at}
 
 module _ (s : State) (w x : Worker) (k : ℕ) (F : FreesBySight w x k) where
@@ -15,7 +15,7 @@ module _ (s : State) (w x : Worker) (k : ℕ) (F : FreesBySight w x k) where
   sight_serves t T = let f = F t T.holds T.order in record { holds = f.holds; stands = f.stands s T.stands; order = f.order; own = f.own }
 
 module _ (s : State) (w x y : Worker) (k : ℕ) (F : FreesBySight w x k) (slot : ℕ) (staged : is_staged (place_at w.places.items slot) ≡ true) (key : key_in (place_at w.places.items slot) ≡ Some k) (P : PutsAway w x slot (staged_block (place_at w.places.items slot))) where
-  pub drops_slot : {X Y : Type 0} (r : Result X Y) → OnlyServes x y → OnOk r (ServesByEachView s x y k) → OnErr r (ServesShort s x y k) → Drops s slot w y (is_ok r)
+  pub drops_slot : {X Y : Type 0} (r : Result X Y) → OnlyServes x y → OnOk r (ServesByEachView s x y k) → OnErr r (ServesShort s x y k) → DropsStaged s slot w y (is_ok r)
   drops_slot r rest begins short = record {
     number = st.number;
     entry = st.entry;

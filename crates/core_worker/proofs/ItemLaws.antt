@@ -26,7 +26,7 @@ use Rattle.core_worker.specs.Ties.{HoldsAt, StandsAt, LeadsAt}
 use Rattle.core_worker.specs.Turns.{InOrderAt, IsBack, Steps}
 use Rattle.core_worker.specs.Finishing.{WasFoundBack, FinishesSlot, StopsByFailed, IsServed}
 use Rattle.core_worker.specs.Order.{MayLeadStopped}
-use Rattle.core_worker.specs.Stopping.{Drops, WithdrawsOrUnlocks}
+use Rattle.core_worker.specs.Stopping.{DropsStaged, WithdrawsOrUnlocks}
 use Rattle.group_board.specs.Views.{after_unlock}
 use Rattle.core_worker.proofs.TurnLaws.{keeps_leading}
 use Rattle.core_worker.specs.Turning.{HasBatch, KeepsTurn}
@@ -55,7 +55,7 @@ keeps_finish seat s before after v u w x slot all lt H N S T O P rule made cause
 }
 
 -- item 5 of a stopped core
-pub keeps_drop : (seat : SeatAt) (s : State) (a : Option Group) (v : View) (w x : Worker) (slot : ℕ) (all : Bool) → slot < 8 → w.stopped ≡ true → HoldsAt seat v w → StandsAt s seat v w → InOrderAt seat v w → IfSome a (λ u. (seat.place ≡ u.place) × (v ≡ view_of u seat.number)) → IsServed s x (record { place = seat.place; number = seat.number; view = v }) → (HasKeptRoom w → HasKeptRoom x) → Drops s slot w x all
+pub keeps_drop : (seat : SeatAt) (s : State) (a : Option Group) (v : View) (w x : Worker) (slot : ℕ) (all : Bool) → slot < 8 → w.stopped ≡ true → HoldsAt seat v w → StandsAt s seat v w → InOrderAt seat v w → IfSome a (λ u. (seat.place ≡ u.place) × (v ≡ view_of u seat.number)) → IsServed s x (record { place = seat.place; number = seat.number; view = v }) → (HasKeptRoom w → HasKeptRoom x) → DropsStaged s slot w x all
     → KeepsTurn seat s s a a v v w x
 keeps_drop seat s a v w x slot all lt stopped H S O agrees N rule D = record {
   moments = started s (Licensed seat.place seat.number v) S.licensed;

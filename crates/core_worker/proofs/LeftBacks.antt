@@ -26,7 +26,7 @@ use Rattle.core_worker.specs.declared.types.Place.TheVariants.{Free, Staged, Pos
 use Rattle.core_worker.specs.declared.worker.Worker.{Worker}
 use Rattle.core_worker.specs.OwnPlaces.{place_at, key_in, is_staged}
 use Rattle.core_worker.specs.Finishing.{LetsGo, Settles, TakesBack, reply_back}
-use Rattle.core_worker.specs.Left.{place_left, taken_left, left, any_offers, under_way, Lowers}
+use Rattle.core_worker.specs.Left.{place_left, taken_left, left, any_offers, group_left, Lowers}
 use Rattle.core_worker.proofs.LeftSums.{offers_has}
 use Rattle.core_worker.proofs.LeftSteps.{finishes_way, gives_up_way, withdraws_way, unlocks_none}
 use Rattle.core_worker.proofs.LeftWorkers.{leading_way, lets_go_way, settles_way, stops_way}
@@ -64,7 +64,7 @@ withdraws_lower before after m slot n u w x made lawful low =
     let last = last_step a b (looks_upto m 0 n) m (Kind.Withdraw slot) run in
     let looked = looked_way a last.0 (upto_looked a last.0 m 0 n last.1) in
     let way = withdraws_way last.0 m slot last.2.0 last.2.1 in
-    let group = ap under_way last.2.2 in
+    let group = ap group_left last.2.2 in
     omega (arith, looked, way, group, low))
 
 -- A stopped core found none of its own slots Posted, and gives the lock back.
@@ -79,7 +79,7 @@ none_posted g m none = by (any_offers (g.slot m) 8) refl where
       found.1 _ (sym found.2 ∙ ap (λ n. state_of (word_shown (g.slot n (slot_at at.0)))) (own_member m at.0 at.1) ∙ ap (λ n. state_of (word_shown (g.slot m n))) (own_slot at.0 at.1) ∙ ap (λ (y : Slot). state_of (word_shown y)) x.1)
       )
 
-gives_over : (g h : Group) (o : Option Group) (m : ℕ) (v u : View) (w x : Worker) → NonePosted (Some g) m 8 → Runs g (looks_upto m 0 8) h → Makes (Some h) m Kind.Unlock o u → Lawful g → left x ≤ left w → IsSomeAnd o (λ e. left x + under_way e < left w + under_way g)
+gives_over : (g h : Group) (o : Option Group) (m : ℕ) (v u : View) (w x : Worker) → NonePosted (Some g) m 8 → Runs g (looks_upto m 0 8) h → Makes (Some h) m Kind.Unlock o u → Lawful g → left x ≤ left w → IsSomeAnd o (λ e. left x + group_left e < left w + group_left g)
 gives_over g h None m v u w x none run unlock L low = absurd unlock
 gives_over g h (Some e) m v u w x none run unlock L low =
     let on = upto_looked g h m 0 8 run in
@@ -89,7 +89,7 @@ gives_over g h (Some e) m v u w x none run unlock L low =
     let mine : h.holder ≡ Some m = ap (λ (y : Group). y.holder) on.1 ∙ (L.looks.holds_is m).0 holds in
     let clear : any_offers (h.slot m) 8 ≡ false = ap (λ (y : Group). any_offers (y.slot m) 8) on.1 ∙ none_posted g m none in
     let way = unlocks_none h m mine clear in
-    let group = ap under_way step.1 in
+    let group = ap group_left step.1 in
     omega (arith, looked, way, group, low)
 
 pub gives_over_lower : (before mid after : Option Group) (m : ℕ) (v u : View) (w x : Worker) → NonePosted before m 8 → MakesAll before (looks_upto m 0 8) mid m v → Makes mid m Kind.Unlock after u → IsLawful before → left x ≤ left w → Lowers before after w x

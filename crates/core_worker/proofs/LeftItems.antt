@@ -12,7 +12,7 @@ use Rattle.core_worker.specs.declared.worker.Worker.{Worker}
 use Rattle.core_worker.specs.Posting.{PostsPlain, PostsOrStops}
 use Rattle.batch_leader.specs.declared.taken.Taken.{Taken}
 use Rattle.core_worker.specs.Turns.{Moment, SameButLeading, persisted_left, failed_left, Persists, LosesBatch}
-use Rattle.core_worker.specs.Left.{place_left, leading_left, serves_left, left, under_way, Lowers}
+use Rattle.core_worker.specs.Left.{place_left, leading_left, serves_left, left, group_left, Lowers}
 use Rattle.core_worker.specs.CleaningLeft.{clears_left}
 use Rattle.core_worker.proofs.ClearsLeft as clears
 use Rattle.core_worker.proofs.LeftSums.{places_with}
@@ -24,7 +24,7 @@ abbrev pub IsLawful : Option Group → Type 0
 IsLawful before = IfSome before (λ w. ∥ Lawful w ∥₁)
 
 -- One step, of a state that is lawful.
-pub lowers_step : (before after : Option Group) (m : ℕ) (kind : Kind) (v : View) (w x : Worker) → Makes before m kind after v → IsLawful before → ((a b : Group) → Lawful a → IsStep a m kind b → left x + under_way b < left w + under_way a) → Lowers before after w x
+pub lowers_step : (before after : Option Group) (m : ℕ) (kind : Kind) (v : View) (w x : Worker) → Makes before m kind after v → IsLawful before → ((a b : Group) → Lawful a → IsStep a m kind b → left x + group_left b < left w + group_left a) → Lowers before after w x
 lowers_step None after m kind v w x made lawful less = tt
 lowers_step (Some a) None m kind v w x made lawful less = absurd made
 lowers_step (Some a) (Some b) m kind v w x made lawful less = ∥∥₁_elim lawful le_prop (λ L. less a b L made.0)
@@ -40,7 +40,7 @@ pub marks_lower : (before after : Option Group) (m : ℕ) (t : Taken) (rest : Li
 marks_lower before after m t rest v w x leads same lawful made =
     lowers_step before after m (Kind.Mark t.member t.slot) v w x made lawful (λ g u L step.
     let way = marks_way g m t.member t.slot step.0 L step.1 in
-    let group = ap under_way step.2 in
+    let group = ap group_left step.2 in
     let still = leading_way w x same in
     let now = persisted_way rest x.leading leads in
     omega (arith, way, group, still, now))
@@ -49,7 +49,7 @@ pub fails_lower : (before after : Option Group) (m : ℕ) (t : Taken) (rest : Li
 fails_lower before after m t rest v w x leads same lawful made =
     lowers_step before after m (Kind.Fail t.member t.slot) v w x made lawful (λ g u L step.
     let way = fails_way g m t.member t.slot step.0 L step.1 in
-    let group = ap under_way step.2 in
+    let group = ap group_left step.2 in
     let still = leading_way w x same in
     let now = failed_way rest x.leading leads in
     omega (arith, way, group, still, now))
@@ -57,7 +57,7 @@ fails_lower before after m t rest v w x leads same lawful made =
 pub persists_lower : (before after : Option Group) (m : ℕ) (a b : Moment) → length b.worker.places.items ≡ length a.worker.places.items → Persists m a b → IsLawful before → Makes before m Kind.Commit after b.view → Lowers before after a.worker b.worker
 persists_lower before after m a b count P lawful made =
     lowers_step before after m Kind.Commit b.view a.worker b.worker made lawful (λ w u L step.
-    let group = ap under_way step.1 in
+    let group = ap group_left step.1 in
     let same = ap serves_left P.same in
     let places = unpledges_way m P.batch.changes.taken.items a.worker b.worker count P.pledged in
     let was = ap leading_left P.led in
@@ -86,7 +86,7 @@ pub plain_lower : (before after : Option Group) (m : ℕ) (v u : View) (w x : Wo
 plain_lower before after m v u w x slot lt P lawful =
     lowers_step before after m (Kind.Post slot P.entry P.value) u w x P.whole lawful (λ a b L step.
     let way = posts_way a m slot P.entry P.value step.0 in
-    let group = ap under_way step.1 in
+    let group = ap group_left step.1 in
     let same = ap left P.rest in
     let places = places_with w.places.items x.places.items slot _ P.places lt in
     let was = ap place_left P.was in
@@ -94,7 +94,7 @@ plain_lower before after m v u w x slot lt P lawful =
 
 pub posts_lower : (before after : Option Group) (m : ℕ) (v u : View) (w x : Worker) (slot : ℕ) → w.stopped ≡ false → slot < length w.places.items → PostsOrStops m before after v u w x slot → IsLawful before → Lowers before after w x
 posts_lower before after m v u w x slot runs lt which lawful = ⊎_elim
-    (λ done. subst (λ (y : ℕ). IfSome before (λ a. IsSomeAnd after (λ b. left x + under_way b < y + under_way a))) (ap left done.1)
+    (λ done. subst (λ (y : ℕ). IfSome before (λ a. IsSomeAnd after (λ b. left x + group_left b < y + group_left a))) (ap left done.1)
     (plain_lower before after m v u done.0 x slot (subst (λ (y : Worker). slot < length y.places.items) (sym done.1) lt) done.2 lawful))
     (λ stops. lowers_still before after w x stops.2 (let same = ap left stops.0 in let was : cond w.stopped 0 1 ≡ 1 = ap {B = ℕ} (λ b. cond b 0 1) runs in omega (arith, same, was)))
     which

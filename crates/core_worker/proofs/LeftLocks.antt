@@ -23,7 +23,7 @@ use Rattle.core_worker.specs.Ties.{LeadsNothing}
 use Rattle.core_worker.specs.Turns.{Moment, SameButLeading, Looked, FindsPosted}
 use Rattle.core_worker.specs.Loads.{Load, load_kind, looks_at}
 use Rattle.core_worker.specs.Loads.Load.{Own, Mailbox}
-use Rattle.core_worker.specs.Left.{leading_left, left, offers, any_offers, HasOffer, under_way, Lowers, NotMore}
+use Rattle.core_worker.specs.Left.{leading_left, left, offers, any_offers, HasOffer, group_left, Lowers, NotMore}
 use Rattle.core_worker.proofs.LeftSums.{offers_by, offers_has}
 use Rattle.core_worker.proofs.LeftSteps.{locks_way}
 use Rattle.core_worker.proofs.LeftWorkers.{leading_way}
@@ -112,7 +112,7 @@ locks_lower (Some g) (Some u) m v w x made offer holds free now same = ⊎_elim
     (λ had.
     let at = offers_has (g.slot m) 8 offer in
     let way = locks_way g m at.0 had.0 at.1 at.2 in
-    let group = ap under_way had.1 in
+    let group = ap group_left had.1 in
     let left_same = leading_way w x same in
     let was = nothing_left w free in
     omega (arith, way, group, left_same, was, now))
@@ -126,7 +126,7 @@ busy_not_more (Some g) None m v w x made holds free now same = absurd made
 busy_not_more (Some g) (Some u) m v w x made holds free now same = ⊎_elim
     (λ had. absurd (let both : true ≡ false = sym (ap (λ b. cond b true (g.holds m)) (eq-eqb m m refl)) ∙ sym (ap (λ (y : Group). y.holds m) had.1) ∙ sym (ap (λ (y : View). y.holds) made.1) ∙ holds in cc both))
     (λ found.
-    let group = ap under_way found.2 in
+    let group = ap group_left found.2 in
     let left_same = leading_way w x same in
     let was = nothing_left w free in
     let is = nothing_left x now in

@@ -8,7 +8,7 @@ use Rattle.batch_leader.specs.Rounds.{member_at, slot_at}
 use Rattle.batch_leader.specs.Leading.{looks_upto}
 use Rattle.core_worker.specs.Loads.{Load, load_kind, looks_at}
 use Rattle.core_worker.specs.Loads.Load.{Own, Mailbox}
-use Rattle.core_worker.specs.Left.{under_way}
+use Rattle.core_worker.specs.Left.{group_left}
 
 abbrev pub LookedOn : Group → Group → Type 0
 LookedOn w u = (f : ℕ → List Seen) × (u ≡ record w { looked = f })
@@ -38,5 +38,5 @@ pub at_looked : (w u : Group) (m : ℕ) (ls : List Load) → Runs w (looks_at m 
 at_looked w u m [] r = (w.looked, r)
 at_looked w u m (l ∷ ls) r = on_then w r.0 u (load_looked w r.0 m l r.1) (at_looked r.0 u m ls r.2)
 
-pub looked_way : (w u : Group) → LookedOn w u → under_way u ≡ under_way w
-looked_way w u on = ap under_way on.1
+pub looked_way : (w u : Group) → LookedOn w u → group_left u ≡ group_left w
+looked_way w u on = ap group_left on.1

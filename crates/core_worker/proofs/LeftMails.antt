@@ -11,7 +11,7 @@ use Rattle.group_laws.specs.Tidying.{Tidied}
 use Rattle.group_board.specs.Told.{MakesBoth}
 use Rattle.core_worker.specs.declared.worker.Worker.{Worker}
 use Rattle.core_worker.specs.CleaningLeft.{notices_left, mailbox_left, mail_left}
-use Rattle.core_worker.specs.Left.{left, under_way, Lowers}
+use Rattle.core_worker.specs.Left.{left, group_left, Lowers}
 use Rattle.core_worker.proofs.LeftSums.{sum_with}
 
 abbrev Mail : Type 0
@@ -38,14 +38,14 @@ mail_with n m s f x member other =
     let here = ap mailbox_left (put_here f m s x) in
     omega (arith, row, all, here)
 
-pub receives_way : (w u : Group) (m from : ℕ) (n : Notices) → CanReceive w m from n → Tidied (receives w m from n) m u → under_way u + (1 + notices_left n) ≡ under_way w
+pub receives_way : (w u : Group) (m from : ℕ) (n : Notices) → CanReceive w m from n → Tidied (receives w m from n) m u → group_left u + (1 + notices_left n) ≡ group_left w
 receives_way w u m from n can tidied =
     let sum = mail_with (members w.place) from m w.mail None can.sender can.member in
     let was = ap mailbox_left can.full in
-    let same = ap under_way tidied.4 in
+    let same = ap group_left tidied.4 in
     omega (arith, sum, was, same)
 
-pub sends_way : (w : Group) (m to : ℕ) (n : Notices) → m < members w.place → to < members w.place → under_way (sends w m to n) ≤ under_way w + (1 + notices_left n)
+pub sends_way : (w : Group) (m to : ℕ) (n : Notices) → m < members w.place → to < members w.place → group_left (sends w m to n) ≤ group_left w + (1 + notices_left n)
 sends_way w m to n mine theirs =
     let sum = mail_with (members w.place) m to w.mail (Some n) mine theirs in
     omega (arith, sum)
@@ -56,7 +56,7 @@ receives_lower None after m from v w x made low = tt
 receives_lower (Some a) None m from v w x made low = absurd made
 receives_lower (Some a) (Some b) m from v w x made low =
     let steps = made.0 in
-    let looked = ap under_way steps.1.3 in
+    let looked = ap group_left steps.1.3 in
     let way = receives_way steps.0 b m from steps.2.0 steps.2.1 steps.2.2 in
     omega (arith, looked, way, low)
 
@@ -66,8 +66,8 @@ sends_lower None after m to n v w x made low = tt
 sends_lower (Some a) None m to n v w x made low = absurd made
 sends_lower (Some a) (Some b) m to n v w x made low =
     let steps = made.0 in
-    let looked = ap under_way steps.1.3 in
+    let looked = ap group_left steps.1.3 in
     let can = steps.2.0 in
-    let now = ap under_way steps.2.1 in
+    let now = ap group_left steps.2.1 in
     let way = sends_way steps.0 m to n can.member can.receiver in
     omega (arith, looked, now, way, low)

@@ -28,7 +28,7 @@ use Rattle.core_worker.specs.declared.worker.Worker.{Worker}
 use Rattle.core_worker.specs.Supplies.{HasKeptRoom, room_for}
 use Rattle.core_worker.specs.Ties.{Holds}
 use Rattle.core_worker.specs.Turns.{Moment, Collects, Releases, led_by}
-use Rattle.core_worker.specs.Left.{taken_left, leading_left, left, offers, any_offers, under_way, Lowers, StartsFirst}
+use Rattle.core_worker.specs.Left.{taken_left, leading_left, left, offers, any_offers, group_left, Lowers, StartsFirst}
 use Rattle.core_worker.specs.declared.types.Cleaning.TheVariants.{Nothing}
 use Rattle.core_worker.specs.Status.{is_leading}
 use Rattle.core_worker.specs.Supplies.{under_way as worker_way}
@@ -41,7 +41,7 @@ use Rattle.core_worker.proofs.LeftOwn.{own_fits}
 use Rattle.core_worker.proofs.LeftItems.{IsLawful}
 
 -- Steps of a state that is lawful.
-pub lowers_run : (before after : Option Group) (m : ℕ) (steps : List (ℕ × Kind)) (v : View) (w x : Worker) → MakesAll before steps after m v → IsLawful before → ((a b : Group) → before ≡ Some a → Lawful a → Runs a steps b → left x + under_way b < left w + under_way a) → Lowers before after w x
+pub lowers_run : (before after : Option Group) (m : ℕ) (steps : List (ℕ × Kind)) (v : View) (w x : Worker) → MakesAll before steps after m v → IsLawful before → ((a b : Group) → before ≡ Some a → Lawful a → Runs a steps b → left x + group_left b < left w + group_left a) → Lowers before after w x
 lowers_run None after m steps v w x made lawful less = tt
 lowers_run (Some a) None m steps v w x made lawful less = absurd made
 lowers_run (Some a) (Some b) m steps v w x made lawful less = ∥∥₁_elim lawful le_prop (λ L. less a b refl L made.0)
@@ -52,7 +52,7 @@ collects_lower before after m a b C lawful made =
     let last = last_step g u (looks_upto m C.old.at (C.new.at - C.old.at)) m (Kind.Take (member_at m (C.new.at - 1)) (slot_at (C.new.at - 1))) run in
     let looked = looked_way g last.0 (upto_looked g last.0 m C.old.at (C.new.at - C.old.at) last.1) in
     let way = takes_way last.0 m (member_at m (C.new.at - 1)) (slot_at (C.new.at - 1)) last.2.0 last.2.1 in
-    let group = ap under_way last.2.2 in
+    let group = ap group_left last.2.2 in
     let same = leading_way a.worker b.worker C.same in
     let was = ap leading_left C.led in
     let now = ap leading_left C.leads_now ∙ ap taken_left C.went.0.taken ∙ taken_more (taken_by C.old) C.went.0.change in
@@ -113,12 +113,12 @@ module _ (before after : Option Group) (seat : SeatAt) (a b : Moment) (R : Relea
   StepsOf g u = Runs g (steps_of false seat.number R.old R.last ++ (seat.number, Kind.Unlock) ∷ []) u
 
   -- with a batch
-  batch : (g u : Group) → 1 ≤ length (taken_by R.old) → leading_left b.worker.leading ≡ 1 + 3 * length (taken_by R.old) → StepsOf g u → left b.worker + under_way u < left a.worker + under_way g
+  batch : (g u : Group) → 1 ≤ length (taken_by R.old) → leading_left b.worker.leading ≡ 1 + 3 * length (taken_by R.old) → StepsOf g u → left b.worker + group_left u < left a.worker + group_left g
   batch g u had now run =
       let last = last_step g u (steps_of false seat.number R.old R.last) seat.number Kind.Unlock run in
       let looked = looked_way g last.0 (upto_looked g last.0 seat.number R.old.at (R.last.at - R.old.at) last.1) in
       let way = unlocks_way last.0 seat.number in
-      let group = ap under_way last.2.1 in
+      let group = ap group_left last.2.1 in
       let same = leading_way a.worker b.worker R.same in
       let old = was in
       omega (arith, looked, way, group, same, now, had, old)
@@ -130,7 +130,7 @@ module _ (before after : Option Group) (seat : SeatAt) (a b : Moment) (R : Relea
       (λ (full : length (taken_by R.last) ≡ 64). absurd (let zero_long = ap (λ (ts : List Taken). length ts) none in omega (arith, full, zero_long)))
       over
 
-  nothing : (g u : Group) → before ≡ Some g → Lawful g → taken_by R.last ≡ [] → leading_left b.worker.leading ≡ 0 → StepsOf g u → left b.worker + under_way u < left a.worker + under_way g
+  nothing : (g u : Group) → before ≡ Some g → Lawful g → taken_by R.last ≡ [] → leading_left b.worker.leading ≡ 0 → StepsOf g u → left b.worker + group_left u < left a.worker + group_left g
   nothing g u told L none now run =
       let last = last_step g u (steps_of false seat.number R.old R.last) seat.number Kind.Unlock run in
       let on = upto_looked g last.0 seat.number R.old.at (R.last.at - R.old.at) last.1 in
@@ -144,11 +144,11 @@ module _ (before after : Option Group) (seat : SeatAt) (a b : Moment) (R : Relea
       let mine : last.0.holder ≡ Some seat.number = ap (λ (x : Group). x.holder) on.1 ∙ (L.looks.holds_is seat.number).0 holds in
       let clear_here : any_offers (last.0.slot seat.number) 8 ≡ false = ap (λ (x : Group). any_offers (x.slot seat.number) 8) on.1 ∙ clear in
       let way = unlocks_none last.0 seat.number mine clear_here in
-      let group = ap under_way last.2.1 in
+      let group = ap group_left last.2.1 in
       let same = leading_way a.worker b.worker R.same in
       omega (arith, looked, way, group, same, now)
 
-  by : (r : Released) → R.given ≡ r → IsReleased seat b.view R.last r → (g u : Group) → before ≡ Some g → Lawful g → StepsOf g u → left b.worker + under_way u < left a.worker + under_way g
+  by : (r : Released) → R.given ≡ r → IsReleased seat b.view R.last r → (g u : Group) → before ≡ Some g → Lawful g → StepsOf g u → left b.worker + group_left u < left a.worker + group_left g
   by (released.Batch x) e is g u told L run =
       let taken = ap (λ (c : Changes). c.taken.items) is.1 ∙ items in
       batch g u (some_taken (taken_by R.old) (λ none. x.some (taken ∙ none))) (ap leading_left R.leads_now ∙ ap (λ (r : Released). leading_left (led_by r)) e ∙ ap (λ (ts : List Taken). 1 + 3 * length ts) taken) run

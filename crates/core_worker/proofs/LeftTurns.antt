@@ -16,7 +16,7 @@ use Rattle.core_worker.specs.declared.types.Turn.{Turn}
 use Rattle.core_worker.specs.declared.types.Turn.TheVariants.{Moved, Idle}
 use Rattle.core_worker.specs.declared.worker.Worker.{Worker}
 use Rattle.core_worker.specs.Posting.{PostsOrStops}
-use Rattle.core_worker.specs.Stopping.{Drops, WithdrawsOrUnlocks}
+use Rattle.core_worker.specs.Stopping.{DropsStaged, WithdrawsOrUnlocks}
 use Rattle.core_worker.specs.Ties.{LeadsNothing, HoldsAt}
 use Rattle.core_worker.specs.Turns.{Moment, Looked, FindsPosted, TriesLock}
 use Rattle.core_worker.specs.Loads.{Load, looks_at}
@@ -64,7 +64,7 @@ measures_looked r (Some g) (Some h) after m ss a v x posted made agrees L found 
     (less (λ yes. found_offers g h m ss a v made agrees L (subst (λ (b : Bool). MatchBool b (FindsPosted a.worker.places.items L.found 8) (FindsPosted a.worker.places.items L.found 8 → ⊥)) yes found)))
 
 -- It leads nothing, and goes on so.
-pub dropped_starts : (s : State) (slot : ℕ) (w x : Worker) (all : Bool) → LeadsNothing w → Drops s slot w x all → StartsFirst x
+pub dropped_starts : (s : State) (slot : ℕ) (w x : Worker) (all : Bool) → LeadsNothing w → DropsStaged s slot w x all → StartsFirst x
 dropped_starts s slot w x all free D = starts_still w x (ap (λ (y : Worker). y.leading) D.rest ∙ ap (λ (y : Worker). y.leading) D.puts.lets.rest) free
 
 pub posted_starts : (m : ℕ) (before after : Option Group) (v u : View) (w x : Worker) (slot : ℕ) → LeadsNothing w → PostsOrStops m before after v u w x slot → StartsFirst x

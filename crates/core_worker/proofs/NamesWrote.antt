@@ -40,7 +40,7 @@ use Rattle.core_worker.specs.declared.types.Cleaning.TheVariants.{Nothing}
 use Rattle.core_worker.specs.Supplies.{under_way}
 use Rattle.core_worker.specs.LogNames.{NamesStand, IsCleanedBy, IsClosed}
 use Rattle.core_worker.specs.Ties.{Holds, Stands}
-use Rattle.core_worker.specs.Turns.{TakesFor}
+use Rattle.core_worker.specs.Turns.{TakesChunkIf}
 use Rattle.core_worker.specs.Supplies.{left_in}
 use Rattle.core_worker.proofs.UnderWay.{nothing_raw}
 use Rattle.core_worker.proofs.CleaningKept.{runs_way}
@@ -128,12 +128,12 @@ module _ (m : ℕ) (present : ℕ → ℕ → Option ℕ) (told dead : ℕ → �
   }
 
 -- the same by a worker's ties
-module _ (s t : State) (p : Place) (m : ℕ) (v : View) (w : Worker) (a : Sets) (log' : LogState) (f : Bool) (o : Option ℕ) (es : List Entry) (H : Holds p m v w) (S : Stands s p m v w) (runs : w.stopped ≡ false) (takes : TakesFor f w.allocator a o)
+module _ (s t : State) (p : Place) (m : ℕ) (v : View) (w : Worker) (a : Sets) (log' : LogState) (f : Bool) (o : Option ℕ) (es : List Entry) (H : Holds p m v w) (S : Stands s p m v w) (runs : w.stopped ≡ false) (takes : TakesChunkIf f w.allocator a o)
     (chunk : During s t (KeepsOutside (cell_now s) (open_first (opened_for w.log o)) (open_first (opened_for w.log o) + chunk_words w.log.layout)))
     (wrote : AppendedBatch s t (opened_for w.log o) log' (padded (flat_map words_of es))) (opened : o ≡ None → is_some w.log.opened ≡ true) (st : StandingState) (batch : IsBatch es) (flying : v.flying ≡ es) (each : AllByRecursion (LacksName v.kept) es) (apart : AreNamedApart es) (clean : under_way w ≡ Nothing) where
   may_open : IsTelling s → MayOpen w.log o
   may_open telling = by o takes opened where
-    by : (o : Option ℕ) → TakesFor f w.allocator a o → (o ≡ None → is_some w.log.opened ≡ true) → MayOpen w.log o
+    by : (o : Option ℕ) → TakesChunkIf f w.allocator a o → (o ≡ None → is_some w.log.opened ≡ true) → MayOpen w.log o
     by None t some = some refl
     by (Some j) t some =
         let free = taken_free f w.allocator a j t in

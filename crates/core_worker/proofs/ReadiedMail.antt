@@ -25,7 +25,7 @@ use Rattle.core_worker.specs.Supplies.{under_way}
 use Rattle.core_worker.specs.KeyTies.{KnowsKey}
 use Rattle.core_worker.specs.Order.{InOrder}
 use Rattle.core_worker.specs.Outbox.{mailing, waiting_dead, as_told, AreToSend, HasSpare, KeepsMail, MayTell, TellsNothing}
-use Rattle.core_worker.specs.Sending.{EmptiesBox, KeepsTies, SendsNotices, SendsBox, TakesAt, TakesNames}
+use Rattle.core_worker.specs.Sending.{EmptiesBox, KeepsTiesAt, SendsNotices, SendsBox, TakesAt, TakesNames}
 use Rattle.core_worker.specs.Ties.{Holds, LeadsNothing, HasSpaceFor}
 use Rattle.core_worker.proofs.CleaningKept.{keeps_winds, keeps_boxes}
 use Rattle.core_worker.proofs.Heard.{Hears, hears_none}
@@ -202,8 +202,8 @@ module _ (p : Place) (m to : ℕ) (v : View) (w : Worker) (H : Holds p m v w) (O
     names = λ r on. O.names r (works on);
   }
 
-  pub readied : KeepsTies p m v w x
-  readied = subst (λ (y : Worker). KeepsTies p m v w y) (sym X.same) (record {
+  pub readied : KeepsTiesAt p m v w x
+  readied = subst (λ (y : Worker). KeepsTiesAt p m v w y) (sym X.same) (record {
     holds = taken_holds;
     order = taken_order;
     stands = λ s S. record { lies = S.lies; licensed = S.licensed; landed = S.landed; log = S.log; free = S.free; due = S.due; cut = S.cut; names = λ r on. S.names r (works on) };

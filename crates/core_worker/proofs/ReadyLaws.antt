@@ -16,7 +16,7 @@ use Rattle.core_worker.specs.declared.worker.Worker.{Worker}
 use Rattle.core_worker.specs.CleaningLeft.{clears_left}
 use Rattle.core_worker.specs.Left.{left}
 use Rattle.core_worker.specs.Readying.{AddsDead, TellsSome, TakesDead, Readies}
-use Rattle.core_worker.specs.Sending.{IsReady, NoneAwaits, TakesAt, TakesNames, TellsAll}
+use Rattle.core_worker.specs.Sending.{IsReadyFor, NoneAwaits, TakesAt, TakesNames, TellsAll}
 use Rattle.core_worker.proofs.Heard.{Hears, hears_none, hears_more}
 use Rattle.core_worker.proofs.HeardNames.{stands_by, dies_by, awaits_by}
 use Rattle.core_worker.proofs.ListedNames.{has_append}
@@ -168,7 +168,7 @@ takes_same home to w y x X same boxes = record {
       ∙ (λ i. record w { index = sym (ap (λ (z : Worker). z.index) same) i; notices = x.notices; winds_down = x.winds_down });
 }
 
-pub ready_same : (home to : ℕ) (w y x : Worker) → IsReady home to w y → x ≡ record y { notices = x.notices } → x.notices.items ≡ y.notices.items → IsReady home to w x
+pub ready_same : (home to : ℕ) (w y x : Worker) → IsReadyFor home to w y → x ≡ record y { notices = x.notices } → x.notices.items ≡ y.notices.items → IsReadyFor home to w x
 ready_same home to w y x R same boxes = record {
   none = subst (λ (ix : Index). NoneAwaits home ix) (sym (ap (λ (z : Worker). z.index) same)) R.none;
   spare = λ n is. R.spare n (sym (ap (λ (ns : List Notices). slice_get ns to) boxes) ∙ is);
@@ -182,7 +182,7 @@ none_later : (p : Place) (m upto : ℕ) (y x : Worker) → TellsSome y.index x.i
 none_later p m upto y x T none h lt ne n a = none h lt ne n (awaited_before y.index x.index T (core_of p h) n.key n.version a)
 
 -- one member more
-pub ready_more : (p : Place) (m to : ℕ) (w y x : Worker) → Readies p m to w y → TakesAt (core_of p to) to y x → IsReady (core_of p to) to y x → Readies p m (to + 1) w x
+pub ready_more : (p : Place) (m to : ℕ) (w y x : Worker) → Readies p m to w y → TakesAt (core_of p to) to y x → IsReadyFor (core_of p to) to y x → Readies p m (to + 1) w x
 ready_more p m to w y x R X I = record {
   takes = takes_on p w y x R.takes (takes_at p to y x X);
   none = λ h lt ne. ⊎_elim

@@ -28,7 +28,7 @@ use Rattle.core_worker.specs.Ties.{LeadsNothing}
 use Rattle.core_worker.specs.Turns.{PassesItems, IsBack, FoundBack, FindsPosted}
 use Rattle.core_worker.specs.Loads.{Load, load_kind, looks_at, LooksMade}
 use Rattle.core_worker.specs.Loads.Load.{Own}
-use Rattle.core_worker.specs.Searching.{Sees, is_given_back, is_out, shows_back, shows_out, Searched, Finds}
+use Rattle.core_worker.specs.Searching.{Sees, is_given_back, is_posted_or_taken, shows_back, shows_out, Searched, Finds}
 use Rattle.core_worker.specs.declared.search_places.Search.TheVariants.{Out}
 
 pub searched_none : (before : Option Group) (m : ℕ) (p : at.Place) (ps : List Place) (v : View) → IfSome before (λ u. (p ≡ u.place) × (v ≡ view_of u m)) → Searched before before m ps v 0 false v
@@ -61,7 +61,7 @@ back_of words.Taken b = absurd (cc b)
 back_of (words.Done h) b = tt
 back_of words.Failed b = tt
 
-out_word : (w : SlotWord) → is_out (state_of w) ≡ true → (n : ℕ) × (w ≡ words.Posted n)
+out_word : (w : SlotWord) → is_posted_or_taken (state_of w) ≡ true → (n : ℕ) × (w ≡ words.Posted n)
 out_word words.Empty b = absurd (cc b)
 out_word (words.Posted n) b = (n, refl)
 out_word words.Taken b = absurd (cc b)
@@ -134,7 +134,7 @@ module _ (before mid after : Option Group) (m : ℕ) (ps : List Place) (v : View
       none = λ s lt p. S.none s lt (ap (λ qs. is_posted (place_at qs s)) (sym same) ∙ p);
     }
 
-    loaded : is_given_back (state_of word) ≡ false → Searched before after m ps v (slot + 1) (posted || is_out (state_of word)) t
+    loaded : is_given_back (state_of word) ≡ false → Searched before after m ps v (slot + 1) (posted || is_posted_or_taken (state_of word)) t
     loaded back = record {
       found = now;
       looks = S.looks ++ Slot m slot word ∷ [];
@@ -146,17 +146,17 @@ module _ (before mid after : Option Group) (m : ℕ) (ps : List Place) (v : View
       none = λ s lt p b. ⊎_elim (λ l. S.none s l p (subst IsBack (low s l) b))
           (λ high. let e : s ≡ slot = omega (arith, lt, high) in let both : true ≡ false = sym (back_word word (subst IsBack (here s e) b)) ∙ back in absurd (cc both))
           (cases_lt s slot);
-      flag = by posted (is_out (state_of word)) refl S.flag;
+      flag = by posted (is_posted_or_taken (state_of word)) refl S.flag;
       loads = S.loads ++ Own slot ∷ [];
       made = made_more before mid after m (Own slot) S.loads u t S.made step;
     } where
-      by : (b d : Bool) → is_out (state_of word) ≡ d → MatchBool b (FindsPosted ps S.found slot) (FindsPosted ps S.found slot → ⊥) → MatchBool (b || d) (FindsPosted ps now (slot + 1)) (FindsPosted ps now (slot + 1) → ⊥)
+      by : (b d : Bool) → is_posted_or_taken (state_of word) ≡ d → MatchBool b (FindsPosted ps S.found slot) (FindsPosted ps S.found slot → ⊥) → MatchBool (b || d) (FindsPosted ps now (slot + 1)) (FindsPosted ps now (slot + 1) → ⊥)
       by true d e f = (f.0, f.1, (let lt = f.2 in omega (arith, lt)), f.3, low f.0 f.2 ∙ f.4)
       by false true e f = let o = out_word word e in (slot, o.0, omega arith, is, here slot refl ∙ o.1)
       by false false e f = λ x. ⊎_elim (λ l. f (x.0, x.1, l, x.3, sym (low x.0 l) ∙ x.4))
           (λ high. let lt = x.2 in let same : x.0 ≡ slot = omega (arith, lt, high) in
           let posted_word : word ≡ words.Posted x.1 = sym (here x.0 same) ∙ x.4 in
-          let both : true ≡ false = sym (ap (λ (y : SlotWord). is_out (state_of y)) posted_word) ∙ e in cc both)
+          let both : true ≡ false = sym (ap (λ (y : SlotWord). is_posted_or_taken (state_of y)) posted_word) ∙ e in cc both)
           (cases_lt x.0 slot)
 
 -- one place further
@@ -164,7 +164,7 @@ pub searched_on : (before mid after : Option Group) (m : ℕ) (ps : List Place) 
 searched_on before mid after m ps v slot posted u t S None sees back =
     subst (λ b. Searched before after m ps v (slot + 1) b t) (sym (or_false posted)) (beside before mid after m ps v slot posted u t S sees.0 sees.1 sees.2)
 searched_on before mid after m ps v slot posted u t S (Some state) sees back =
-    subst (λ (y : SlotState). Searched before after m ps v (slot + 1) (posted || is_out y) t) sees.1.1
+    subst (λ (y : SlotState). Searched before after m ps v (slot + 1) (posted || is_posted_or_taken y) t) sees.1.1
     (loaded before mid after m ps v slot posted u t S sees.1.0 sees.0 sees.1.2 sees.2 (ap is_given_back sees.1.1 ∙ back))
 
 -- one was found given back, and none below it

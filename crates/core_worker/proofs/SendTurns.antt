@@ -25,8 +25,8 @@ use Rattle.core_worker.specs.declared.worker.Worker.{Worker}
 use Rattle.core_worker.specs.Loads.Load.{Mailbox}
 use Rattle.core_worker.specs.Mails.{MailSteps}
 use Rattle.core_worker.specs.Outbox.{HasSpare, TellsNothing}
-use Rattle.core_worker.specs.Readying.{TakesDead, Readies, FindsFull, LooksOn, FindsBox, SendsTo, SendsBeside, SendsLowest, SendsNone, SendsShort, SendsFirst, SendSteps, StaysTied, IfOver, IfNoneSent}
-use Rattle.core_worker.specs.Sending.{HasNames, IsReady, KeepsTies, SendsBox, TakesAt, WindsOnly}
+use Rattle.core_worker.specs.Readying.{TakesDead, Readies, FindsFull, LooksOn, FindsBox, SendsTo, SendsBeside, SendsLowest, SendsNone, SendsShort, SendsFirst, SendSteps, StaysTiedFrom, IfOver, IfNoneSent}
+use Rattle.core_worker.specs.Sending.{HasNames, IsReadyFor, KeepsTiesAt, SendsBox, TakesAt, WindsOnly}
 use Rattle.core_worker.specs.Supplies.{HasKeptRoom}
 use Rattle.core_worker.specs.Ties.{HoldsAt, StandsAt, LeadsNothing}
 use Rattle.core_worker.specs.Turning.{KeepsTurn}
@@ -90,10 +90,10 @@ keeps_readied seat s t before after v u upto w y x R K = keeps_boxed seat s t be
 wound_room : (p : Place) (w y : Worker) → TakesDead p w y → y.winds_down ≡ true → HasKeptRoom w → HasKeptRoom y
 wound_room p w y T winds kept = subst (λ (z : Worker). HasKeptRoom z) (sym (T.same ∙ (λ i. record w { index = y.index; notices = y.notices; winds_down = winds i }))) (room_wound w kept)
 
-pub keeps_short : (seat : SeatAt) (s : State) (before : Option Group) (v : View) (w x : Worker) → IfSome before (λ u. (seat.place ≡ u.place) × (v ≡ view_of u seat.number)) → StandsAt s seat v w → TakesDead seat.place w x → x.winds_down ≡ true → KeepsTies seat.place seat.number v w x → KeepsTurn seat s s before before v v w x
+pub keeps_short : (seat : SeatAt) (s : State) (before : Option Group) (v : View) (w x : Worker) → IfSome before (λ u. (seat.place ≡ u.place) × (v ≡ view_of u seat.number)) → StandsAt s seat v w → TakesDead seat.place w x → x.winds_down ≡ true → KeepsTiesAt seat.place seat.number v w x → KeepsTurn seat s s before before v v w x
 keeps_short seat s before v w x agrees S T winds K =
     let new = record w { index = x.index; notices = x.notices; winds_down = x.winds_down } in
-    let L : KeepsTies seat.place seat.number v w new = subst (λ (y : Worker). KeepsTies seat.place seat.number v w y) T.same K in
+    let L : KeepsTiesAt seat.place seat.number v w new = subst (λ (y : Worker). KeepsTiesAt seat.place seat.number v w y) T.same K in
     let R = L.stands s S in
     subst (λ (y : Worker). KeepsTurn seat s s before before v v w y) (sym T.same) (record {
       moments = started s (Licensed seat.place seat.number v) S.licensed;
@@ -109,16 +109,16 @@ keeps_short seat s before v w x agrees S T winds K =
     })
 
 -- ties, from one view to the next
-pub tied_still : (seat : SeatAt) (v : View) (w : Worker) → HoldsAt seat v w → InOrderAt seat v w → StaysTied seat v v w w
+pub tied_still : (seat : SeatAt) (v : View) (w : Worker) → HoldsAt seat v w → InOrderAt seat v w → StaysTiedFrom seat v v w w
 tied_still seat v w H O = record { holds = H; order = O; stands = λ s S. S }
 
-pub tied_on : (seat : SeatAt) (v u t : View) (w y x : Worker) → StaysTied seat v u w y → StaysTied seat u t y x → StaysTied seat v t w x
+pub tied_on : (seat : SeatAt) (v u t : View) (w y x : Worker) → StaysTiedFrom seat v u w y → StaysTiedFrom seat u t y x → StaysTiedFrom seat v t w x
 tied_on seat v u t w y x A B = record { holds = B.holds; order = B.order; stands = λ s S. B.stands s (A.stands s S) }
 
-pub tied_by : (seat : SeatAt) (v : View) (w x : Worker) → KeepsTies seat.place seat.number v w x → StaysTied seat v v w x
+pub tied_by : (seat : SeatAt) (v : View) (w x : Worker) → KeepsTiesAt seat.place seat.number v w x → StaysTiedFrom seat v v w x
 tied_by seat v w x K = record { holds = K.holds; order = K.order; stands = K.stands }
 
-tied_looked : (seat : SeatAt) (v u : View) (w x : Worker) (looked : Seen) → KeepsTies seat.place seat.number v w x → LeadsNothing x → u ≡ after_find looked v → StaysTied seat v u w x
+tied_looked : (seat : SeatAt) (v u : View) (w x : Worker) (looked : Seen) → KeepsTiesAt seat.place seat.number v w x → LeadsNothing x → u ≡ after_find looked v → StaysTiedFrom seat v u w x
 tied_looked seat v u w x looked K nothing is = record {
   holds = looked_holds seat v u x (v.looked ++ looked ∷ []) is nothing K.holds;
   order = looked_order seat v u x (v.looked ++ looked ∷ []) is K.order;
@@ -129,7 +129,7 @@ pub taken_free : (home to : ℕ) (w x : Worker) → TakesAt home to w x → Lead
 taken_free home to w x X nothing = (nothing.0, ap (λ (z : Worker). z.leading) X.same ∙ nothing.1)
 
 -- What is done for one member, by what the call that sends answers: all that awaited is ready.
-module _ (seat : SeatAt) (to : ℕ) (before : Option Group) (v : View) (w y : Worker) (H : HoldsAt seat v w) (O : InOrderAt seat v w) (nothing : LeadsNothing w) (runs : w.stopped ≡ false) (works : w.winds_down ≡ false) (other : to ≢ seat.number) (X : TakesAt (core_of seat.place to) to w y) (I : IsReady (core_of seat.place to) to w y) where
+module _ (seat : SeatAt) (to : ℕ) (before : Option Group) (v : View) (w y : Worker) (H : HoldsAt seat v w) (O : InOrderAt seat v w) (nothing : LeadsNothing w) (runs : w.stopped ≡ false) (works : w.winds_down ≡ false) (other : to ≢ seat.number) (X : TakesAt (core_of seat.place to) to w y) (I : IsReadyFor (core_of seat.place to) to w y) where
   abbrev home : ℕ
   home = core_of seat.place to
 
@@ -137,7 +137,7 @@ module _ (seat : SeatAt) (to : ℕ) (before : Option Group) (v : View) (w y : Wo
   on_now = I.works ∙ works
 
   -- the same, with another list of the same boxes
-  ties : (x : Worker) → TakesAt home to w x → (x.winds_down ≡ false → (n : Notices) → slice_get x.notices.items to ≡ Some n → HasSpare n) → KeepsTies seat.place seat.number v w x
+  ties : (x : Worker) → TakesAt home to w x → (x.winds_down ≡ false → (n : Notices) → slice_get x.notices.items to ≡ Some n → HasSpare n) → KeepsTiesAt seat.place seat.number v w x
   ties x T spare = readied seat.place seat.number to v w H O runs nothing other x T (λ on. works) spare
 
   taken_full : (x : Worker) → (x ≡ record y { notices = x.notices }) → x.notices.items ≡ y.notices.items → TakesAt home to w x
@@ -151,7 +151,7 @@ module _ (seat : SeatAt) (to : ℕ) (before : Option Group) (v : View) (w y : Wo
   sent_to (Ok false) after u x some S short = (taken_full x S.0 S.1, ready_same home to w y x I S.0 S.1, inr (S.2, S.3))
   sent_to (Err memory) after u x some S short = (taken_short x short.2, short.2.2, short.0, short.1)
 
-  pub sent_tied : (r : Result Bool Memory) (after : Option Group) (u : View) (x : Worker) → IfOk r (λ sent. SendsBox sent seat.number to before after v u y x) → IfNoneSent r (StaysTied seat v u w x)
+  pub sent_tied : (r : Result Bool Memory) (after : Option Group) (u : View) (x : Worker) → IfOk r (λ sent. SendsBox sent seat.number to before after v u y x) → IfNoneSent r (StaysTiedFrom seat v u w x)
   sent_tied (Ok true) after u x S = tt
   sent_tied (Ok false) after u x S =
       let T = taken_full x S.0 S.1 in
@@ -189,7 +189,7 @@ module _ (p : Place) (m to : ℕ) (before mid after : Option Group) (v u t : Vie
       subst (λ (j : ℕ). TellsNothing n ⊎ In (Mail m j true) looks) at (here (λ mine. ne (sym at ∙ mine)) n (ap (slice_get x.notices.items) at ∙ is)))
       (cases_lt h to)
 
-  none_on : TakesAt (core_of p to) to y x → IsReady (core_of p to) to y x → FindsBox m to x mid after u t → SendsNone p m (to + 1) before after v t w x
+  none_on : TakesAt (core_of p to) to y x → IsReadyFor (core_of p to) to y x → FindsBox m to x mid after u t → SendsNone p m (to + 1) before after v t w x
   none_on X I found = ⊎_elim
       (λ none. record {
         looks = N.looks;

@@ -9,7 +9,7 @@ use Rattle.core_worker.specs.declared.worker.Worker.{Worker}
 use Rattle.core_worker.specs.Ties.{Tie, StandsBy}
 use Rattle.core_worker.specs.Beginning.{IsHeldAside, KeepsTies, ByEachView, BeginsAll, BeginsShort}
 use Rattle.core_worker.specs.Serving.{AllWait, KeepsOrders, OnlyServes}
-use Rattle.core_worker.specs.Finishing.{IsReady, IsFreed, IsToServe, IsServed, Serves, ServesByEachView, ServesShort, ShortOf, TakesBackKey, FinishesSlot}
+use Rattle.core_worker.specs.Finishing.{MayBeginWaiting, IsFreed, IsToServe, IsServed, Serves, ServesByEachView, ServesShort, ShortOf, TakesBackKey, FinishesSlot}
 use Rattle.core_worker.proofs.Beginnings.{of_aside}
 use Rattle.core_worker.proofs.Serving.{all_wait}
 
@@ -17,7 +17,7 @@ pub held_aside : (s : State) (w : Worker) (k : ℕ) (t : Tie) → IsToServe s w 
 held_aside s w k t T = record { holds = T.holds; own = T.own }
 
 -- a core that winds down begins none
-pub served_none : (s : State) (w : Worker) (k : ℕ) (t : Tie) → w.winds_down ≡ true → IsReady w k → IsToServe s w k t → IsServed s w t
+pub served_none : (s : State) (w : Worker) (k : ℕ) (t : Tie) → w.winds_down ≡ true → MayBeginWaiting w k → IsToServe s w k t → IsServed s w t
 served_none s w k t winds R T =
     let W = all_wait w k R.others (λ busy. absurd (let both : true ≡ false = sym busy ∙ R.idle in cc both)) (λ on idle. absurd (let both : true ≡ false = sym winds ∙ on in cc both)) in
     record { holds = of_aside t.place t.number t.view w T.holds W.admitted W.waits; stands = T.stands; order = T.order }

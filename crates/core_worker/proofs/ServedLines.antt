@@ -23,7 +23,7 @@ use Rattle.core_worker.specs.Supplies.{supply_of, why}
 use Rattle.core_worker.specs.Refusals.{reply_to}
 use Rattle.core_worker.specs.Answering.{IsCause, IsSaid, AddsAnswers, ShowsCause}
 use Rattle.core_worker.proofs.Given.{said_same, given_by, adds_none, adds_then, answer_untold}
-use Rattle.core_worker.specs.Beginning.{answers_of, answer_with, OnlyBegins, IsAnswered, IsStaged, GoesOn, BeginsBy, BeginsAs, Begins, BeginsAll, BeginsShort}
+use Rattle.core_worker.specs.Beginning.{answers_of, answer_with, OnlyBegins, IsAnswered, IsStaged, AnswersOrStages, BeginsBy, BeginsAs, Begins, BeginsAll, BeginsShort}
 use Rattle.core_worker.specs.WorkerMoves.{Placed, Fixed, asked, replied, request_placed, placed_in, placed_for, asked_by, stock_of}
 use Rattle.chunk_map.specs.declared.layouts.Geometry.{Geometry}
 use Rattle.engine_laws.specs.FreeStock.{Stock, LacksRoom}
@@ -83,7 +83,7 @@ module _ (Known : Type 0) (w u : Worker) (cell : Option (List ℕ)) (n : ℕ) (r
     full = full;
   }
 
-  goes_on : (c : Bool) → is_too_long w.layout r ≡ false → w.stopped ≡ false → is_change r cell ≡ c → GoesOn Known c w u cell n r → Answers Known w u cell n r ⊎ ((w.stopped ≡ false) × IsStaged w u n r × (is_too_long w.layout r ≡ false))
+  goes_on : (c : Bool) → is_too_long w.layout r ≡ false → w.stopped ≡ false → is_change r cell ≡ c → AnswersOrStages Known c w u cell n r → Answers Known w u cell n r ⊎ ((w.stopped ≡ false) × IsStaged w u n r × (is_too_long w.layout r ≡ false))
   goes_on false short runs e is = inl (running (answer_to r cell) is.0 None runs is.1 (answer_untold r cell e) tt is.2 (inl refl) (still_left r cell e) (still_runs r cell) (answer_causeless w.layout (last_of (known_at w.index (key_of r))) r cell e) (λ full. absurd (answer_not_full r cell e full)))
   goes_on true short runs e is = inr (runs, is, short)
 

@@ -22,7 +22,7 @@ use Rattle.core_worker.specs.Ties.{HoldsAt, StandsAt}
 use Rattle.core_worker.specs.Turns.{InOrderAt, Steps}
 use Rattle.core_worker.specs.Beginning.{answers_of, answer_with}
 use Rattle.core_worker.specs.Finishing.{number_in, PutsBackIf, Serves, ShortOf, IsServed}
-use Rattle.core_worker.specs.Stopping.{Drops, Withdraws}
+use Rattle.core_worker.specs.Stopping.{DropsStaged, Withdraws}
 use Rattle.core_worker.specs.Turning.{TurnMoves}
 use Rattle.core_worker.specs.WorkerMoves.{placed_in, awaits_chunk}
 use Rattle.core_index.specs.Records.{pointer_of}
@@ -42,7 +42,7 @@ key_or d None = d
 key_or d (Some b) = b.key
 
 -- a staged change is answered Stopped
-pub drop_moves : (seat : SeatAt) (s : State) (a : Option Group) (v : View) (w x : Worker) (slot : ℕ) (all : Bool) → slot < 8 → w.stopped ≡ true → HoldsAt seat v w → HoldsAt seat v x → StandsAt s seat v w → StandsAt s seat v x → InOrderAt seat v w → Steps a a seat.number v → Drops s slot w x all → TurnMoves seat s s a a v v w x
+pub drop_moves : (seat : SeatAt) (s : State) (a : Option Group) (v : View) (w x : Worker) (slot : ℕ) (all : Bool) → slot < 8 → w.stopped ≡ true → HoldsAt seat v w → HoldsAt seat v x → StandsAt s seat v w → StandsAt s seat v x → InOrderAt seat v w → Steps a a seat.number v → DropsStaged s slot w x all → TurnMoves seat s s a a v v w x
 drop_moves seat s a v w x slot all lt stopped H N S T O made D =
     let G = D.puts.lets in
     let facts = subst (IsPlaced seat.place seat.number v slot) D.place (H.placed slot lt) in

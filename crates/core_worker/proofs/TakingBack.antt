@@ -31,7 +31,7 @@ use Rattle.core_worker.specs.Beginning.{HoldsAside}
 use Rattle.core_worker.specs.Hearing.{HearsAll}
 use Rattle.core_worker.specs.StandingTies.{HearsOwn}
 use Rattle.core_worker.specs.Serving.{LeadsNothingYet}
-use Rattle.core_worker.specs.Finishing.{done_reply, LetsGo, Settles, TakesBackKey, IsReady, IsFreed}
+use Rattle.core_worker.specs.Finishing.{done_reply, LetsGo, Settles, TakesBackKey, MayBeginWaiting, IsFreed}
 use Rattle.core_worker.proofs.Beginnings.{aside_of}
 use Rattle.core_worker.proofs.Posts.{busy_by}
 use Rattle.core_worker.proofs.RoomKept.{own_with}
@@ -93,7 +93,7 @@ module _ (p : groups.Place) (m key slot : ℕ) (v u : View) (w x : Worker) (H : 
   busy_then : (k : ℕ) → k ≢ key → is_busy x.places.items k ≡ true → is_busy w.places.items k ≡ true
   busy_then k ne busy = (busy_was p m key slot v u w x aside lt was F k busy).1
 
-  ready : IsReady x key
+  ready : MayBeginWaiting x key
   ready = record {
     nothing = nothing;
     idle = idle_now p m key slot v u w x aside lt was F;

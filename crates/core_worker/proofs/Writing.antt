@@ -39,7 +39,7 @@ use Rattle.core_worker.specs.LogNames.{NamesStand}
 use Rattle.core_worker.specs.Supplies.{counted_by, left_in}
 use Rattle.core_worker.proofs.UnderWay.{still_nothing}
 use Rattle.core_worker.specs.Ties.{Leads, HasSpaceFor, KeepsFlight, is_lost, Holds, Stands}
-use Rattle.core_worker.specs.Turns.{TakesFor}
+use Rattle.core_worker.specs.Turns.{TakesChunkIf}
 use Rattle.core_worker.proofs.Led.{led_view}
 use Rattle.core_worker.proofs.MailKept.{mail_same}
 
@@ -51,7 +51,7 @@ none_counted f (x ∷ xs) none = by_first (f x) (none x) (none_counted f xs none
 
 -- where there is space for the batch, the chunk that was taken has room
 pub room_ready : (s : State) (p : Place) (m : ℕ) (v : View) (w : Worker) → Stands s p m v w → AreSets w.allocator → w.allocator.layout ≡ w.log.layout → w.stopped ≡ false
-    → (f : Bool) (own n : ℕ) (a : Sets) (o : Option ℕ) → HasSpace (room_for w) f own n → TakesFor f w.allocator a o → HasRoom s w.log n o
+    → (f : Bool) (own n : ℕ) (a : Sets) (o : Option ℕ) → HasSpace (room_for w) f own n → TakesChunkIf f w.allocator a o → HasRoom s w.log n o
 room_ready s p m v w S sets layout runs true own n a None space takes = absurd (let some = space.1 refl in let none = none_counted (chunk_is_free w.allocator) (numbers 0 w.allocator.layout.chunks) takes.0 in omega (arith, some, none))
 room_ready s p m v w S sets layout runs true own n a (Some j) space takes =
     (space.0, subst (λ (l : Geometry). j < l.chunks) layout (sets.free_in j takes.was_free).0, λ telling. (S.free runs j takes.was_free telling).1)
@@ -67,7 +67,7 @@ pub record Same (old new : Sets) : Type 0 where
   pub due : (j : ℕ) → chunk_is_due new j ≡ chunk_is_due old j
   pub used : SameBlocks old new
 
-pub takes_same : (f : Bool) (old new : Sets) (o : Option ℕ) → TakesFor f old new o → Same old new
+pub takes_same : (f : Bool) (old new : Sets) (o : Option ℕ) → TakesChunkIf f old new o → Same old new
 takes_same true old new None t = subst (Same old) (sym t.1) (record { layout = refl; part = refl; free = λ j e. e; classes = λ j. refl; due = λ j. refl; used = λ q. refl })
 takes_same true old new (Some j) t = record {
   layout = t.layout_is;
@@ -79,12 +79,12 @@ takes_same true old new (Some j) t = record {
 }
 takes_same false old new o t = subst (Same old) (sym t.1) (record { layout = refl; part = refl; free = λ j e. e; classes = λ j. refl; due = λ j. refl; used = λ q. refl })
 
-pub taken_free : (f : Bool) (old new : Sets) (j : ℕ) → TakesFor f old new (Some j) → chunk_is_free old j ≡ true
+pub taken_free : (f : Bool) (old new : Sets) (j : ℕ) → TakesChunkIf f old new (Some j) → chunk_is_free old j ≡ true
 taken_free true old new j t = t.was_free
 taken_free false old new j t = absurd (cc (t.0))
 
 -- the taken chunk is free no more
-pub not_free : (f : Bool) (old new : Sets) (j : ℕ) → TakesFor f old new (Some j) → chunk_is_free new j ≡ false
+pub not_free : (f : Bool) (old new : Sets) (j : ℕ) → TakesChunkIf f old new (Some j) → chunk_is_free new j ≡ false
 not_free true old new j t = t.free j ∙ (let same = eq-eqb j j refl in ap (λ b. chunk_is_free old j && not b) same ∙ and_none (chunk_is_free old j)) where
   and_none : (b : Bool) → (b && not true) ≡ false
   and_none true = refl
@@ -167,7 +167,7 @@ opened_layout log None = refl
 opened_layout log (Some j) = refl
 
 -- After a batch in one chunk, each other chunk is what it was.
-module _ (s t : State) (p : Place) (m : ℕ) (v : View) (w : Worker) (a : Sets) (log' : LogState) (f : Bool) (o : Option ℕ) (ws : List ℕ) (H : Holds p m v w) (S : Stands s p m v w) (runs : w.stopped ≡ false) (takes : TakesFor f w.allocator a o)
+module _ (s t : State) (p : Place) (m : ℕ) (v : View) (w : Worker) (a : Sets) (log' : LogState) (f : Bool) (o : Option ℕ) (ws : List ℕ) (H : Holds p m v w) (S : Stands s p m v w) (runs : w.stopped ≡ false) (takes : TakesChunkIf f w.allocator a o)
     (chunk : During s t (KeepsOutside (cell_now s) (open_first (opened_for w.log o)) (open_first (opened_for w.log o) + chunk_words w.log.layout)))
     (wrote : AppendedBatch s t (opened_for w.log o) log' (padded ws)) (opened : o ≡ None → is_some w.log.opened ≡ true) where
   abbrev n : ℕ
@@ -199,7 +199,7 @@ module _ (s t : State) (p : Place) (m : ℕ) (v : View) (w : Worker) (a : Sets) 
 
   open_in : n < w.log.layout.chunks
   open_in = by_fresh o takes opened where
-    by_fresh : (o : Option ℕ) → TakesFor f w.allocator a o → (o ≡ None → is_some w.log.opened ≡ true) → open_number (opened_for w.log o) < w.log.layout.chunks
+    by_fresh : (o : Option ℕ) → TakesChunkIf f w.allocator a o → (o ≡ None → is_some w.log.opened ≡ true) → open_number (opened_for w.log o) < w.log.layout.chunks
     by_fresh None t some = (open_chunk_of w.log (S.log runs).own (some refl)).within
     by_fresh (Some j) t some = subst (λ (l : Geometry). j < l.chunks) (H.allocator_layout ∙ sym H.log_layout) (H.sets.free_in j (taken_free f w.allocator a j t)).0
 
@@ -235,7 +235,7 @@ module _ (s t : State) (p : Place) (m : ℕ) (v : View) (w : Worker) (a : Sets) 
   low j lt = subst (λ (l : Geometry). j < l.chunks) (H.allocator_layout ∙ sym H.log_layout) lt
 
   not_taken : (j : ℕ) → (chunk_is_free w.allocator j ≡ true → ⊥) → (i : ℕ) → o ≡ Some i → j ≢ i
-  not_taken j isnt i e here = isnt (subst (λ (k : ℕ). chunk_is_free w.allocator k ≡ true) (sym here) (taken_free f w.allocator a i (subst (λ (x : Option ℕ). TakesFor f w.allocator a x) e takes)))
+  not_taken j isnt i e here = isnt (subst (λ (k : ℕ). chunk_is_free w.allocator k ≡ true) (sym here) (taken_free f w.allocator a i (subst (λ (x : Option ℕ). TakesChunkIf f w.allocator a x) e takes)))
 
   -- the ties to the region after the batch
   pub stands_wrote : (u : View) (x : Persisted) (st : StandingState) → (w.winds_down ≡ false → IsTelling t → NamesStand t m (v.kept ++ v.flying) v.present v.told v.dead log' st w.clearing w.cleaning) → u ≡ after_commit v → (IsTelling t → Licensed p m u (cell_now t)) → Stands t p m u (record w { log = log'; allocator = a; leading = leads.Persisted x; standing = st })
@@ -251,7 +251,7 @@ module _ (s t : State) (p : Place) (m : ℕ) (v : View) (w : Worker) (a : Sets) 
     free = λ running j is telling.
         let was = S.free runs j (same.free j is) (told telling) in
         let lt = low j (H.sets.free_in j (same.free j is)).0 in
-        let ne = other_than j was.0 (λ i e here. let no = not_free f w.allocator a i (subst (λ (y : Option ℕ). TakesFor f w.allocator a y) e takes) in let both : true ≡ false = sym is ∙ ap (chunk_is_free a) here ∙ no in cc both) in
+        let ne = other_than j was.0 (λ i e here. let no = not_free f w.allocator a i (subst (λ (y : Option ℕ). TakesChunkIf f w.allocator a y) e takes) in let both : true ≡ false = sym is ∙ ap (chunk_is_free a) here ∙ no in cc both) in
         (tail_stays j lt ne telling was.0, kind_stays j lt ne telling 0 was.1);
     due = λ running j is telling.
         let due_was = sym (same.due j) ∙ is in

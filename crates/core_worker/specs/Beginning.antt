@@ -137,17 +137,17 @@ pub record IsStaged (old new : Worker) (number : ℕ) (r : Request) : Type 0 whe
   pub records : (k : ℕ) → known_at new.index k ≡ known_at old.index k
 
 -- The request was answered by its cell, as far as what the region has is known, or staged where it changes something.
-abbrev pub GoesOn : Type 0 → Bool → Worker → Worker → Option (List ℕ) → ℕ → Request → Type 0
-GoesOn Known false old new cell n r = (reply : Reply) × IsSaid Known r (answer_to r cell) reply
+abbrev pub AnswersOrStages : Type 0 → Bool → Worker → Worker → Option (List ℕ) → ℕ → Request → Type 0
+AnswersOrStages Known false old new cell n r = (reply : Reply) × IsSaid Known r (answer_to r cell) reply
     × IsAnswered old new (answer_with n reply None)
-GoesOn Known true old new cell n r = IsStaged old new n r
+AnswersOrStages Known true old new cell n r = IsStaged old new n r
 
 -- Where it is refused, that is its answer, with the first cause.
 abbrev pub BeginsBy : Type 0 → Option Shortage → Worker → Worker → Option (List ℕ) → ℕ → Request
     → Type 0
 BeginsBy Known (Some cause) old new cell n r = IsAnswered old new
     (answer_with n (reply_to cause) (Some cause))
-BeginsBy Known None old new cell n r = GoesOn Known (is_change r cell) old new cell n r
+BeginsBy Known None old new cell n r = AnswersOrStages Known (is_change r cell) old new cell n r
 
 -- To begin a request of a key with this cell: a core that has stopped answers so.
 abbrev pub BeginsAs : Type 0 → Bool → Worker → Worker → Option (List ℕ) → ℕ → Request → Type 0

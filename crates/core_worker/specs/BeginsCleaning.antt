@@ -93,8 +93,8 @@ pub record BeginsWith (b : Begun) (w x : Worker) : Type 0 where
   }
 
 -- What a search for a chunk to clean led to: where there was no memory for the cleaning, the core winds down.
-abbrev pub Begins : Result Bool Memory → State → Worker → Worker → Type 0
-Begins (Ok true) s w x = BeginsOne s w x
-Begins (Ok false) s w x = BeginsNone s w x
-Begins (Err memory) s w x = (w.stopped ≡ false) × (w.winds_down ≡ false)
+abbrev pub BeginsAtMostOne : Result Bool Memory → State → Worker → Worker → Type 0
+BeginsAtMostOne (Ok true) s w x = BeginsOne s w x
+BeginsAtMostOne (Ok false) s w x = BeginsNone s w x
+BeginsAtMostOne (Err memory) s w x = (w.stopped ≡ false) × (w.winds_down ≡ false)
     × ((found : Worker) × LooksForOne s w found × (x ≡ record found { winds_down = true }))

@@ -8,8 +8,8 @@ use Rattle.group_board.specs.Views.{after_find}
 use Rattle.group_board.specs.Told.{Makes, MakesBoth}
 
 -- it received, or loaded the mailbox and found it empty
-abbrev pub Receives : Bool → ℕ → ℕ → Option Group → Option Group → View → View → Type 0
-Receives true m from before after v u = MakesBoth before m (Kind.LookMail from m) (Kind.Receive from)
+abbrev pub ReceivesOrLooks : Bool → ℕ → ℕ → Option Group → Option Group → View → View → Type 0
+ReceivesOrLooks true m from before after v u = MakesBoth before m (Kind.LookMail from m) (Kind.Receive from)
     after u
-Receives false m from before after v u = (u ≡ after_find (Mail from m false) v)
+ReceivesOrLooks false m from before after v u = (u ≡ after_find (Mail from m false) v)
     × Makes before m (Kind.LookMail from m) after u

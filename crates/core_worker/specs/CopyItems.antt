@@ -11,7 +11,7 @@ use Rattle.core_worker.specs.declared.types.Cleaning.TheVariants.{Nothing, Copyi
 use Rattle.core_worker.specs.declared.worker.Worker.{Worker}
 use Rattle.core_worker.specs.CopyTurns.{left_of, CopiesBatch}
 use Rattle.core_worker.specs.Supplies.{supply_of, rest}
-use Rattle.core_worker.specs.TakenChunks.{TakesFor}
+use Rattle.core_worker.specs.TakenChunks.{TakesChunkIf}
 
 -- the first copy goes into a fresh chunk where what is promised doesn't fit in the open one
 abbrev pub needs_chunk : Bool → Worker → Bool
@@ -20,7 +20,7 @@ needs_chunk first w = first && needs_fresh (supply_of w)
 -- The next batch was copied, the first one into the lowest free chunk where it needs one; what is left is less.
 pub record CopiesOn (victim : Victim) (first : Bool) (w x : Worker) : Type 0 where
   pub fresh : Option ℕ
-  pub takes : TakesFor (needs_chunk first w) w.allocator x.allocator fresh
+  pub takes : TakesChunkIf (needs_chunk first w) w.allocator x.allocator fresh
   pub sets : AreSets x.allocator
   pub fits : fresh ≡ None → rest (Copying victim first) ≤ room_of w.log
   pub count : ℕ
@@ -37,7 +37,7 @@ pub record CopiesOn (victim : Victim) (first : Bool) (w x : Worker) : Type 0 whe
 -- A call of the region failed meanwhile, and the core stopped. Just the names stand that stood.
 pub record LosesCopies (first : Bool) (w x : Worker) : Type 0 where
   pub fresh : Option ℕ
-  pub takes : TakesFor (needs_chunk first w) w.allocator x.allocator fresh
+  pub takes : TakesChunkIf (needs_chunk first w) w.allocator x.allocator fresh
   pub sets : AreSets x.allocator
   pub layout : x.log.layout ≡ w.log.layout
   pub part : x.log.part ≡ w.log.part
@@ -52,7 +52,7 @@ pub record LosesCopies (first : Bool) (w x : Worker) : Type 0 where
 
 -- There is no room for what is left, which the room rule excludes: the chunk stays as it is, and is cleaned no more.
 pub record LeavesCopies (victim : Victim) (first : Bool) (w x : Worker) : Type 0 where
-  pub none : TakesFor (needs_chunk first w) w.allocator w.allocator None
+  pub none : TakesChunkIf (needs_chunk first w) w.allocator w.allocator None
   pub lacks : room_of w.log < rest (Copying victim first)
   pub same : x ≡ record w { cleaning = Nothing; clearing = None }
 

@@ -114,7 +114,7 @@ StopsByFailed before m old new = new.stopped ≡ true → (old.stopped ≡ true)
     ⊎ IfSome before (λ a. (n : ℕ) × (d : Entry) × (a.slot m n ≡ Failed d))
 
 -- Nothing of the key stands in a place any more, and what waits of it may be begun.
-pub record IsReady (w : Worker) (k : ℕ) : Type 0 where
+pub record MayBeginWaiting (w : Worker) (k : ℕ) : Type 0 where
   pub nothing : LeadsNothingYet w
   pub idle : is_busy w.places.items k ≡ false
   pub room : length (waiting w.queue k) ≤ room_at w.index k
@@ -160,7 +160,7 @@ pub record IsFreed (p : groups.Place) (m : ℕ) (v u : View) (old new : Worker) 
   pub stands : (s : State) → Stands s p m v old → Stands s p m u new
   pub order : InOrder p m u new
   pub own : groups.owner p k ≡ m
-  pub ready : IsReady new k
+  pub ready : MayBeginWaiting new k
   pub rule : HasKeptRoom old → HasKeptRoom new
 
 -- The change is taken back and its place is free, and then the key's waiting requests are begun; `all` where none of them is in hand.

@@ -94,18 +94,18 @@ lock_left (Some h) slot = if any_offers (slot h) SLOTS then 0 else 2
 abbrev pub slots_left : Group → ℕ
 slots_left w = sum_below (members w.place) (λ a. sum_below SLOTS (λ s. slot_left (w.slot a s)))
 
-abbrev pub under_way : Group → ℕ
-under_way w = slots_left w + (lock_left w.holder w.slot + mail_left (members w.place) w.mail)
+abbrev pub group_left : Group → ℕ
+group_left w = slots_left w + (lock_left w.holder w.slot + mail_left (members w.place) w.mail)
 
 -- where the state is told, there is less to do now
 abbrev pub Lowers : Option Group → Option Group → Worker → Worker → Type 0
 Lowers before after w x = IfSome before (λ a. IsSomeAnd after
-    (λ b. left x + under_way b < left w + under_way a))
+    (λ b. left x + group_left b < left w + group_left a))
 
 -- there is no more to do than before
 abbrev pub NotMore : Option Group → Option Group → Worker → Worker → Type 0
 NotMore before after w x = IfSome before (λ a. IsSomeAnd after
-    (λ b. left x + under_way b ≤ left w + under_way a))
+    (λ b. left x + group_left b ≤ left w + group_left a))
 
 -- by what a turn answers: where it moved, or had no memory for all of it, there is less to do, and else no more
 abbrev pub MeasuresTurn : Turn → Option Group → Option Group → Worker → Worker → Type 0

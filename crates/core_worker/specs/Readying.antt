@@ -27,7 +27,7 @@ use Rattle.core_worker.specs.Hearing.{is_dead_by, last_change}
 use Rattle.core_worker.specs.Loads.{Load, looks_at}
 use Rattle.core_worker.specs.Order.{InOrder}
 use Rattle.core_worker.specs.Outbox.{TellsNothing}
-use Rattle.core_worker.specs.Sending.{EmptiesBox, IsReady, NoneAwaits, TakesAt}
+use Rattle.core_worker.specs.Sending.{EmptiesBox, IsReadyFor, NoneAwaits, TakesAt}
 use Rattle.core_worker.specs.Ties.{HoldsAt, KeepsStanding}
 
 -- More dead names wait for the member of a home: each awaited to be told there.
@@ -95,9 +95,9 @@ pub record SendsAll (m to : ℕ) (before after : Option Group) (v u : View) (w x
 abbrev pub SendsTo : Result Bool Memory → Place → ℕ → ℕ → Option Group → Option Group → View → View
     → Worker → Worker → Type 0
 SendsTo (Ok true) p m to before after v u w x = (y : Worker) × TakesAt (core_of p to) to w y
-    × IsReady (core_of p to) to w y × SendsAll m to before after v u y x
+    × IsReadyFor (core_of p to) to w y × SendsAll m to before after v u y x
 SendsTo (Ok false) p m to before after v u w x = TakesAt (core_of p to) to w x
-    × IsReady (core_of p to) to w x × FindsBox m to x before after v u
+    × IsReadyFor (core_of p to) to w x × FindsBox m to x before after v u
 SendsTo (Err memory) p m to before after v u w x = TakesAt (core_of p to) to w x
     × (x.winds_down ≡ true) × (u ≡ v) × (after ≡ before)
 
@@ -151,7 +151,7 @@ SendSteps (Ok false) v u old new = OnlyLoads v u old new
 SendSteps (Err memory) v u old new = OnlyLoads v u old new
 
 -- a worker that is tied with a view is so with a later one, and by each region what stood stands
-pub record StaysTied (seat : SeatAt) (v u : View) (w x : Worker) : Type 0 where
+pub record StaysTiedFrom (seat : SeatAt) (v u : View) (w x : Worker) : Type 0 where
   pub holds : HoldsAt seat u x
   pub order : InOrder seat.place seat.number u x
   pub stands : KeepsStanding seat v u w x

@@ -37,12 +37,12 @@ is_given_back slots.Taken = false
 is_given_back slots.Done = true
 is_given_back slots.Failed = true
 
-abbrev pub is_out : SlotState → Bool
-is_out slots.Empty = false
-is_out (slots.Posted n) = true
-is_out slots.Taken = false
-is_out slots.Done = false
-is_out slots.Failed = false
+abbrev pub is_posted_or_taken : SlotState → Bool
+is_posted_or_taken slots.Empty = false
+is_posted_or_taken (slots.Posted n) = true
+is_posted_or_taken slots.Taken = false
+is_posted_or_taken slots.Done = false
+is_posted_or_taken slots.Failed = false
 
 abbrev pub shows_back : Option SlotState → Bool
 shows_back None = false
@@ -50,7 +50,7 @@ shows_back (Some x) = is_given_back x
 
 abbrev pub shows_out : Option SlotState → Bool
 shows_out None = false
-shows_out (Some x) = is_out x
+shows_out (Some x) = is_posted_or_taken x
 
 -- The slots of the posted places below one were loaded, and none was found given back.
 pub record Searched (before after : Option Group) (m : ℕ) (ps : List Place) (v : View) (upto : ℕ)

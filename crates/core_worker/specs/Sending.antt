@@ -58,13 +58,13 @@ pub record TakesAt (home to : ℕ) (w x : Worker) : Type 0 where
   pub same : x ≡ record w { index = x.index; notices = x.notices; winds_down = x.winds_down }
 
 -- nothing awaits there any more, there is a place for one dead name more, and it goes on
-pub record IsReady (home to : ℕ) (w x : Worker) : Type 0 where
+pub record IsReadyFor (home to : ℕ) (w x : Worker) : Type 0 where
   pub none : NoneAwaits home x.index
   pub spare : (n : Notices) → slice_get x.notices.items to ≡ Some n → HasSpare n
   pub works : x.winds_down ≡ w.winds_down
 
 -- a worker that is tied and in order there is so still, and by each region what stood stands
-pub record KeepsTies (p : Place) (m : ℕ) (v : View) (w x : Worker) : Type 0 where
+pub record KeepsTiesAt (p : Place) (m : ℕ) (v : View) (w x : Worker) : Type 0 where
   pub holds : Holds p m v x
   pub order : InOrder p m v x
   pub stands : (s : State) → Stands s p m v w → Stands s p m v x

@@ -43,7 +43,7 @@ FreesBySight old new k = (t : Tie) → HoldsBy t old → InOrderBy t old
     → IsFreed t.place t.number t.view t.view old new k
 
 -- Item 5 of a stopped core: the staged change of a place is answered Stopped, its block put back, and then the key's waiting requests are begun; `all` where there was memory for it.
-pub record Drops (s : State) (slot : ℕ) (old new : Worker) (all : Bool) : Type 0 where
+pub record DropsStaged (s : State) (slot : ℕ) (old new : Worker) (all : Bool) : Type 0 where
   pub number : ℕ
   pub entry : Entry
   pub value : List ℕ

@@ -11,6 +11,6 @@ appended_to log batch = record log {
 }
 
 -- the lowest free chunk is taken, where one is needed
-abbrev pub TakesFor : Bool → Sets → Sets → Option ℕ → Type 0
-TakesFor true old new fresh = TakesChunkOrNone old new fresh
-TakesFor false old new fresh = (fresh ≡ None) × (new ≡ old)
+abbrev pub TakesChunkIf : Bool → Sets → Sets → Option ℕ → Type 0
+TakesChunkIf true old new fresh = TakesChunkOrNone old new fresh
+TakesChunkIf false old new fresh = (fresh ≡ None) × (new ≡ old)

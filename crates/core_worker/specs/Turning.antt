@@ -22,7 +22,7 @@ use Rattle.core_worker.specs.declared.choose_item.Choice.TheVariants.{Pass, Drop
 use Rattle.core_worker.specs.OwnPlaces.{is_staged, IsLowest}
 use Rattle.core_worker.specs.Turns.{BeginsToClean, Moment, InOrderAt, GoesRound, PersistsOrLoses, Marks, Fails, Finishes, Posts, LosesBlock, Receives, Sends, WindsDown, Locks, Idles, PassesItems, PassesPost, FindsPosted, Dooms, Copies, LosesBatchOfCopies, Clears, LosesClearing}
 use Rattle.core_worker.specs.Posting.{PointsNowhere}
-use Rattle.core_worker.specs.Stopping.{Drops, WithdrawsOrUnlocks}
+use Rattle.core_worker.specs.Stopping.{DropsStaged, WithdrawsOrUnlocks}
 use Rattle.core_worker.specs.WorkerMoves.{Fixed, hands_of, WorkerMoves}
 
 -- What a turn fixed is what the worker answers besides, and the turn is a whole move to whoever runs several workers.
@@ -61,7 +61,7 @@ pub record DropsLowest (s : State) (m : ℕ) (a b : Moment) (all : Bool) : Type 
   pub stopped : a.worker.stopped ≡ true
   pub works : a.worker.winds_down ≡ false
   pub lowest : IsLowest is_staged a.worker.places.items slot
-  pub drops : Drops s slot a.worker b.worker all
+  pub drops : DropsStaged s slot a.worker b.worker all
   pub view : b.view ≡ mid
 
 -- The item of the order of work that a turn did. Where there was no memory for what waited of a key, `all` is false. All but those that write, which lose a write, which post behind a block that was written, which copy, or which end a cleaning, leave the region as it was. A change is posted only where no fault of the region was counted in the turn.

@@ -45,7 +45,7 @@ use Rattle.core_worker.specs.DoomsNames.{DoomsIn}
 use Rattle.core_worker.specs.EndsCleaning.{EndsIn}
 use Rattle.core_worker.specs.Ties.{LeadsNothing}
 use Rattle.core_worker.specs.StandingTies.{AddsNames}
-pub use Rattle.core_worker.specs.TakenChunks.{TakesFor, appended_to}
+pub use Rattle.core_worker.specs.TakenChunks.{TakesChunkIf, appended_to}
 use Rattle.core_worker.specs.Order.{InOrder}
 use Rattle.core_worker.specs.Supplies.{room_for, under_way}
 use Rattle.core_worker.specs.Finishing.{FinishesSlot}
@@ -149,7 +149,7 @@ pub record Persists (m : ℕ) (a b : Moment) : Type 0 where
   pub leads_now : b.worker.leading ≡ leads.Persisted done
   pub gives : done.left.taken.items ≡ batch.changes.taken.items
   pub fresh : Option ℕ
-  pub chunk : TakesFor batch.fresh a.worker.allocator b.worker.allocator fresh
+  pub chunk : TakesChunkIf batch.fresh a.worker.allocator b.worker.allocator fresh
   pub log : b.worker.log ≡ appended_to (opened_for a.worker.log fresh)
       (padded (spelled batch.changes.taken.items))
   pub pledged : Unpledges m batch.changes.taken.items a.worker b.worker

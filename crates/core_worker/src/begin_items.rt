@@ -5,7 +5,7 @@ ghost use Rattle.core_log.specs.Log.{StandsIn};
 ghost use Rattle.lazy_alloc.specs.Sets.{free_chunk_count};
 ghost use Rattle.log_cleaner.specs.Floors.{HasFloors};
 ghost use Rattle.log_standing.specs.ChunkCounts.{IsStandingOf};
-ghost use Rattle.core_worker.specs.BeginsCleaning.{Begins, BeginsWith, MakesPlaces, MayNotBegin};
+ghost use Rattle.core_worker.specs.BeginsCleaning.{BeginsAtMostOne, BeginsWith, MakesPlaces, MayNotBegin};
 ghost use Rattle.core_worker.specs.Refusals.{IsMeasured};
 
 use crate::begin_cleaning::{Begun, begin_cleaning};
@@ -43,7 +43,7 @@ impl Worker {
         self.accepted && self.allocator.free_chunks() <= 1
     }
 
-    // Begins the cleaning of a chunk. Where there is no memory for it, nothing is another one.
+    // BeginsAtMostOne the cleaning of a chunk. Where there is no memory for it, nothing is another one.
     fn begin_with(&mut self, alloc: Global, begun: Begun) -> Result<(), Memory>
         ensures begins { OnOk result (BeginsWith begun self.old self.new) }
         ensures memory { OnErr result (self.new ≡ self.old) }
@@ -64,7 +64,7 @@ impl Worker {
         Ok(())
     }
 
-    // Begins a cleaning of the next victim, where one may begin. Where there is no memory for it the core winds down.
+    // BeginsAtMostOne a cleaning of the next victim, where one may begin. Where there is no memory for it the core winds down.
     pub(crate) fn begin_next<R: Region>(
         &mut self,
         alloc: Global,
@@ -80,7 +80,7 @@ impl Worker {
         requires floors { self.old.stopped ≡ false → self.old.winds_down ≡ false
             → IsTelling (R.state region.now)
             → HasFloors (R.state region.now) self.old.log self.old.standing }
-        ensures { Begins result (R.state region.now) self.old self.new }
+        ensures { BeginsAtMostOne result (R.state region.now) self.old self.new }
     {
         if !self.may_search() {
             return Ok(false);

@@ -9,7 +9,7 @@ ghost use Rattle.core_worker.specs.OwnPlaces.{is_busy};
 ghost use Rattle.core_worker.specs.Supplies.{HasKeptRoom};
 ghost use Rattle.core_worker.specs.Refusals.{HasAnswerRoom};
 ghost use Rattle.core_worker.specs.Beginning.{HasFree, StandsAside, KeepsTies, ByEachView, BeginsAll, BeginsShort};
-ghost use Rattle.core_worker.specs.Finishing.{IsReady, IsServed, IsToServe, ServesByEachView, ServesShort};
+ghost use Rattle.core_worker.specs.Finishing.{MayBeginWaiting, IsServed, IsToServe, ServesByEachView, ServesShort};
 ghost use Rattle.core_worker.specs.Ties.{Tie};
 ghost use Rattle.core_worker.specs.Serving.{AllWait, KeepsOrders, LeadsNothingYet, OnlyServes, OthersWait};
 ghost use Rattle.core_worker.specs.Left.{left};
@@ -87,7 +87,7 @@ impl Worker {
         key: Key,
     ) -> Result<(), Memory>
         requires tied { (t : Tie) × IsToServe (R.state region.now) self.old key t }
-        requires ready { IsReady self.old key }
+        requires ready { MayBeginWaiting self.old key }
         ensures ties { (s : State) (t : Tie) → IsToServe s self.old key t
             → IsServed s self.new t }
         ensures begins { OnOk result

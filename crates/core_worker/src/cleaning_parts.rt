@@ -1,21 +1,16 @@
 // Parts of a turn that receives, and of one that dooms.
-ghost use Rattle.std.specs.Prelude.{◌≡◌, ℕ, ◌≤◌, ◌<◌, true, false, [], ◌∷◌, length, is_some};
-ghost use Rattle.pm_region.specs.State.{IsTelling};
-ghost use Rattle.core_log.specs.Log.{StandsIn, tail_of};
-ghost use Rattle.core_log.specs.Walking.{entries_in};
+ghost use Rattle.std.specs.Prelude.{◌≡◌, ◌<◌, true, false, ◌∷◌, length};
 ghost use Rattle.group_laws.specs.declared.group_sizes.TheConstants.{SLOTS};
 ghost use Rattle.group_laws.specs.declared.types.Seen.TheVariants as loads;
 ghost use Rattle.group_laws.specs.Places.{members, core_of};
 ghost use Rattle.group_laws.specs.Runs as runs;
-ghost use Rattle.group_board.specs.Views.{after_find, after_doom};
-ghost use Rattle.group_board.specs.Told.{Makes, MakesBoth};
-ghost use Rattle.log_standing.specs.NameCounts.{is_told};
+ghost use Rattle.group_board.specs.Told.{Makes};
 ghost use Rattle.group_board.specs.Trails.{step_with};
-ghost use Rattle.log_cleaner.specs.Clearing.{IsFresh, AreLone, AreNoted, IsGathered};
 ghost use Rattle.log_cleaner.specs.Vanishing.{MayGo};
 ghost use Rattle.core_worker.specs.GoneNames.{KnowsAll};
 ghost use Rattle.core_worker.specs.LogNames.{KnowsBy};
-ghost use Rattle.core_worker.specs.CleaningParts.{Receives};
+ghost use Rattle.core_worker.specs.CleaningParts.{ReceivesOrLooks};
+ghost use Rattle.core_worker.specs.DoomsNames.{HasDoomed, MayDoom};
 
 use crate::log_names::hear_notices;
 use crate::types::Place;
@@ -26,7 +21,7 @@ use log_cleaner::Clearing;
 use log_standing::Standing;
 use pm_region::Region;
 
-// Receives what a member told, where it told something: dead entries of the own log, and gone ones of own keys. The
+// ReceivesOrLooks what a member told, where it told something: dead entries of the own log, and gone ones of own keys. The
 // index, the places and the names that stand are then what the view has.
 pub(crate) fn receive_from<B: Board>(
     index: &mut CoreIndex,
@@ -47,7 +42,7 @@ pub(crate) fn receive_from<B: Board>(
         places.new.items index.new }
     ensures names { KnowsBy (B.seat board.old).number (B.view board.old) standing.old
         → KnowsBy (B.seat board.old).number (B.view board.new) standing.new }
-    ensures received { Receives result (B.seat board.old).number from (B.whole board.old)
+    ensures received { ReceivesOrLooks result (B.seat board.old).number from (B.whole board.old)
         (B.whole board.new) (B.view board.old) (B.view board.new) }
 {
     match board.receive(from) {
@@ -69,24 +64,12 @@ pub(crate) fn doom_names<R: Region, B: Board>(
     standing: &Standing,
     clearing: &mut Clearing,
 )
-    requires stands { StandsIn (R.state region.now) log.now }
-    requires has { is_some (tail_of log.now.chunks clearing.old.chunk) ≡ true }
-    requires fresh { IsFresh clearing.old }
-    requires room { IsTelling (R.state region.now)
-        → length (entries_in (R.state region.now) log.now clearing.old.chunk) ≤ clearing.old.room }
-    requires member { (B.seat board.old).number < members (B.seat board.old).place }
-    requires told { (k n : ℕ) → is_told standing.now k n ≡ true
-        → (B.view board.old).dead k n ≡ true }
-    requires idle { (B.view board.old).flying ≡ [] }
+    requires { MayDoom (R.state region.now) (B.seat board.old) (B.view board.old) log.now
+        standing.now clearing.old }
     ensures seat { B.seat board.new ≡ B.seat board.old }
-    ensures view { B.view board.new ≡ after_doom clearing.new.doomed (B.view board.old) }
+    ensures doomed { HasDoomed (R.state region.now) log.now standing.now clearing.old clearing.new
+        (B.view board.old) (B.view board.new) }
     ensures may { MayGo (B.view board.new) clearing.new.doomed }
-    ensures gathered { IsTelling (R.state region.now) → IsGathered standing.now
-        (entries_in (R.state region.now) log.now clearing.old.chunk) clearing.new }
-    ensures lone { AreLone standing.now clearing.new.doomed }
-    ensures noted { AreNoted clearing.new }
-    ensures few { length clearing.new.doomed ≤ clearing.old.room }
-    ensures chunk { clearing.new.chunk ≡ clearing.old.chunk }
     ensures steps { (B.trail board.new
         ≡ step_with (runs.Kind.Doom clearing.new.doomed) (B.view board.new) ∷ B.trail board.old)
         × (B.at board.new ≡ (R.state region.now).stamp) }

@@ -1,28 +1,24 @@
 // The turn that ends a cleaning.
-ghost use Rattle.std.specs.Prelude.{◌≡◌, ◌≢◌, ℕ, ◌+◌, ◌≤◌, ◌<◌, true, false, ◌∷◌, length, is_some, Some, None, IfOk, OnOk, OnErr, MatchResult};
+ghost use Rattle.std.specs.Prelude.{◌≡◌, ◌+◌, ◌≤◌, ◌<◌, ◌∷◌, length, None, IfOk, OnOk, OnErr, MatchResult};
 ghost use Rattle.pm_region.specs.declared.region_sizes.TheConstants.{LINE_WORDS};
 ghost use Rattle.pm_region.specs.State.{IsTelling, cell_now, During, Faulted};
 ghost use Rattle.pm_region.specs.Words.{KeepsOutside};
-ghost use Rattle.core_log.specs.Log.{tail_of, first_of};
+ghost use Rattle.core_log.specs.Log.{first_of};
 ghost use Rattle.core_log.specs.Retiring.{RetiredChunk};
 ghost use Rattle.core_index.specs.Index.{all_untold};
-ghost use Rattle.core_log.specs.Walking.{entries_in};
 ghost use Rattle.group_laws.specs.declared.group_sizes.TheConstants.{SLOTS};
-ghost use Rattle.group_laws.specs.Places.{members};
 ghost use Rattle.group_laws.specs.Runs as runs;
 ghost use Rattle.group_board.specs.Told.{Makes};
 ghost use Rattle.group_board.specs.Trails.{step_with};
 ghost use Rattle.group_board.specs.Views.{after_retire, TidiedIn};
 ghost use Rattle.batch_leader.specs.Persisting.{StaysLicensed, WritesPart};
-ghost use Rattle.lazy_alloc.specs.Sets.{AreSets, GivesChunk, chunk_is_free, chunk_class};
+ghost use Rattle.lazy_alloc.specs.Sets.{AreSets, GivesChunk};
 ghost use Rattle.licence.specs.Licence.{Licensed};
-ghost use Rattle.licence.specs.Writes.{Begins};
 ghost use Rattle.log_cleaner.specs.Floors.{HasFloors};
-ghost use Rattle.log_cleaner.specs.Clearing.{IsReady};
 ghost use Rattle.log_cleaner.specs.Copying.{IsUpToDate};
-ghost use Rattle.log_cleaner.specs.ImagesBeside.{AgreesIn};
-ghost use Rattle.log_cleaner.specs.Vanishing.{MayGo, NoneElse};
+ghost use Rattle.log_cleaner.specs.Vanishing.{NoneElse};
 ghost use Rattle.core_worker.specs.EndsCleaning.{EndsCleaning};
+ghost use Rattle.core_worker.specs.GivingUp.{MayGiveUp};
 ghost use Rattle.core_worker.specs.LogNames.{AreOwnOf};
 
 use crate::giving_up::give_up;
@@ -51,22 +47,9 @@ pub(crate) fn end_cleaning<R: Region, B: Board>(
     clearing: Clearing,
     own: &[EntryName],
 ) -> Result<Cleared, RegionFault>
-    requires begins { Begins (R.state region.old) (B.seat board.old).place
-        (B.seat board.old).number (B.view board.old) log.old }
-    requires member { (B.seat board.old).number < members (B.seat board.old).place }
+    requires ready { MayGiveUp (R.state region.old) (B.seat board.old) (B.view board.old) log.old
+        standing.old allocator.old clearing }
     requires eight { length places.old.items ≡ SLOTS }
-    requires has { is_some (tail_of log.old.chunks clearing.chunk) ≡ true }
-    requires closed { log.old.opened ≢ Some clearing.chunk }
-    requires ready { IsTelling (R.state region.old)
-        → IsReady (R.state region.old) log.old standing.old clearing }
-    requires standing { IsTelling (R.state region.old)
-        → IsUpToDate (R.state region.old) log.old standing.old }
-    requires agrees { IsTelling (R.state region.old) → AgreesIn (R.state region.old) log.old }
-    requires may { MayGo (B.view board.old) clearing.doomed }
-    requires others { NoneElse (R.state region.old) log.old }
-    requires layout { allocator.old.layout ≡ log.old.layout }
-    requires taken { chunk_is_free allocator.old clearing.chunk ≡ false }
-    requires uncut { chunk_class allocator.old clearing.chunk ≡ None }
     requires owned { AreOwnOf (B.seat board.old).place (B.seat board.old).number clearing.doomed
         own.now }
     ensures seat { B.seat board.new ≡ B.seat board.old }

@@ -1,20 +1,15 @@
 // The turn that dooms the names that vanish with a cleaned chunk.
-ghost use Rattle.std.specs.Prelude.{◌≡◌, ℕ, ◌≤◌, ◌<◌, true, [], ◌∷◌, length, is_some, vec_capacity, Option};
-ghost use Rattle.pm_region.specs.State.{State, IsTelling};
-ghost use Rattle.core_log.specs.Log.{StandsIn, tail_of};
-ghost use Rattle.core_log.specs.Walking.{entries_in};
-ghost use Rattle.group_laws.specs.Places.{Place as PlaceOf, IsPlace, members, core_of};
+ghost use Rattle.std.specs.Prelude.{◌≡◌, ℕ, ◌≤◌, ◌<◌, ◌∷◌, length, vec_capacity, Option};
+ghost use Rattle.pm_region.specs.State.{State};
+ghost use Rattle.group_laws.specs.Places.{Place as PlaceOf, IsPlace, core_of};
 ghost use Rattle.group_laws.specs.State.{Group};
 ghost use Rattle.group_laws.specs.MemberViews.{View};
 ghost use Rattle.group_board.specs.Seats.{SeatAt};
 ghost use Rattle.group_laws.specs.Runs as runs;
 ghost use Rattle.group_board.specs.Told.{Makes};
 ghost use Rattle.group_board.specs.Trails.{step_with};
-ghost use Rattle.group_board.specs.Views.{after_doom};
-ghost use Rattle.log_standing.specs.NameCounts.{is_told};
-ghost use Rattle.log_cleaner.specs.Clearing.{IsFresh, AreLone, AreNoted, IsGathered};
 ghost use Rattle.core_worker.specs.declared.worker.Worker.{Worker};
-ghost use Rattle.core_worker.specs.DoomsNames.{DoomsIn};
+ghost use Rattle.core_worker.specs.DoomsNames.{DoomsIn, HasDoomed, MayDoom};
 ghost use Rattle.core_worker.specs.GoneMail.{names_of};
 ghost use Rattle.core_worker.specs.Left.{left};
 ghost use Rattle.core_worker.specs.LogNames.{AreOwnOf};
@@ -62,24 +57,12 @@ pub(crate) fn doom_chunk<R: Region, B: Board>(
     requires place { IsPlace (B.seat board.old).place }
     requires layout { layout.now ≡ (B.seat board.old).place.layout }
     requires core { core ≡ core_of (B.seat board.old).place (B.seat board.old).number }
-    requires stands { StandsIn (R.state region.now) log.now }
-    requires has { is_some (tail_of log.now.chunks clearing.old.chunk) ≡ true }
-    requires fresh { IsFresh clearing.old }
-    requires room { IsTelling (R.state region.now)
-        → length (entries_in (R.state region.now) log.now clearing.old.chunk) ≤ clearing.old.room }
     requires places { clearing.old.room ≤ vec_capacity own.old }
-    requires member { (B.seat board.old).number < members (B.seat board.old).place }
-    requires told { (k n : ℕ) → is_told standing.now k n ≡ true
-        → (B.view board.old).dead k n ≡ true }
-    requires idle { (B.view board.old).flying ≡ [] }
+    requires may { MayDoom (R.state region.now) (B.seat board.old) (B.view board.old) log.now
+        standing.now clearing.old }
     ensures seat { B.seat board.new ≡ B.seat board.old }
-    ensures view { B.view board.new ≡ after_doom clearing.new.doomed (B.view board.old) }
-    ensures gathered { IsTelling (R.state region.now) → IsGathered standing.now
-        (entries_in (R.state region.now) log.now clearing.old.chunk) clearing.new }
-    ensures lone { AreLone standing.now clearing.new.doomed }
-    ensures noted { AreNoted clearing.new }
-    ensures few { length clearing.new.doomed ≤ clearing.old.room }
-    ensures chunk { clearing.new.chunk ≡ clearing.old.chunk }
+    ensures doomed { HasDoomed (R.state region.now) log.now standing.now clearing.old clearing.new
+        (B.view board.old) (B.view board.new) }
     ensures owned { AreOwnOf (B.seat board.old).place (B.seat board.old).number clearing.new.doomed
         own.new.items }
     ensures places { vec_capacity own.old ≤ vec_capacity own.new }

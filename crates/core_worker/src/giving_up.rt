@@ -1,24 +1,20 @@
 // The end of a cleaning.
-ghost use Rattle.std.specs.Prelude.{◌≡◌, ◌≢◌, ℕ, ◌+◌, ◌≤◌, ◌<◌, true, false, ◌∷◌, length, is_some, Some, None, IfOk, OnOk, OnErr, MatchResult};
+ghost use Rattle.std.specs.Prelude.{◌≡◌, ℕ, ◌+◌, ◌≤◌, ◌<◌, false, ◌∷◌, length, None, IfOk, OnOk, OnErr, MatchResult};
 ghost use Rattle.pm_region.specs.declared.region_sizes.TheConstants.{LINE_WORDS};
 ghost use Rattle.pm_region.specs.State.{IsTelling, cell_now, During, Faulted};
 ghost use Rattle.pm_region.specs.Words.{KeepsOutside};
-ghost use Rattle.core_log.specs.Log.{tail_of, first_of};
-ghost use Rattle.group_laws.specs.Places.{members};
+ghost use Rattle.core_log.specs.Log.{first_of};
 ghost use Rattle.group_laws.specs.Runs as runs;
 ghost use Rattle.group_board.specs.Told.{Makes};
 ghost use Rattle.group_board.specs.Trails.{step_with};
 ghost use Rattle.batch_leader.specs.Persisting.{StaysLicensed, WritesPart};
-ghost use Rattle.lazy_alloc.specs.Sets.{AreSets, chunk_is_free, chunk_class};
+ghost use Rattle.lazy_alloc.specs.Sets.{AreSets};
 ghost use Rattle.licence.specs.Licence.{Licensed};
-ghost use Rattle.licence.specs.Writes.{Begins};
 ghost use Rattle.log_cleaner.specs.Floors.{HasFloors};
-ghost use Rattle.log_cleaner.specs.Clearing.{IsReady};
-ghost use Rattle.log_cleaner.specs.Copying.{IsUpToDate};
 ghost use Rattle.log_cleaner.specs.Dropping.{lone_in};
 ghost use Rattle.log_cleaner.specs.ImagesBeside.{AgreesIn};
-ghost use Rattle.log_cleaner.specs.Vanishing.{MayGo, NoneElse};
-ghost use Rattle.core_worker.specs.GivingUp.{GaveUp};
+ghost use Rattle.log_cleaner.specs.Vanishing.{NoneElse};
+ghost use Rattle.core_worker.specs.GivingUp.{GaveUp, MayGiveUp};
 ghost use Rattle.pm_region.specs.State.{State};
 ghost use Rattle.log_entry.specs.declared.entry.Entry.{Entry};
 ghost use Rattle.store_image.specs.Facts.{In};
@@ -45,21 +41,8 @@ pub(crate) fn give_up<R: Region, B: Board>(
     standing: &mut Standing,
     clearing: Clearing,
 ) -> Result<Cleared, RegionFault>
-    requires begins { Begins (R.state region.old) (B.seat board.old).place
-        (B.seat board.old).number (B.view board.old) log.old }
-    requires member { (B.seat board.old).number < members (B.seat board.old).place }
-    requires has { is_some (tail_of log.old.chunks clearing.chunk) ≡ true }
-    requires closed { log.old.opened ≢ Some clearing.chunk }
-    requires ready { IsTelling (R.state region.old)
-        → IsReady (R.state region.old) log.old standing.old clearing }
-    requires standing { IsTelling (R.state region.old)
-        → IsUpToDate (R.state region.old) log.old standing.old }
-    requires agrees { IsTelling (R.state region.old) → AgreesIn (R.state region.old) log.old }
-    requires may { MayGo (B.view board.old) clearing.doomed }
-    requires others { NoneElse (R.state region.old) log.old }
-    requires layout { allocator.old.layout ≡ log.old.layout }
-    requires taken { chunk_is_free allocator.old clearing.chunk ≡ false }
-    requires uncut { chunk_class allocator.old clearing.chunk ≡ None }
+    requires { MayGiveUp (R.state region.old) (B.seat board.old) (B.view board.old) log.old
+        standing.old allocator.old clearing }
     ensures seat { B.seat board.new ≡ B.seat board.old }
     ensures moments { StaysLicensed (R.state region.old) (R.state region.new)
         (B.seat board.old) (B.view board.old) }

@@ -17,7 +17,7 @@ ghost use Rattle.core_worker.specs.declared.types.Leading.TheVariants as leads;
 ghost use Rattle.batch_leader.specs.Persisting.{StaysLicensed, WritesPart};
 ghost use Rattle.batch_leader.specs.TurnSteps.{LoadsThenOne, TurnSteps, trail_with};
 ghost use Rattle.core_worker.specs.Ties.{HoldsAt, KeepsStanding, LeadsNothing, StandsAt};
-ghost use Rattle.core_worker.specs.Turns.{TriesLock, GoesRound, Marks, Fails, persisted_left, failed_left, led_by, TakesFor, Steps, MadeOrStops, PersistsOrLoses, unpledged, unpledged_if};
+ghost use Rattle.core_worker.specs.Turns.{TriesLock, GoesRound, Marks, Fails, persisted_left, failed_left, led_by, TakesChunkIf, Steps, MadeOrStops, PersistsOrLoses, unpledged, unpledged_if};
 ghost use Rattle.lazy_alloc.specs.Sets.{AreSets};
 ghost use Rattle.licence.specs.Licence.{Licensed, part_at, part_end};
 ghost use Rattle.batch_leader.specs.declared.states.Batch.{Batch};
@@ -41,7 +41,7 @@ use std::mem;
 // The lowest free chunk, where one is needed.
 pub(crate) fn chunk_for(allocator: &mut Allocator, needed: bool) -> Option<u32>
     requires { AreSets allocator.old }
-    ensures takes { TakesFor needed allocator.old allocator.new result }
+    ensures takes { TakesChunkIf needed allocator.old allocator.new result }
     ensures sets { AreSets allocator.new }
 {
     if needed { allocator.take_chunk() } else { None }

@@ -10,7 +10,7 @@ ghost use Rattle.core_worker.specs.Order.{InOrder};
 ghost use Rattle.core_worker.specs.Outbox.{HasSpare};
 ghost use Rattle.core_worker.specs.Left.{Lowers};
 ghost use Rattle.core_worker.specs.Mails.{MailSteps};
-ghost use Rattle.core_worker.specs.Sending.{HasNames, IsReady, KeepsTies, SendsBox, TakesAt, WindsOnly};
+ghost use Rattle.core_worker.specs.Sending.{HasNames, IsReadyFor, KeepsTiesAt, SendsBox, TakesAt, WindsOnly};
 ghost use Rattle.core_worker.specs.declared.types.Cleaning.TheVariants.{Nothing};
 ghost use Rattle.core_worker.specs.Supplies.{under_way};
 ghost use Rattle.core_worker.specs.Ties.{Holds, HoldsAt, StandsAt, LeadsNothing};
@@ -31,7 +31,7 @@ impl Worker {
         requires within { to < length self.old.notices.items }
         requires spare { (n : ToSend) → slice_get self.old.notices.items to ≡ Some n → HasSpare n }
         ensures takes { TakesAt home to self.old self.new }
-        ensures ready { OnOk result (IsReady home to self.old self.new) }
+        ensures ready { OnOk result (IsReadyFor home to self.old self.new) }
         ensures memory { OnErr result (self.new.winds_down ≡ true) }
     {
         let waiting = &mut self.notices[to as usize];
@@ -51,11 +51,11 @@ impl Worker {
         requires within { to < length self.old.notices.items }
         requires spare { (n : ToSend) → slice_get self.old.notices.items to ≡ Some n → HasSpare n }
         ensures takes { TakesAt home to self.old self.new }
-        ensures ready { OnOk result (IsReady home to self.old self.new) }
+        ensures ready { OnOk result (IsReadyFor home to self.old self.new) }
         ensures memory { OnErr result (self.new.winds_down ≡ true) }
         ensures keeps { (p : groups.Place) (m : ℕ) (v : View) → Holds p m v self.old
             → InOrder p m v self.old → self.old.stopped ≡ false → LeadsNothing self.old → to ≢ m
-            → home ≡ groups.core_of p to → KeepsTies p m v self.old self.new }
+            → home ≡ groups.core_of p to → KeepsTiesAt p m v self.old self.new }
     {
         match self.take_for(alloc, to, home) {
             Ok(()) => {

@@ -4,7 +4,7 @@ ghost use Rattle.pm_region.specs.State.{State};
 ghost use Rattle.group_board.specs.declared.names.Notices.{Notices as ToSend};
 ghost use Rattle.group_laws.specs.Places.{members};
 ghost use Rattle.core_worker.specs.Outbox.{TellsNothing};
-ghost use Rattle.core_worker.specs.Readying.{IfNoneSent, IfOver, SendSteps, SendsBeside, SendsFirst, SendsTo, StaysTied};
+ghost use Rattle.core_worker.specs.Readying.{IfNoneSent, IfOver, SendSteps, SendsBeside, SendsFirst, SendsTo, StaysTiedFrom};
 ghost use Rattle.core_worker.specs.Sending.{HasNames};
 ghost use Rattle.core_worker.specs.Ties.{HoldsAt, StandsAt, LeadsNothing};
 ghost use Rattle.core_worker.specs.Turning.{KeepsTurn};
@@ -53,7 +53,7 @@ impl Worker {
             → IfOver result (KeepsTurn (B.seat board.old) s s
             (B.whole board.old) (B.whole board.new) (B.view board.old) (B.view board.new)
             self.old self.new) }
-        ensures tied { IfNoneSent result (StaysTied (B.seat board.old) (B.view board.old)
+        ensures tied { IfNoneSent result (StaysTiedFrom (B.seat board.old) (B.view board.old)
             (B.view board.new) self.old self.new) }
         ensures steps { SendSteps result (B.view board.old) (B.view board.new)
             (B.trail board.old) (B.trail board.new) }
@@ -93,7 +93,7 @@ impl Worker {
             → IfOver result (KeepsTurn (B.seat board.old) s s
             (B.whole board.old) (B.whole board.new) (B.view board.old) (B.view board.new)
             self.old self.new) }
-        ensures tied { IfNoneSent result (StaysTied (B.seat board.old) (B.view board.old)
+        ensures tied { IfNoneSent result (StaysTiedFrom (B.seat board.old) (B.view board.old)
             (B.view board.new) self.old self.new) }
         ensures steps { SendSteps result (B.view board.old) (B.view board.new)
             (B.trail board.old) (B.trail board.new) }
@@ -123,7 +123,7 @@ impl Worker {
             → IfOver result (KeepsTurn (B.seat board.old) s s
             (B.whole board.old) (B.whole board.new) (B.view board.old) (B.view board.new)
             self.old self.new) }
-        ensures tied { IfNoneSent result (StaysTied (B.seat board.old) (B.view board.old)
+        ensures tied { IfNoneSent result (StaysTiedFrom (B.seat board.old) (B.view board.old)
             (B.view board.new) self.old self.new) }
         ensures steps { SendSteps result (B.view board.old) (B.view board.new)
             (B.trail board.old) (B.trail board.new) }

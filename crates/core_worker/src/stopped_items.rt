@@ -12,7 +12,7 @@ ghost use Rattle.core_worker.specs.Supplies.{HasKeptRoom};
 ghost use Rattle.core_worker.specs.Ties.{HoldsAt, HoldsBy, StandsAt, Tie};
 ghost use Rattle.core_worker.specs.Order.{InOrderBy};
 ghost use Rattle.core_worker.specs.Finishing.{IsServed};
-ghost use Rattle.core_worker.specs.Stopping.{Drops, FreesBySight, PutsAway, PutsAwayKey, Retracts, staged_block, Unlocks, WithdrawsOrUnlocks};
+ghost use Rattle.core_worker.specs.Stopping.{DropsStaged, FreesBySight, PutsAway, PutsAwayKey, Retracts, staged_block, Unlocks, WithdrawsOrUnlocks};
 ghost use Rattle.core_worker.specs.Turns.{InOrderAt, Steps};
 ghost use Rattle.core_worker.specs.Left.{left, Lowers};
 
@@ -130,7 +130,7 @@ impl Worker {
         requires staged { is_staged (place_at self.old.places.items slot) ≡ true }
         ensures ties { (s : State) (t : Tie) → IsServed s self.old t → IsServed s self.new t }
         ensures rule { HasKeptRoom self.old → HasKeptRoom self.new }
-        ensures drops { Drops (R.state region.now) slot self.old self.new (is_ok result) }
+        ensures drops { DropsStaged (R.state region.now) slot self.old self.new (is_ok result) }
         ensures memory { OnErr result (self.new.winds_down ≡ true) }
         ensures awake { OnErr result (self.old.winds_down ≡ false) }
         ensures less { left self.new < left self.old }

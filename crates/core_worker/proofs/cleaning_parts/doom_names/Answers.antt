@@ -18,3 +18,15 @@ returns-clause-may g c =
     let names : c.doomed_of.result.now ≡ c.gather.new.self.doomed = c.doomed_of.ensures in
     subst (λ (x : View). MayGo x c.gather.new.self.doomed) (sym (c.doom.ensures.view ∙ ap (λ (ns : List EntryName). after_doom ns (g.B.Board.view c.args.board.now)) names))
     (may_go (g.B.Board.view c.args.board.now) c.gather.new.self.doomed c.requires.idle)
+
+pub returns-clause-doomed : goal.returns-clause-doomed
+returns-clause-doomed g c =
+    let names : c.doomed_of.result.now ≡ c.gather.new.self.doomed = c.doomed_of.ensures in
+    record {
+      view = c.doom.ensures.view ∙ ap (λ (ns : List EntryName). after_doom ns (g.B.Board.view c.args.board.now)) names;
+      gathered = c.gather.ensures.gathered;
+      lone = c.gather.ensures.lone;
+      noted = c.gather.ensures.noted;
+      few = c.gather.ensures.few;
+      chunk = c.gather.ensures.chunk;
+    }

@@ -8,7 +8,7 @@ pub returns-in-Ok-clause-ended : goal.returns-in-Ok-clause-ended
 returns-in-Ok-clause-ended g c = record {
   log_is = c.in-Ok.ensures.ok.cleared.retired.log_is;
   gone = ap (λ (l : LogState). tail_of l.chunks c.args.clearing.chunk) c.in-Ok.ensures.ok.cleared.retired.log_is
-      ∙ without_self c.args.log.now.chunks 0 c.args.clearing.chunk c.requires.begins.stands.own.rising;
+      ∙ without_self c.args.log.now.chunks 0 c.args.clearing.chunk c.requires.ready.begins.stands.own.rising;
   gives = c.in-Ok.ensures.ok.gives;
   sets = c.in-Ok.ensures.sets;
   dropped = c.give_up.new.standing;

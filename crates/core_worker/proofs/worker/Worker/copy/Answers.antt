@@ -14,7 +14,7 @@ use Rattle.log_cleaner.specs.CopyBatch.{copied_in}
 use Rattle.batch_leader.specs.Persisting.{opened_for}
 use Rattle.core_worker.specs.CopyItems.{CopiesOn, LosesCopies, MisreadsCopies, needs_chunk}
 use Rattle.core_worker.specs.CopyTurns.{left_of, CopiesBatch, CopiesInRegion}
-use Rattle.core_worker.specs.TakenChunks.{TakesFor}
+use Rattle.core_worker.specs.TakenChunks.{TakesChunkIf}
 use Rattle.core_worker.specs.Turning.Did.{copies, loses_copies}
 use Rattle.core_worker.proofs.CopiedItem as copied
 use Rattle.core_worker.proofs.DoomedHolds as cleaning
@@ -37,7 +37,7 @@ copy_into-requires-clause-room g c =
     let first = c.args.first in
     let H = c.requires.holds in
     let f_is : c.needs_chunk-needed.result ≡ needs_chunk first w = c.needs_chunk-needed.ensures ∙ ap (λ (y : Supply). first && needs_fresh y) c.supply-supply.ensures.supply in
-    let takes : TakesFor (needs_chunk first w) w.allocator c.chunk_for-fresh.new.allocator c.chunk_for-fresh.result = subst (λ (b : Bool). TakesFor b w.allocator c.chunk_for-fresh.new.allocator c.chunk_for-fresh.result) f_is c.chunk_for-fresh.ensures.takes in
+    let takes : TakesChunkIf (needs_chunk first w) w.allocator c.chunk_for-fresh.new.allocator c.chunk_for-fresh.result = subst (λ (b : Bool). TakesChunkIf b w.allocator c.chunk_for-fresh.new.allocator c.chunk_for-fresh.result) f_is c.chunk_for-fresh.ensures.takes in
     copied.has_room s seat.place seat.number v w victim first H c.requires.stands c.requires.way (needs_chunk first w) c.chunk_for-fresh.new.allocator c.chunk_for-fresh.result takes
     (λ none. copied.fits_of w victim first c.requires.way c.supply-supply.result c.supply-supply.ensures.supply (c.lacks_lines.ensures.fits c.if-lacks_lines.false none))
 
@@ -51,7 +51,7 @@ returns-then-lacks_lines-clause-keeps g c =
     let first = c.args.first in
     let H = c.requires.holds in
     let f_is : c.needs_chunk-needed.result ≡ needs_chunk first w = c.needs_chunk-needed.ensures ∙ ap (λ (y : Supply). first && needs_fresh y) c.supply-supply.ensures.supply in
-    let takes : TakesFor (needs_chunk first w) w.allocator c.chunk_for-fresh.new.allocator c.chunk_for-fresh.result = subst (λ (b : Bool). TakesFor b w.allocator c.chunk_for-fresh.new.allocator c.chunk_for-fresh.result) f_is c.chunk_for-fresh.ensures.takes in
+    let takes : TakesChunkIf (needs_chunk first w) w.allocator c.chunk_for-fresh.new.allocator c.chunk_for-fresh.result = subst (λ (b : Bool). TakesChunkIf b w.allocator c.chunk_for-fresh.new.allocator c.chunk_for-fresh.result) f_is c.chunk_for-fresh.ensures.takes in
     let none = (c.lacks_lines.ensures.lacks c.if-lacks_lines.true).0 in
     let still = copied.none_same (needs_chunk first w) w.allocator c.chunk_for-fresh.new.allocator c.chunk_for-fresh.result takes none in
     let x = c.leave_chunk.new.self in
@@ -69,12 +69,12 @@ returns-then-lacks_lines-clause-did g c refused start from entry passed passes m
     let first = c.args.first in
     let H = c.requires.holds in
     let f_is : c.needs_chunk-needed.result ≡ needs_chunk first w = c.needs_chunk-needed.ensures ∙ ap (λ (y : Supply). first && needs_fresh y) c.supply-supply.ensures.supply in
-    let takes : TakesFor (needs_chunk first w) w.allocator c.chunk_for-fresh.new.allocator c.chunk_for-fresh.result = subst (λ (b : Bool). TakesFor b w.allocator c.chunk_for-fresh.new.allocator c.chunk_for-fresh.result) f_is c.chunk_for-fresh.ensures.takes in
+    let takes : TakesChunkIf (needs_chunk first w) w.allocator c.chunk_for-fresh.new.allocator c.chunk_for-fresh.result = subst (λ (b : Bool). TakesChunkIf b w.allocator c.chunk_for-fresh.new.allocator c.chunk_for-fresh.result) f_is c.chunk_for-fresh.ensures.takes in
     let none = (c.lacks_lines.ensures.lacks c.if-lacks_lines.true).0 in
     let still = copied.none_same (needs_chunk first w) w.allocator c.chunk_for-fresh.new.allocator c.chunk_for-fresh.result takes none in
     let x = c.leave_chunk.new.self in
     let same : c.leave_chunk.new.self ≡ record c.args.self.now { cleaning = Nothing; clearing = None } = c.leave_chunk.ensures ∙ (λ i. record w { allocator = still i; cleaning = Nothing; clearing = None }) in
-    let takes_none : TakesFor (needs_chunk first w) w.allocator w.allocator None = subst (λ (a : _). TakesFor (needs_chunk first w) w.allocator a None) still (subst (λ (o : _). TakesFor (needs_chunk first w) w.allocator c.chunk_for-fresh.new.allocator o) none takes) in
+    let takes_none : TakesChunkIf (needs_chunk first w) w.allocator w.allocator None = subst (λ (a : _). TakesChunkIf (needs_chunk first w) w.allocator a None) still (subst (λ (o : _). TakesChunkIf (needs_chunk first w) w.allocator c.chunk_for-fresh.new.allocator o) none takes) in
     copies (record {
       mid = v;
       before = passes;
@@ -100,7 +100,7 @@ returns-then-lacks_lines-clause-less g c =
     let first = c.args.first in
     let H = c.requires.holds in
     let f_is : c.needs_chunk-needed.result ≡ needs_chunk first w = c.needs_chunk-needed.ensures ∙ ap (λ (y : Supply). first && needs_fresh y) c.supply-supply.ensures.supply in
-    let takes : TakesFor (needs_chunk first w) w.allocator c.chunk_for-fresh.new.allocator c.chunk_for-fresh.result = subst (λ (b : Bool). TakesFor b w.allocator c.chunk_for-fresh.new.allocator c.chunk_for-fresh.result) f_is c.chunk_for-fresh.ensures.takes in
+    let takes : TakesChunkIf (needs_chunk first w) w.allocator c.chunk_for-fresh.new.allocator c.chunk_for-fresh.result = subst (λ (b : Bool). TakesChunkIf b w.allocator c.chunk_for-fresh.new.allocator c.chunk_for-fresh.result) f_is c.chunk_for-fresh.ensures.takes in
     let none = (c.lacks_lines.ensures.lacks c.if-lacks_lines.true).0 in
     let still = copied.none_same (needs_chunk first w) w.allocator c.chunk_for-fresh.new.allocator c.chunk_for-fresh.result takes none in
     let x = c.leave_chunk.new.self in
@@ -118,7 +118,7 @@ returns-in-Some-clause-keeps g c =
     let first = c.args.first in
     let H = c.requires.holds in
     let f_is : c.needs_chunk-needed.result ≡ needs_chunk first w = c.needs_chunk-needed.ensures ∙ ap (λ (y : Supply). first && needs_fresh y) c.supply-supply.ensures.supply in
-    let takes : TakesFor (needs_chunk first w) w.allocator c.chunk_for-fresh.new.allocator c.chunk_for-fresh.result = subst (λ (b : Bool). TakesFor b w.allocator c.chunk_for-fresh.new.allocator c.chunk_for-fresh.result) f_is c.chunk_for-fresh.ensures.takes in
+    let takes : TakesChunkIf (needs_chunk first w) w.allocator c.chunk_for-fresh.new.allocator c.chunk_for-fresh.result = subst (λ (b : Bool). TakesChunkIf b w.allocator c.chunk_for-fresh.new.allocator c.chunk_for-fresh.result) f_is c.chunk_for-fresh.ensures.takes in
     let t = g.R.Region.state c.copy_into.new.region in
     let u = g.B.Board.view c.copy_into.new.board in
     let before = g.B.Board.whole c.args.board.now in
@@ -150,7 +150,7 @@ returns-in-Some-clause-did g c refused start from entry passed passes mail sendi
     let first = c.args.first in
     let H = c.requires.holds in
     let f_is : c.needs_chunk-needed.result ≡ needs_chunk first w = c.needs_chunk-needed.ensures ∙ ap (λ (y : Supply). first && needs_fresh y) c.supply-supply.ensures.supply in
-    let takes : TakesFor (needs_chunk first w) w.allocator c.chunk_for-fresh.new.allocator c.chunk_for-fresh.result = subst (λ (b : Bool). TakesFor b w.allocator c.chunk_for-fresh.new.allocator c.chunk_for-fresh.result) f_is c.chunk_for-fresh.ensures.takes in
+    let takes : TakesChunkIf (needs_chunk first w) w.allocator c.chunk_for-fresh.new.allocator c.chunk_for-fresh.result = subst (λ (b : Bool). TakesChunkIf b w.allocator c.chunk_for-fresh.new.allocator c.chunk_for-fresh.result) f_is c.chunk_for-fresh.ensures.takes in
     let t = g.R.Region.state c.copy_into.new.region in
     let u = g.B.Board.view c.copy_into.new.board in
     let before = g.B.Board.whole c.args.board.now in
@@ -194,7 +194,7 @@ returns-in-Some-clause-less g c =
     let first = c.args.first in
     let H = c.requires.holds in
     let f_is : c.needs_chunk-needed.result ≡ needs_chunk first w = c.needs_chunk-needed.ensures ∙ ap (λ (y : Supply). first && needs_fresh y) c.supply-supply.ensures.supply in
-    let takes : TakesFor (needs_chunk first w) w.allocator c.chunk_for-fresh.new.allocator c.chunk_for-fresh.result = subst (λ (b : Bool). TakesFor b w.allocator c.chunk_for-fresh.new.allocator c.chunk_for-fresh.result) f_is c.chunk_for-fresh.ensures.takes in
+    let takes : TakesChunkIf (needs_chunk first w) w.allocator c.chunk_for-fresh.new.allocator c.chunk_for-fresh.result = subst (λ (b : Bool). TakesChunkIf b w.allocator c.chunk_for-fresh.new.allocator c.chunk_for-fresh.result) f_is c.chunk_for-fresh.ensures.takes in
     let t = g.R.Region.state c.copy_into.new.region in
     let u = g.B.Board.view c.copy_into.new.board in
     let before = g.B.Board.whole c.args.board.now in
@@ -230,7 +230,7 @@ returns-in-None-clause-keeps g c =
     let first = c.args.first in
     let H = c.requires.holds in
     let f_is : c.needs_chunk-needed.result ≡ needs_chunk first w = c.needs_chunk-needed.ensures ∙ ap (λ (y : Supply). first && needs_fresh y) c.supply-supply.ensures.supply in
-    let takes : TakesFor (needs_chunk first w) w.allocator c.chunk_for-fresh.new.allocator c.chunk_for-fresh.result = subst (λ (b : Bool). TakesFor b w.allocator c.chunk_for-fresh.new.allocator c.chunk_for-fresh.result) f_is c.chunk_for-fresh.ensures.takes in
+    let takes : TakesChunkIf (needs_chunk first w) w.allocator c.chunk_for-fresh.new.allocator c.chunk_for-fresh.result = subst (λ (b : Bool). TakesChunkIf b w.allocator c.chunk_for-fresh.new.allocator c.chunk_for-fresh.result) f_is c.chunk_for-fresh.ensures.takes in
     let t = g.R.Region.state c.copy_into.new.region in
     let u = g.B.Board.view c.copy_into.new.board in
     let before = g.B.Board.whole c.args.board.now in
@@ -269,7 +269,7 @@ returns-in-None-clause-did g c refused start from entry passed passes mail sendi
     let first = c.args.first in
     let H = c.requires.holds in
     let f_is : c.needs_chunk-needed.result ≡ needs_chunk first w = c.needs_chunk-needed.ensures ∙ ap (λ (y : Supply). first && needs_fresh y) c.supply-supply.ensures.supply in
-    let takes : TakesFor (needs_chunk first w) w.allocator c.chunk_for-fresh.new.allocator c.chunk_for-fresh.result = subst (λ (b : Bool). TakesFor b w.allocator c.chunk_for-fresh.new.allocator c.chunk_for-fresh.result) f_is c.chunk_for-fresh.ensures.takes in
+    let takes : TakesChunkIf (needs_chunk first w) w.allocator c.chunk_for-fresh.new.allocator c.chunk_for-fresh.result = subst (λ (b : Bool). TakesChunkIf b w.allocator c.chunk_for-fresh.new.allocator c.chunk_for-fresh.result) f_is c.chunk_for-fresh.ensures.takes in
     let t = g.R.Region.state c.copy_into.new.region in
     let u = g.B.Board.view c.copy_into.new.board in
     let before = g.B.Board.whole c.args.board.now in
@@ -321,7 +321,7 @@ returns-in-None-clause-less g c =
     let first = c.args.first in
     let H = c.requires.holds in
     let f_is : c.needs_chunk-needed.result ≡ needs_chunk first w = c.needs_chunk-needed.ensures ∙ ap (λ (y : Supply). first && needs_fresh y) c.supply-supply.ensures.supply in
-    let takes : TakesFor (needs_chunk first w) w.allocator c.chunk_for-fresh.new.allocator c.chunk_for-fresh.result = subst (λ (b : Bool). TakesFor b w.allocator c.chunk_for-fresh.new.allocator c.chunk_for-fresh.result) f_is c.chunk_for-fresh.ensures.takes in
+    let takes : TakesChunkIf (needs_chunk first w) w.allocator c.chunk_for-fresh.new.allocator c.chunk_for-fresh.result = subst (λ (b : Bool). TakesChunkIf b w.allocator c.chunk_for-fresh.new.allocator c.chunk_for-fresh.result) f_is c.chunk_for-fresh.ensures.takes in
     let t = g.R.Region.state c.copy_into.new.region in
     let u = g.B.Board.view c.copy_into.new.board in
     let before = g.B.Board.whole c.args.board.now in
@@ -366,7 +366,7 @@ returns-in-Err-clause-keeps g c =
     let first = c.args.first in
     let H = c.requires.holds in
     let f_is : c.needs_chunk-needed.result ≡ needs_chunk first w = c.needs_chunk-needed.ensures ∙ ap (λ (y : Supply). first && needs_fresh y) c.supply-supply.ensures.supply in
-    let takes : TakesFor (needs_chunk first w) w.allocator c.chunk_for-fresh.new.allocator c.chunk_for-fresh.result = subst (λ (b : Bool). TakesFor b w.allocator c.chunk_for-fresh.new.allocator c.chunk_for-fresh.result) f_is c.chunk_for-fresh.ensures.takes in
+    let takes : TakesChunkIf (needs_chunk first w) w.allocator c.chunk_for-fresh.new.allocator c.chunk_for-fresh.result = subst (λ (b : Bool). TakesChunkIf b w.allocator c.chunk_for-fresh.new.allocator c.chunk_for-fresh.result) f_is c.chunk_for-fresh.ensures.takes in
     let t = g.R.Region.state c.copy_into.new.region in
     let u = g.B.Board.view c.copy_into.new.board in
     let before = g.B.Board.whole c.args.board.now in
@@ -395,7 +395,7 @@ returns-in-Err-clause-did g c refused start from entry passed passes mail sendin
     let first = c.args.first in
     let H = c.requires.holds in
     let f_is : c.needs_chunk-needed.result ≡ needs_chunk first w = c.needs_chunk-needed.ensures ∙ ap (λ (y : Supply). first && needs_fresh y) c.supply-supply.ensures.supply in
-    let takes : TakesFor (needs_chunk first w) w.allocator c.chunk_for-fresh.new.allocator c.chunk_for-fresh.result = subst (λ (b : Bool). TakesFor b w.allocator c.chunk_for-fresh.new.allocator c.chunk_for-fresh.result) f_is c.chunk_for-fresh.ensures.takes in
+    let takes : TakesChunkIf (needs_chunk first w) w.allocator c.chunk_for-fresh.new.allocator c.chunk_for-fresh.result = subst (λ (b : Bool). TakesChunkIf b w.allocator c.chunk_for-fresh.new.allocator c.chunk_for-fresh.result) f_is c.chunk_for-fresh.ensures.takes in
     let t = g.R.Region.state c.copy_into.new.region in
     let u = g.B.Board.view c.copy_into.new.board in
     let before = g.B.Board.whole c.args.board.now in
@@ -435,7 +435,7 @@ returns-in-Err-clause-less g c =
     let first = c.args.first in
     let H = c.requires.holds in
     let f_is : c.needs_chunk-needed.result ≡ needs_chunk first w = c.needs_chunk-needed.ensures ∙ ap (λ (y : Supply). first && needs_fresh y) c.supply-supply.ensures.supply in
-    let takes : TakesFor (needs_chunk first w) w.allocator c.chunk_for-fresh.new.allocator c.chunk_for-fresh.result = subst (λ (b : Bool). TakesFor b w.allocator c.chunk_for-fresh.new.allocator c.chunk_for-fresh.result) f_is c.chunk_for-fresh.ensures.takes in
+    let takes : TakesChunkIf (needs_chunk first w) w.allocator c.chunk_for-fresh.new.allocator c.chunk_for-fresh.result = subst (λ (b : Bool). TakesChunkIf b w.allocator c.chunk_for-fresh.new.allocator c.chunk_for-fresh.result) f_is c.chunk_for-fresh.ensures.takes in
     let t = g.R.Region.state c.copy_into.new.region in
     let u = g.B.Board.view c.copy_into.new.board in
     let before = g.B.Board.whole c.args.board.now in

@@ -10,40 +10,32 @@ use Rattle.core_worker.proofs.LeftFair.{starts_nothing}
 use Rattle.core_worker.proofs.Made.{one_step}
 use Rattle.core_worker.proofs.worker.Worker.doom.Goals as goal
 
-pub doom_chunk-requires-clause-stands : goal.doom_chunk-requires-clause-stands
-doom_chunk-requires-clause-stands g c =
+pub doom_chunk-requires-clause-may : goal.doom_chunk-requires-clause-may
+doom_chunk-requires-clause-may g c =
     let seat = g.B.Board.seat c.args.board.now in
-    doomed.stands (g.R.Region.state c.args.region.now) seat.place seat.number (g.B.Board.view c.args.board.now) c.args.self.now c.requires.holds c.requires.stands c.requires.order c.args.victim.now c.requires.copied
-
-pub doom_chunk-requires-clause-has : goal.doom_chunk-requires-clause-has
-doom_chunk-requires-clause-has g c =
-    let seat = g.B.Board.seat c.args.board.now in
-    doomed.has_chunk (g.R.Region.state c.args.region.now) seat.place seat.number (g.B.Board.view c.args.board.now) c.args.self.now c.requires.holds c.requires.stands c.requires.order c.args.victim.now c.requires.copied c.in-Some.clearing (sym c.in-Some.ensures.value)
-
-pub doom_chunk-requires-clause-fresh : goal.doom_chunk-requires-clause-fresh
-doom_chunk-requires-clause-fresh g c =
-    let seat = g.B.Board.seat c.args.board.now in
-    doomed.fresh (g.R.Region.state c.args.region.now) seat.place seat.number (g.B.Board.view c.args.board.now) c.args.self.now c.requires.holds c.requires.stands c.requires.order c.args.victim.now c.requires.copied c.in-Some.clearing (sym c.in-Some.ensures.value)
-
-pub doom_chunk-requires-clause-room : goal.doom_chunk-requires-clause-room
-doom_chunk-requires-clause-room g c telling =
-    let seat = g.B.Board.seat c.args.board.now in
-    doomed.room (g.R.Region.state c.args.region.now) seat.place seat.number (g.B.Board.view c.args.board.now) c.args.self.now c.requires.holds c.requires.stands c.requires.order c.args.victim.now c.requires.copied c.in-Some.clearing (sym c.in-Some.ensures.value) telling
+    let s = g.R.Region.state c.args.region.now in
+    let v = g.B.Board.view c.args.board.now in
+    let w = c.args.self.now in
+    let H = c.requires.holds in
+    let S = c.requires.stands in
+    let O = c.requires.order in
+    let z = c.args.victim.now in
+    let y = c.in-Some.clearing in
+    let is = sym c.in-Some.ensures.value in
+    record {
+      stands = doomed.stands s seat.place seat.number v w H S O z c.requires.copied;
+      has = doomed.has_chunk s seat.place seat.number v w H S O z c.requires.copied y is;
+      fresh = doomed.fresh s seat.place seat.number v w H S O z c.requires.copied y is;
+      room = doomed.room s seat.place seat.number v w H S O z c.requires.copied y is;
+      member = H.member;
+      told = doomed.told s seat.place seat.number v w H S O z c.requires.copied;
+      idle = doomed.flying s seat.place seat.number v w H S O z c.requires.copied;
+    }
 
 pub doom_chunk-requires-clause-places : goal.doom_chunk-requires-clause-places
 doom_chunk-requires-clause-places g c =
     let seat = g.B.Board.seat c.args.board.now in
     doomed.places (g.R.Region.state c.args.region.now) seat.place seat.number (g.B.Board.view c.args.board.now) c.args.self.now c.requires.holds c.requires.stands c.requires.order c.args.victim.now c.requires.copied c.in-Some.clearing (sym c.in-Some.ensures.value)
-
-pub doom_chunk-requires-clause-told : goal.doom_chunk-requires-clause-told
-doom_chunk-requires-clause-told g c k n is =
-    let seat = g.B.Board.seat c.args.board.now in
-    doomed.told (g.R.Region.state c.args.region.now) seat.place seat.number (g.B.Board.view c.args.board.now) c.args.self.now c.requires.holds c.requires.stands c.requires.order c.args.victim.now c.requires.copied k n is
-
-pub doom_chunk-requires-clause-idle : goal.doom_chunk-requires-clause-idle
-doom_chunk-requires-clause-idle g c =
-    let seat = g.B.Board.seat c.args.board.now in
-    doomed.flying (g.R.Region.state c.args.region.now) seat.place seat.number (g.B.Board.view c.args.board.now) c.args.self.now c.requires.holds c.requires.stands c.requires.order c.args.victim.now c.requires.copied
 
 pub returns-clause-keeps : goal.returns-clause-keeps
 returns-clause-keeps g c =
@@ -53,7 +45,7 @@ returns-clause-keeps g c =
     let u = g.B.Board.view c.doom_chunk.new.board in
     let w = c.args.self.now in
     let x = record w { cleaning = Doomed c.args.victim.now.chunk; clearing = Some c.doom_chunk.new.clearing; own_gone = c.doom_chunk.new.own } in
-    let D : DoomsIn s seat.place seat.number v u w x = doomed.dooms_in s seat.place seat.number v w c.requires.holds c.requires.stands c.requires.order c.args.victim.now c.requires.copied c.in-Some.clearing (sym c.in-Some.ensures.value) u x c.doom_chunk.new.clearing refl c.doom_chunk.ensures.chunk c.doom_chunk.ensures.lone c.doom_chunk.ensures.noted c.doom_chunk.ensures.few c.doom_chunk.ensures.places c.doom_chunk.ensures.gathered c.doom_chunk.ensures.owned c.doom_chunk.ensures.view refl in
+    let D : DoomsIn s seat.place seat.number v u w x = doomed.dooms_in s seat.place seat.number v w c.requires.holds c.requires.stands c.requires.order c.args.victim.now c.requires.copied c.in-Some.clearing (sym c.in-Some.ensures.value) u x c.doom_chunk.new.clearing refl c.doom_chunk.ensures.doomed.chunk c.doom_chunk.ensures.doomed.lone c.doom_chunk.ensures.doomed.noted c.doom_chunk.ensures.doomed.few c.doom_chunk.ensures.places c.doom_chunk.ensures.doomed.gathered c.doom_chunk.ensures.owned c.doom_chunk.ensures.doomed.view refl in
     let before = g.B.Board.whole c.args.board.now in
     let after = g.B.Board.whole c.doom_chunk.new.board in
     let kind = runs.Kind.Doom c.doom_chunk.new.clearing.doomed in
@@ -67,7 +59,7 @@ returns-clause-did g c refused start from entry passed passes mail sending =
     let u = g.B.Board.view c.doom_chunk.new.board in
     let w = c.args.self.now in
     let x = record w { cleaning = Doomed c.args.victim.now.chunk; clearing = Some c.doom_chunk.new.clearing; own_gone = c.doom_chunk.new.own } in
-    let D : DoomsIn s seat.place seat.number v u w x = doomed.dooms_in s seat.place seat.number v w c.requires.holds c.requires.stands c.requires.order c.args.victim.now c.requires.copied c.in-Some.clearing (sym c.in-Some.ensures.value) u x c.doom_chunk.new.clearing refl c.doom_chunk.ensures.chunk c.doom_chunk.ensures.lone c.doom_chunk.ensures.noted c.doom_chunk.ensures.few c.doom_chunk.ensures.places c.doom_chunk.ensures.gathered c.doom_chunk.ensures.owned c.doom_chunk.ensures.view refl in
+    let D : DoomsIn s seat.place seat.number v u w x = doomed.dooms_in s seat.place seat.number v w c.requires.holds c.requires.stands c.requires.order c.args.victim.now c.requires.copied c.in-Some.clearing (sym c.in-Some.ensures.value) u x c.doom_chunk.new.clearing refl c.doom_chunk.ensures.doomed.chunk c.doom_chunk.ensures.doomed.lone c.doom_chunk.ensures.doomed.noted c.doom_chunk.ensures.doomed.few c.doom_chunk.ensures.places c.doom_chunk.ensures.doomed.gathered c.doom_chunk.ensures.owned c.doom_chunk.ensures.doomed.view refl in
     dooms refl (record { mid = v; before = passes; post = passed; mail = mail; ready = w; sending = sending; dooms = D })
 
 pub returns-clause-less : goal.returns-clause-less
@@ -78,7 +70,7 @@ returns-clause-less g c =
     let u = g.B.Board.view c.doom_chunk.new.board in
     let w = c.args.self.now in
     let x = record w { cleaning = Doomed c.args.victim.now.chunk; clearing = Some c.doom_chunk.new.clearing; own_gone = c.doom_chunk.new.own } in
-    let D : DoomsIn s seat.place seat.number v u w x = doomed.dooms_in s seat.place seat.number v w c.requires.holds c.requires.stands c.requires.order c.args.victim.now c.requires.copied c.in-Some.clearing (sym c.in-Some.ensures.value) u x c.doom_chunk.new.clearing refl c.doom_chunk.ensures.chunk c.doom_chunk.ensures.lone c.doom_chunk.ensures.noted c.doom_chunk.ensures.few c.doom_chunk.ensures.places c.doom_chunk.ensures.gathered c.doom_chunk.ensures.owned c.doom_chunk.ensures.view refl in
+    let D : DoomsIn s seat.place seat.number v u w x = doomed.dooms_in s seat.place seat.number v w c.requires.holds c.requires.stands c.requires.order c.args.victim.now c.requires.copied c.in-Some.clearing (sym c.in-Some.ensures.value) u x c.doom_chunk.new.clearing refl c.doom_chunk.ensures.doomed.chunk c.doom_chunk.ensures.doomed.lone c.doom_chunk.ensures.doomed.noted c.doom_chunk.ensures.doomed.few c.doom_chunk.ensures.places c.doom_chunk.ensures.doomed.gathered c.doom_chunk.ensures.owned c.doom_chunk.ensures.doomed.view refl in
     doomed.doomed_lower (g.B.Board.whole c.args.board.now) (g.B.Board.whole c.doom_chunk.new.board) seat.number c.doom_chunk.new.clearing.doomed u w x c.doom_chunk.ensures.made (g.met.B.Board.lawful c.args.board.now)
     (doomed.doomed_less s seat.place seat.number v u w x c.requires.holds c.requires.order D)
 
@@ -90,7 +82,7 @@ returns-clause-starts g c =
     let u = g.B.Board.view c.doom_chunk.new.board in
     let w = c.args.self.now in
     let x = record w { cleaning = Doomed c.args.victim.now.chunk; clearing = Some c.doom_chunk.new.clearing; own_gone = c.doom_chunk.new.own } in
-    let D : DoomsIn s seat.place seat.number v u w x = doomed.dooms_in s seat.place seat.number v w c.requires.holds c.requires.stands c.requires.order c.args.victim.now c.requires.copied c.in-Some.clearing (sym c.in-Some.ensures.value) u x c.doom_chunk.new.clearing refl c.doom_chunk.ensures.chunk c.doom_chunk.ensures.lone c.doom_chunk.ensures.noted c.doom_chunk.ensures.few c.doom_chunk.ensures.places c.doom_chunk.ensures.gathered c.doom_chunk.ensures.owned c.doom_chunk.ensures.view refl in
+    let D : DoomsIn s seat.place seat.number v u w x = doomed.dooms_in s seat.place seat.number v w c.requires.holds c.requires.stands c.requires.order c.args.victim.now c.requires.copied c.in-Some.clearing (sym c.in-Some.ensures.value) u x c.doom_chunk.new.clearing refl c.doom_chunk.ensures.doomed.chunk c.doom_chunk.ensures.doomed.lone c.doom_chunk.ensures.doomed.noted c.doom_chunk.ensures.doomed.few c.doom_chunk.ensures.places c.doom_chunk.ensures.doomed.gathered c.doom_chunk.ensures.owned c.doom_chunk.ensures.doomed.view refl in
     starts_nothing x D.idle
 
 pub returns-clause-steps : goal.returns-clause-steps

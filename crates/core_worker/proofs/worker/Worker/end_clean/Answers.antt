@@ -20,58 +20,32 @@ use Rattle.core_worker.proofs.LeftItems.{lowers_still}
 use Rattle.core_worker.proofs.Made.{one_step}
 use Rattle.core_worker.proofs.worker.Worker.end_clean.Goals as goal
 
-pub end_cleaning-requires-clause-begins : goal.end_cleaning-requires-clause-begins
-end_cleaning-requires-clause-begins g c =
-    let seat = g.B.Board.seat c.args.board.now in
-    ended.begins (g.R.Region.state c.args.region.now) seat.place seat.number (g.B.Board.view c.args.board.now) c.args.self.now c.requires.holds c.requires.stands c.requires.order c.requires.dooms
-
-pub end_cleaning-requires-clause-has : goal.end_cleaning-requires-clause-has
-end_cleaning-requires-clause-has g c =
-    let seat = g.B.Board.seat c.args.board.now in
-    ended.has_chunk (g.R.Region.state c.args.region.now) seat.place seat.number (g.B.Board.view c.args.board.now) c.args.self.now c.requires.holds c.requires.stands c.requires.order c.requires.dooms c.in-Some.clearing (sym c.in-Some.ensures.value)
-
-pub end_cleaning-requires-clause-closed : goal.end_cleaning-requires-clause-closed
-end_cleaning-requires-clause-closed g c =
-    let seat = g.B.Board.seat c.args.board.now in
-    ended.is_closed (g.R.Region.state c.args.region.now) seat.place seat.number (g.B.Board.view c.args.board.now) c.args.self.now c.requires.holds c.requires.stands c.requires.order c.requires.dooms c.in-Some.clearing (sym c.in-Some.ensures.value)
-
 pub end_cleaning-requires-clause-ready : goal.end_cleaning-requires-clause-ready
-end_cleaning-requires-clause-ready g c telling =
+end_cleaning-requires-clause-ready g c =
     let seat = g.B.Board.seat c.args.board.now in
-    ended.ready (g.R.Region.state c.args.region.now) seat.place seat.number (g.B.Board.view c.args.board.now) c.args.self.now c.requires.holds c.requires.stands c.requires.order c.requires.dooms c.in-Some.clearing (sym c.in-Some.ensures.value) telling
-
-pub end_cleaning-requires-clause-standing : goal.end_cleaning-requires-clause-standing
-end_cleaning-requires-clause-standing g c telling =
-    let seat = g.B.Board.seat c.args.board.now in
-    ended.counted (g.R.Region.state c.args.region.now) seat.place seat.number (g.B.Board.view c.args.board.now) c.args.self.now c.requires.holds c.requires.stands c.requires.order c.requires.dooms telling
-
-pub end_cleaning-requires-clause-agrees : goal.end_cleaning-requires-clause-agrees
-end_cleaning-requires-clause-agrees g c telling =
-    let seat = g.B.Board.seat c.args.board.now in
-    ended.agrees (g.R.Region.state c.args.region.now) seat.place seat.number (g.B.Board.view c.args.board.now) c.args.self.now c.requires.holds c.requires.stands c.requires.order c.requires.dooms telling
-
-pub end_cleaning-requires-clause-may : goal.end_cleaning-requires-clause-may
-end_cleaning-requires-clause-may g c =
-    let seat = g.B.Board.seat c.args.board.now in
-    ended.may_go (g.R.Region.state c.args.region.now) seat.place seat.number (g.B.Board.view c.args.board.now) c.args.self.now c.requires.holds c.requires.stands c.requires.order c.requires.dooms c.in-Some.clearing (sym c.in-Some.ensures.value)
-
-pub end_cleaning-requires-clause-others : goal.end_cleaning-requires-clause-others
-end_cleaning-requires-clause-others g c =
-    let seat = g.B.Board.seat c.args.board.now in
-    ended.others (g.R.Region.state c.args.region.now) seat.place seat.number (g.B.Board.view c.args.board.now) c.args.self.now c.requires.holds c.requires.stands c.requires.order c.requires.dooms
-
-pub end_cleaning-requires-clause-layout : goal.end_cleaning-requires-clause-layout
-end_cleaning-requires-clause-layout g c = c.requires.holds.allocator_layout ∙ sym c.requires.holds.log_layout
-
-pub end_cleaning-requires-clause-taken : goal.end_cleaning-requires-clause-taken
-end_cleaning-requires-clause-taken g c =
-    let seat = g.B.Board.seat c.args.board.now in
-    ended.is_taken (g.R.Region.state c.args.region.now) seat.place seat.number (g.B.Board.view c.args.board.now) c.args.self.now c.requires.holds c.requires.stands c.requires.order c.requires.dooms c.in-Some.clearing (sym c.in-Some.ensures.value)
-
-pub end_cleaning-requires-clause-uncut : goal.end_cleaning-requires-clause-uncut
-end_cleaning-requires-clause-uncut g c =
-    let seat = g.B.Board.seat c.args.board.now in
-    ended.is_uncut (g.R.Region.state c.args.region.now) seat.place seat.number (g.B.Board.view c.args.board.now) c.args.self.now c.requires.holds c.requires.stands c.requires.order c.requires.dooms c.in-Some.clearing (sym c.in-Some.ensures.value)
+    let s = g.R.Region.state c.args.region.now in
+    let v = g.B.Board.view c.args.board.now in
+    let w = c.args.self.now in
+    let y = c.in-Some.clearing in
+    let H = c.requires.holds in
+    let S = c.requires.stands in
+    let O = c.requires.order in
+    let D = c.requires.dooms in
+    let is = sym c.in-Some.ensures.value in
+    record {
+      begins = ended.begins s seat.place seat.number v w H S O D;
+      member = H.member;
+      has = ended.has_chunk s seat.place seat.number v w H S O D y is;
+      closed = ended.is_closed s seat.place seat.number v w H S O D y is;
+      ready = ended.ready s seat.place seat.number v w H S O D y is;
+      standing = ended.counted s seat.place seat.number v w H S O D;
+      agrees = ended.agrees s seat.place seat.number v w H S O D;
+      may = ended.may_go s seat.place seat.number v w H S O D y is;
+      others = ended.others s seat.place seat.number v w H S O D;
+      layout = H.allocator_layout ∙ sym H.log_layout;
+      taken = ended.is_taken s seat.place seat.number v w H S O D y is;
+      uncut = ended.is_uncut s seat.place seat.number v w H S O D y is;
+    }
 
 pub end_cleaning-requires-clause-owned : goal.end_cleaning-requires-clause-owned
 end_cleaning-requires-clause-owned g c =

@@ -2,7 +2,7 @@
 use Rattle.std.proofs.Common.{refl, sym, ◌∙◌, ap, subst, Ok, Err}
 use Rattle.group_board.specs.Seats.{SeatAt}
 use Rattle.batch_leader.proofs.Clients.{no_loads, loads_on, loads_then}
-use Rattle.core_worker.specs.Readying.{SendsBeside, StaysTied}
+use Rattle.core_worker.specs.Readying.{SendsBeside, StaysTiedFrom}
 use Rattle.core_worker.specs.Ties.{StandsAt}
 use Rattle.core_worker.specs.Turning.{KeepsTurn}
 use Rattle.core_worker.proofs.SendTurns.{keeps_on, lowest_by, none_more, none_sent, none_yet, over_sent, readied_free, short_by, steps_none, steps_sent, tied_on, tied_still}
@@ -80,7 +80,7 @@ loop-to-preserved g c =
       none = none_more seat.place seat.number c.loop-to.to (w c.args.board.now) (w c.loop-to.board) (w c.send_beside.new.board) (v c.args.board.now) (v c.loop-to.board) (v c.send_beside.new.board) c.args.self.now c.loop-to.self c.send_beside.new.self i.none
           (Ok c.in-Ok.sent) (ap Ok c.if-sent.false) (subst (λ (x : SeatAt). SendsBeside (Ok c.in-Ok.sent) x.place x.number c.loop-to.to (w c.loop-to.board) (w c.send_beside.new.board) (v c.loop-to.board) (v c.send_beside.new.board) c.loop-to.self c.send_beside.new.self) i.sits c.in-Ok.ensures.sends);
       tied = tied_on seat (v c.args.board.now) (v c.loop-to.board) (v c.send_beside.new.board) c.args.self.now c.loop-to.self c.send_beside.new.self i.tied
-          (subst (λ (x : SeatAt). StaysTied x (v c.loop-to.board) (v c.send_beside.new.board) c.loop-to.self c.send_beside.new.self) i.sits
-          (none_sent c.in-Ok.sent (StaysTied (g.B.Board.seat c.loop-to.board) (v c.loop-to.board) (v c.send_beside.new.board) c.loop-to.self c.send_beside.new.self) c.if-sent.false c.in-Ok.ensures.tied));
+          (subst (λ (x : SeatAt). StaysTiedFrom x (v c.loop-to.board) (v c.send_beside.new.board) c.loop-to.self c.send_beside.new.self) i.sits
+          (none_sent c.in-Ok.sent (StaysTiedFrom (g.B.Board.seat c.loop-to.board) (v c.loop-to.board) (v c.send_beside.new.board) c.loop-to.self c.send_beside.new.self) c.if-sent.false c.in-Ok.ensures.tied));
       trail = loads_on _ _ _ _ _ _ i.trail (steps_none c.in-Ok.sent _ _ _ _ c.if-sent.false c.in-Ok.ensures.steps);
     }

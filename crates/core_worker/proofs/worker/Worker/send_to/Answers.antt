@@ -2,7 +2,7 @@
 use Rattle.std.proofs.Common.{inl, refl, ◌∙◌, ap, subst, arith, ◌≡◌, ℕ}
 use Rattle.batch_leader.proofs.Clients.{no_loads}
 use Rattle.core_worker.specs.declared.worker.Worker.{Worker}
-use Rattle.core_worker.specs.Sending.{IsReady, TakesAt, WindsOnly}
+use Rattle.core_worker.specs.Sending.{IsReadyFor, TakesAt, WindsOnly}
 use Rattle.core_worker.proofs.Members.{core_beside, member_low}
 use Rattle.core_worker.proofs.ReadyLaws.{takes_at}
 use Rattle.core_worker.proofs.SendTurns.{keeps_short, tied_by, on_short, sent_to, sent_tied, sent_keeps, sent_steps}
@@ -21,7 +21,7 @@ returns-then-not-has_mail-clause-sends g c =
     let seat = g.B.Board.seat c.args.board.now in
     let home = core_beside seat.place seat.number c.args.to c.args.self.now.core c.member.result c.requires.holds.core c.member.ensures in (
       subst (λ (h : ℕ). TakesAt h c.args.to c.args.self.now c.ready_for.new.self) home c.ready_for.ensures.takes,
-      subst (λ (h : ℕ). IsReady h c.args.to c.args.self.now c.ready_for.new.self) home c.in-Ok.ensures.ready,
+      subst (λ (h : ℕ). IsReadyFor h c.args.to c.args.self.now c.ready_for.new.self) home c.in-Ok.ensures.ready,
       inl (c.if-not-has_mail.ensures.none refl, refl, refl),
     )
 
@@ -52,7 +52,7 @@ returns-in-Ok-clause-sends g c =
     let seat = g.B.Board.seat c.args.board.now in
     let home = core_beside seat.place seat.number c.args.to c.args.self.now.core c.member.result c.requires.holds.core c.member.ensures in
     let X = subst (λ (h : ℕ). TakesAt h c.args.to c.args.self.now c.ready_for.new.self) home c.ready_for.ensures.takes in
-    let I = subst (λ (h : ℕ). IsReady h c.args.to c.args.self.now c.ready_for.new.self) home c.in-Ok.ensures.ready in
+    let I = subst (λ (h : ℕ). IsReadyFor h c.args.to c.args.self.now c.ready_for.new.self) home c.in-Ok.ensures.ready in
     sent_to seat c.args.to (g.B.Board.whole c.args.board.now) (g.B.Board.view c.args.board.now) c.args.self.now c.ready_for.new.self c.requires.holds c.requires.order c.requires.nothing c.requires.runs c.requires.works c.requires.other X I
     c.send_ready.result (g.B.Board.whole c.send_ready.new.board) (g.B.Board.view c.send_ready.new.board) c.send_ready.new.self (c.if-not-has_mail.ensures.some refl) c.send_ready.ensures.sent
     (on_short c.send_ready.result ((c.send_ready.new.board ≡ c.args.board.now) × WindsOnly c.ready_for.new.self c.send_ready.new.self) ((g.B.Board.view c.send_ready.new.board ≡ g.B.Board.view c.args.board.now) × (g.B.Board.whole c.send_ready.new.board ≡ g.B.Board.whole c.args.board.now) × WindsOnly c.ready_for.new.self c.send_ready.new.self) (λ e. (ap g.B.Board.view e.0, ap g.B.Board.whole e.0, e.1)) c.send_ready.ensures.err)
@@ -63,7 +63,7 @@ returns-in-Ok-clause-keeps g c s S =
     let v = g.B.Board.view c.args.board.now in
     let home = core_beside seat.place seat.number c.args.to c.args.self.now.core c.member.result c.requires.holds.core c.member.ensures in
     let X = subst (λ (h : ℕ). TakesAt h c.args.to c.args.self.now c.ready_for.new.self) home c.ready_for.ensures.takes in
-    let I = subst (λ (h : ℕ). IsReady h c.args.to c.args.self.now c.ready_for.new.self) home c.in-Ok.ensures.ready in
+    let I = subst (λ (h : ℕ). IsReadyFor h c.args.to c.args.self.now c.ready_for.new.self) home c.in-Ok.ensures.ready in
     let K = c.ready_for.ensures.keeps seat.place seat.number v c.requires.holds c.requires.order c.requires.runs c.requires.nothing c.requires.other home in
     sent_keeps seat c.args.to (g.B.Board.whole c.args.board.now) v c.args.self.now c.ready_for.new.self c.requires.holds c.requires.order c.requires.nothing c.requires.runs c.requires.works c.requires.other X I
     c.send_ready.result s (g.B.Board.whole c.send_ready.new.board) (g.B.Board.view c.send_ready.new.board) c.send_ready.new.self (g.met.B.Board.agrees c.args.board.now) S (c.send_ready.ensures.keeps s (K.stands s S))
@@ -74,7 +74,7 @@ returns-in-Ok-clause-tied g c =
     let seat = g.B.Board.seat c.args.board.now in
     let home = core_beside seat.place seat.number c.args.to c.args.self.now.core c.member.result c.requires.holds.core c.member.ensures in
     let X = subst (λ (h : ℕ). TakesAt h c.args.to c.args.self.now c.ready_for.new.self) home c.ready_for.ensures.takes in
-    let I = subst (λ (h : ℕ). IsReady h c.args.to c.args.self.now c.ready_for.new.self) home c.in-Ok.ensures.ready in
+    let I = subst (λ (h : ℕ). IsReadyFor h c.args.to c.args.self.now c.ready_for.new.self) home c.in-Ok.ensures.ready in
     sent_tied seat c.args.to (g.B.Board.whole c.args.board.now) (g.B.Board.view c.args.board.now) c.args.self.now c.ready_for.new.self c.requires.holds c.requires.order c.requires.nothing c.requires.runs c.requires.works c.requires.other X I
     c.send_ready.result (g.B.Board.whole c.send_ready.new.board) (g.B.Board.view c.send_ready.new.board) c.send_ready.new.self c.send_ready.ensures.sent
 

@@ -5,7 +5,7 @@ use Rattle.batch_leader.proofs.Clients.{turn_of_loads, turn_of_one, turn_after_l
 use Rattle.core_worker.specs.declared.worker.Worker.{Worker}
 use Rattle.core_worker.specs.Left.{HasOffer, Measures}
 use Rattle.core_worker.specs.Mails.{PassesMail}
-use Rattle.core_worker.specs.Readying.{PassesSending, StaysTied}
+use Rattle.core_worker.specs.Readying.{PassesSending, StaysTiedFrom}
 use Rattle.core_worker.specs.Resting.{TriedIf, TriedAfter}
 use Rattle.core_worker.specs.Ties.{HoldsAt, StandsAt}
 use Rattle.core_worker.specs.Turning.{KeepsTurn, Tells, TurnedTo, at_entry}
@@ -68,16 +68,16 @@ returns-in-Err-clause-steps g c passes = (let s = g.R.Region.state c.args.region
 
 pub serve_cleaning-requires-clause-holds : goal.serve_cleaning-requires-clause-holds
 serve_cleaning-requires-clause-holds g c =
-    subst (λ (x : SeatAt). HoldsAt x (g.B.Board.view c.send_first.new.board) c.send_first.new.self) (sym c.send_first.ensures.seat) (none_sent c.in-Ok.sent (StaysTied (g.B.Board.seat c.args.board.now) (g.B.Board.view c.args.board.now) (g.B.Board.view c.send_first.new.board) c.args.self.now c.send_first.new.self) c.if-sent.false c.in-Ok.ensures.tied).holds
+    subst (λ (x : SeatAt). HoldsAt x (g.B.Board.view c.send_first.new.board) c.send_first.new.self) (sym c.send_first.ensures.seat) (none_sent c.in-Ok.sent (StaysTiedFrom (g.B.Board.seat c.args.board.now) (g.B.Board.view c.args.board.now) (g.B.Board.view c.send_first.new.board) c.args.self.now c.send_first.new.self) c.if-sent.false c.in-Ok.ensures.tied).holds
 
 pub serve_cleaning-requires-clause-stands : goal.serve_cleaning-requires-clause-stands
 serve_cleaning-requires-clause-stands g c =
     let s = g.R.Region.state c.args.region.now in
-    subst (λ (x : SeatAt). StandsAt s x (g.B.Board.view c.send_first.new.board) c.send_first.new.self) (sym c.send_first.ensures.seat) ((none_sent c.in-Ok.sent (StaysTied (g.B.Board.seat c.args.board.now) (g.B.Board.view c.args.board.now) (g.B.Board.view c.send_first.new.board) c.args.self.now c.send_first.new.self) c.if-sent.false c.in-Ok.ensures.tied).stands s c.requires.stands)
+    subst (λ (x : SeatAt). StandsAt s x (g.B.Board.view c.send_first.new.board) c.send_first.new.self) (sym c.send_first.ensures.seat) ((none_sent c.in-Ok.sent (StaysTiedFrom (g.B.Board.seat c.args.board.now) (g.B.Board.view c.args.board.now) (g.B.Board.view c.send_first.new.board) c.args.self.now c.send_first.new.self) c.if-sent.false c.in-Ok.ensures.tied).stands s c.requires.stands)
 
 pub serve_cleaning-requires-clause-order : goal.serve_cleaning-requires-clause-order
 serve_cleaning-requires-clause-order g c =
-    subst (λ (x : SeatAt). InOrderAt x (g.B.Board.view c.send_first.new.board) c.send_first.new.self) (sym c.send_first.ensures.seat) (none_sent c.in-Ok.sent (StaysTied (g.B.Board.seat c.args.board.now) (g.B.Board.view c.args.board.now) (g.B.Board.view c.send_first.new.board) c.args.self.now c.send_first.new.self) c.if-sent.false c.in-Ok.ensures.tied).order
+    subst (λ (x : SeatAt). InOrderAt x (g.B.Board.view c.send_first.new.board) c.send_first.new.self) (sym c.send_first.ensures.seat) (none_sent c.in-Ok.sent (StaysTiedFrom (g.B.Board.seat c.args.board.now) (g.B.Board.view c.args.board.now) (g.B.Board.view c.send_first.new.board) c.args.self.now c.send_first.new.self) c.if-sent.false c.in-Ok.ensures.tied).order
 
 pub serve_cleaning-requires-clause-nothing : goal.serve_cleaning-requires-clause-nothing
 serve_cleaning-requires-clause-nothing g c =

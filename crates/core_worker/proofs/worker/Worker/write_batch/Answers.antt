@@ -22,7 +22,7 @@ use Rattle.batch_leader.specs.Persisting.{HasRoom}
 use Rattle.batch_leader.proofs.Clients.{batch_of}
 use Rattle.core_worker.specs.declared.types.Leading.TheVariants as leads
 use Rattle.core_worker.specs.Ties.{HasSpaceFor}
-use Rattle.core_worker.specs.Turns.{TakesFor, MadeOrStops, PersistsOrLoses, unpledged_if}
+use Rattle.core_worker.specs.Turns.{TakesChunkIf, MadeOrStops, PersistsOrLoses, unpledged_if}
 use Rattle.core_worker.specs.OwnPlaces.{place_at, own as own_lines_of}
 use Rattle.group_laws.specs.Runs as runs
 use Rattle.core_worker.specs.Status.{is_leading}
@@ -50,7 +50,7 @@ persist-requires-clause-room g c =
     let H = c.requires.holds in
     let b = c.in-Batch.batch in
     room_ready (g.R.Region.state c.args.region.now) p m v w c.requires.stands H.sets (H.allocator_layout ∙ sym H.log_layout) c.requires.runs b.fresh b.own_lines (words_in b.changes.taken.items) c.chunk_for-fresh.new.allocator c.chunk_for-fresh.result
-    (subst (HasSpaceFor w) (sym c.in-Batch.ensures.value) (H.space c.requires.runs)) (subst (λ (f : Bool). TakesFor f w.allocator c.chunk_for-fresh.new.allocator c.chunk_for-fresh.result) c.needs_chunk.ensures c.chunk_for-fresh.ensures.takes)
+    (subst (HasSpaceFor w) (sym c.in-Batch.ensures.value) (H.space c.requires.runs)) (subst (λ (f : Bool). TakesChunkIf f w.allocator c.chunk_for-fresh.new.allocator c.chunk_for-fresh.result) c.needs_chunk.ensures c.chunk_for-fresh.ensures.takes)
 
 pub returns-in-Ok-clause-holds : goal.returns-in-Ok-clause-holds
 returns-in-Ok-clause-holds g c =
@@ -66,7 +66,7 @@ returns-in-Ok-clause-holds g c =
     let had = led_here seat v c.args.self.now.leading (leads.Batch b) c.requires.holds.leads (sym c.in-Batch.ensures.value) in
     let view = c.in-Ok.ensures.view in
     let gives = c.in-Ok.ensures.gives in
-    let takes = subst (λ (f : Bool). TakesFor f w.allocator c.chunk_for-fresh.new.allocator c.chunk_for-fresh.result) c.needs_chunk.ensures c.chunk_for-fresh.ensures.takes in
+    let takes = subst (λ (f : Bool). TakesChunkIf f w.allocator c.chunk_for-fresh.new.allocator c.chunk_for-fresh.result) c.needs_chunk.ensures c.chunk_for-fresh.ensures.takes in
     let own : c.member-own.result ≡ m = c.member-own.ensures ∙ ap (λ (x : SeatAt). x.number) c.persist.ensures.seat in
     let s = g.R.Region.state c.args.region.now in
     let o = c.chunk_for-fresh.result in
@@ -97,7 +97,7 @@ returns-in-Ok-clause-stands g c =
     let o = c.chunk_for-fresh.result in
     let seat = g.B.Board.seat c.args.board.now in
     let had = led_here seat v c.args.self.now.leading (leads.Batch b) c.requires.holds.leads (sym c.in-Batch.ensures.value) in
-    let takes = subst (λ (f : Bool). TakesFor f w.allocator a o) c.needs_chunk.ensures c.chunk_for-fresh.ensures.takes in
+    let takes = subst (λ (f : Bool). TakesChunkIf f w.allocator a o) c.needs_chunk.ensures c.chunk_for-fresh.ensures.takes in
     let room = room_ready s p m v w c.requires.stands H.sets (H.allocator_layout ∙ sym H.log_layout) c.requires.runs b.fresh b.own_lines (words_in b.changes.taken.items) a o (subst (HasSpaceFor w) (sym c.in-Batch.ensures.value) (H.space c.requires.runs)) takes in
     let entries : HoldsEntries (spelled b.changes.taken.items) = record { entries = entries_in b.changes.taken.items; words = refl; batch = batch_of p b.changes.taken.items had.0.out.each b.some } in
     let ts = b.changes.taken.items in
@@ -122,7 +122,7 @@ returns-in-Err-clause-holds g c =
     let had = led_here seat v c.args.self.now.leading (leads.Batch b) c.requires.holds.leads (sym c.in-Batch.ensures.value) in
     let view = c.in-Err.ensures.view in
     let gives = c.in-Err.ensures.gives in
-    let takes = subst (λ (f : Bool). TakesFor f w.allocator c.chunk_for-fresh.new.allocator c.chunk_for-fresh.result) c.needs_chunk.ensures c.chunk_for-fresh.ensures.takes in
+    let takes = subst (λ (f : Bool). TakesChunkIf f w.allocator c.chunk_for-fresh.new.allocator c.chunk_for-fresh.result) c.needs_chunk.ensures c.chunk_for-fresh.ensures.takes in
     holds_renewed p m u (record w { log = c.persist.new.log; allocator = c.chunk_for-fresh.new.allocator; leading = leads.Failed c.in-Err.lost; stopped = true; lost_batch = true }) c.note_names.new.standing w.winds_down (λ on. on) (inl refl)
     (holds_wrote p m v u w c.chunk_for-fresh.new.allocator c.persist.new.log (leads.Failed c.in-Err.lost) true true v.kept v.flying v.taken v.holds v.looked v.took view (λ x i. i) H
     (takes_same b.fresh w.allocator c.chunk_for-fresh.new.allocator c.chunk_for-fresh.result takes) c.chunk_for-fresh.ensures.sets c.in-Err.ensures.log.layout c.in-Err.ensures.log.part
@@ -152,7 +152,7 @@ returns-in-Ok-clause-rule g c runs rule =
     let seat = g.B.Board.seat c.args.board.now in
     let had = led_here seat v c.args.self.now.leading (leads.Batch b) c.requires.holds.leads (sym c.in-Batch.ensures.value) in
     let gives = c.in-Ok.ensures.gives in
-    let takes = subst (λ (f : Bool). TakesFor f w.allocator a o) c.needs_chunk.ensures c.chunk_for-fresh.ensures.takes in
+    let takes = subst (λ (f : Bool). TakesChunkIf f w.allocator a o) c.needs_chunk.ensures c.chunk_for-fresh.ensures.takes in
     let space = subst (HasSpaceFor w) (sym c.in-Batch.ensures.value) (H.space c.requires.runs) in
     let room = room_ready s p m v w c.requires.stands H.sets (H.allocator_layout ∙ sym H.log_layout) c.requires.runs b.fresh b.own_lines (words_in ts) a o space takes in
     let entries : HoldsEntries (spelled ts) = record { entries = entries_in ts; words = refl; batch = batch_of p ts had.0.out.each b.some } in
@@ -179,7 +179,7 @@ returns-in-Ok-clause-persists g c =
     let seat = g.B.Board.seat c.args.board.now in
     let had = led_here seat v c.args.self.now.leading (leads.Batch b) c.requires.holds.leads (sym c.in-Batch.ensures.value) in
     let gives = c.in-Ok.ensures.gives in
-    let takes = subst (λ (f : Bool). TakesFor f w.allocator a o) c.needs_chunk.ensures c.chunk_for-fresh.ensures.takes in
+    let takes = subst (λ (f : Bool). TakesChunkIf f w.allocator a o) c.needs_chunk.ensures c.chunk_for-fresh.ensures.takes in
     let own : c.member-own.result ≡ m = c.member-own.ensures ∙ ap (λ (x : SeatAt). x.number) c.persist.ensures.seat in
     let each : (s : ℕ) → s < 8 → place_at c.unpledge.new.places.items s ≡ unpledged_if (is_some (taken_in ts m s)) (place_at w.places.items s) = λ s lt. c.unpledge.ensures.each s lt ∙ (λ i. unpledged_if (is_some (taken_in (gives.0 i) (own i) s)) (place_at w.places.items s)) in
     let all = each_place ts m w.places.items c.unpledge.new.places.items H.eight c.unpledge.ensures.count each in
