@@ -20,7 +20,7 @@ use Rattle.core_worker.specs.declared.types.Turn.{Turn}
 use Rattle.core_worker.specs.declared.types.Turn.TheVariants.{Moved, Idle}
 use Rattle.core_worker.specs.Accepting.{IsTied, HasTie, StaysTied, AcceptMoves, AcceptsByEachView}
 use Rattle.core_worker.specs.Beginning.{answers_of}
-use Rattle.core_worker.specs.Left.{left, under_way, fair, StartsFirst, Measures}
+use Rattle.core_worker.specs.Left.{left, group_left, fair, StartsFirst, Measures}
 use Rattle.core_worker.specs.Order.{InOrder}
 use Rattle.core_worker.specs.Resting.{AtRest, IfIdle}
 use Rattle.core_worker.specs.Status.{has_room, is_leading}
@@ -188,12 +188,12 @@ did_by (Ok Idle) s t refused before seat a b h = h
 did_by (Err e) s t refused before seat a b h = tt
 
 module _ (before after : Option Group) (w x : Worker) (S : Type 0) (fair_now : IfSome before (λ a. S)) where
-  pub lowers_by : (r : Result Turn Memory) → (S → Measures r before after w x) → IfOk r (λ turn. turn ≡ Moved → IfSome before (λ a. IsSomeAnd after (λ e. left x + under_way e < left w + under_way a)))
-  lowers_by (Ok Moved) h = λ on. if_fair before S (λ a. IsSomeAnd after (λ e. left x + under_way e < left w + under_way a)) fair_now h
+  pub lowers_by : (r : Result Turn Memory) → (S → Measures r before after w x) → IfOk r (λ turn. turn ≡ Moved → IfSome before (λ a. IsSomeAnd after (λ e. left x + group_left e < left w + group_left a)))
+  lowers_by (Ok Moved) h = λ on. if_fair before S (λ a. IsSomeAnd after (λ e. left x + group_left e < left w + group_left a)) fair_now h
   lowers_by (Ok Idle) h = λ on. absurd (cc on)
   lowers_by (Err e) h = tt
 
-  pub not_more_by : (r : Result Turn Memory) → (S → Measures r before after w x) → IfOk r (λ turn. turn ≡ Idle → IfSome before (λ a. IsSomeAnd after (λ e. left x + under_way e ≤ left w + under_way a)))
+  pub not_more_by : (r : Result Turn Memory) → (S → Measures r before after w x) → IfOk r (λ turn. turn ≡ Idle → IfSome before (λ a. IsSomeAnd after (λ e. left x + group_left e ≤ left w + group_left a)))
   not_more_by (Ok Moved) h = λ off. absurd (cc off)
-  not_more_by (Ok Idle) h = λ off. if_fair before S (λ a. IsSomeAnd after (λ e. left x + under_way e ≤ left w + under_way a)) fair_now h
+  not_more_by (Ok Idle) h = λ off. if_fair before S (λ a. IsSomeAnd after (λ e. left x + group_left e ≤ left w + group_left a)) fair_now h
   not_more_by (Err e) h = tt

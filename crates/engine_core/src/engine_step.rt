@@ -1,17 +1,16 @@
-// One step of one core: its worker is handed a request, or makes a turn; and its answers are taken.
-ghost use Rattle.std.specs.Prelude.{◌≡◌, ℕ, ◌+◌, ◌*◌, ◌<◌, ◌≤◌, List, [], ◌∷◌, length, Bool, true, false, Some, IfOk, OnOk, OnErr};
-ghost use Rattle.std.specs.VecDeque.{deque_len, deque_capacity};
+// One step of a core of a replay: its worker is handed a request, or makes a turn; and its answers are taken.
+ghost use Rattle.std.specs.Prelude.{◌≡◌, ℕ, ◌+◌, ◌*◌, ◌<◌, ◌≤◌, List, [], length, false, Some, IfOk, OnOk, OnErr};
 ghost use Rattle.fs_model.specs.declared.model.Request as requests;
-ghost use Rattle.fs_model.specs.Cells.{key_of};
 ghost use Rattle.pm_region.specs.State.{State};
-ghost use Rattle.group_laws.specs.Places.{Place, owner};
+ghost use Rattle.group_laws.specs.Places.{Place};
 ghost use Rattle.group_laws.specs.State.{Group};
 ghost use Rattle.group_laws.specs.MemberViews.{View, view_of};
 ghost use Rattle.group_board.specs.Journals.{state};
 ghost use Rattle.core_worker.specs.declared.types.Turn.TheVariants.{Moved, Idle};
 ghost use Rattle.engine_core.specs.Answers.{HavePlaces, stored};
-ghost use Rattle.engine_core.specs.Calls.{AreOwn, Accepts, BeginsByEachView, Turns, Steps, TakesTurn, Does, has_moved, is_idle, is_open, next_of};
+ghost use Rattle.engine_core.specs.Calls.{AreOwn, Turns, Steps, TakesTurn, Does, has_moved, is_idle, is_open, next_of};
 
+use crate::backlog::{hand_to, next_for};
 use crate::types::Stamped;
 use crate::worker_calls::CoreWorker;
 use core_worker::Turn;
@@ -55,48 +54,6 @@ fn turn_at<W: CoreWorker, R: Region>(
     worker.turn(alloc, region, &mut seat)
 }
 
-// Whether a worker is handed a request.
-fn takes<W: CoreWorker>(worker: &W) -> bool
-    ensures { result ≡ is_open W.room W.leads worker.now }
-{
-    !worker.leading() && worker.has_room()
-}
-
-// Hands a worker a request. Where there is no memory for it, the request goes back to the front of the backlog that it
-// came from.
-fn take_in<W: CoreWorker, R: Region>(
-    worker: &mut W,
-    backlog: &mut VecDeque<(u64, Request)>,
-    alloc: Global,
-    region: &R,
-    number: u64,
-    request: Request,
-) -> Result<Turn, Memory>
-    requires open { is_open W.room W.leads worker.old ≡ true }
-    requires stands { (p : Place) × (m : ℕ) × (v : View)
-        × W.stands p m (R.state region.now) v worker.old × (owner p (key_of request) ≡ m) }
-    requires room { deque_len backlog.old < deque_capacity backlog.old }
-    ensures moved { IfOk result (λ turn. (turn ≡ Moved)
-        × Accepts W.hands W.answers W.stands W.fair (R.state region.now) worker.old worker.new
-        ((number, request) ∷ [])) }
-    ensures begins { OnOk result (BeginsByEachView W.stands W.begins (R.state region.now)
-        worker.old worker.new number request) }
-    ensures failed { OnErr result (Accepts W.hands W.answers W.stands W.fair
-        (R.state region.now) worker.old worker.new []) }
-    ensures taken { OnOk result (backlog.new.items ≡ backlog.old.items) }
-    ensures back { OnErr result (backlog.new.items ≡ (number, request) ∷ backlog.old.items) }
-    ensures winds { OnOk result (W.winds worker.new ≡ W.winds worker.old) }
-    ensures less { OnOk result (W.left worker.new ≤ W.left worker.old + W.most) }
-{
-    match worker.accept(alloc, region, number, request) {
-        Ok(()) => Ok(Turn::Moved),
-        Err(refused) => {
-            backlog.push_front((number, refused.request)).unwrap();
-            Err(Memory)
-        }
-    }
-}
-
 /// Hands a worker the first request of its backlog, where it leads nothing and has room, and else gives it a turn. Where
 /// there is no memory for a request, it stays at the front of the backlog.
 pub fn step<W: CoreWorker, R: Region>(
@@ -138,11 +95,8 @@ pub fn step<W: CoreWorker, R: Region>(
         ≤ W.left worker.old + W.under_way (state board.old.keeper.me.0)
         + (W.most + 1) * length backlog.old.items) }
 {
-    if !takes(worker) {
-        return turn_at(worker, board, alloc, region, member);
-    }
-    match backlog.pop_front() {
-        Some((number, request)) => take_in(worker, backlog, alloc, region, number, request),
+    match next_for(worker, backlog) {
+        Some((number, request)) => hand_to(worker, backlog, alloc, region, number, request),
         None => turn_at(worker, board, alloc, region, member),
     }
 }

@@ -1,12 +1,12 @@
 //! What a replay and a run on threads share: what an engine asks of a core's worker, and the worker as one that gives
-//! it; one step of a core; how groups and workers open; backlogs, the answers that are kept, the report on them, and
-//! the outcome.
+//! it; how groups and workers open; backlogs, and how their requests are handed out; the answers that are kept, the
+//! report on them, and the outcome; and the step of a replay.
 #![tactic(auto)]
 
 pub mod backlog;
 pub mod engine_step;
+pub mod found_region;
 pub mod open_workers;
-pub mod openings;
 pub mod real_worker;
 pub mod run_outcome;
 pub mod run_report;

@@ -47,7 +47,7 @@ impl CoreWorker for Worker {
 
     ghost left = { measure.left };
 
-    ghost under_way = { measure.under_way };
+    ghost under_way = { measure.group_left };
 
     ghost most = { measure.most };
 

@@ -6,8 +6,8 @@ ghost use Rattle.core_worker.specs.declared.types.Turn.TheVariants.{Moved, Idle}
 ghost use Rattle.engine_core.specs.Calls.{AllWind, NoneWinds, EachWinds, has_moved};
 ghost use Rattle.engine_core.specs.Reports.{IsBlank, HasRoomFor};
 
+use crate::cores::Cores;
 use crate::passes;
-use crate::passes::Cores;
 use chunk_map::Geometry;
 use core_worker::Turn;
 use engine_core::backlog::append;

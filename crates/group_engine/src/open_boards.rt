@@ -10,7 +10,7 @@ ghost use Rattle.group_engine.specs.Shows.{Shows, AreOpened, AreEmpty};
 
 use crate::engine::Engine;
 use chunk_map::Geometry;
-use engine_core::openings::{Numbered, Of};
+use engine_core::found_region::{Numbered, Of};
 use engine_core::run_report::Report;
 use engine_core::worker_calls::CoreWorker;
 use fs_model::{Memory, Request};

@@ -48,3 +48,4 @@ mod RunEnds
 mod Rejoining
 mod Blocks
 mod Assembly
+mod HandedTo

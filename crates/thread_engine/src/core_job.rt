@@ -1,5 +1,5 @@
 // One core's work, which a thread does.
-ghost use Rattle.std.specs.Prelude.{◌≡◌, ◌<◌, ◌∷◌, Bool, true, []};
+ghost use Rattle.std.specs.Prelude.{◌≡◌, ◌<◌, Bool, true, []};
 ghost use Rattle.std.specs.VecDeque.{deque_len, deque_capacity};
 ghost use Rattle.fs_model.specs.Cells.{key_of};
 ghost use Rattle.group_laws.specs.Places.{owner};
@@ -14,7 +14,7 @@ use crate::work_rules;
 use answer_cores::hand_over;
 use answer_queue::{AnswerPass, AnswerQueue};
 use core_worker::{Gate, Turn, Worker};
-use engine_core::worker_calls::CoreWorker;
+use engine_core::backlog::{hand_to, next_for};
 use fs_model::{Memory, Request};
 use group_board::Board;
 use pm_region::Region;
@@ -41,21 +41,6 @@ pub struct CoreJob<B, P> {
     pub pass: Option<AnswerPass>,
 }
 
-// Whether a worker is handed a request.
-fn is_open(worker: &Worker) -> bool
-    ensures { result ≡ takes worker.now }
-{
-    !CoreWorker::leading(worker) && CoreWorker::has_room(worker)
-}
-
-// Puts a request back to the front of the queue that it came from.
-fn put_back(queue: &mut VecDeque<(u64, Request)>, number: u64, request: Request)
-    requires { deque_len queue.old < deque_capacity queue.old }
-    ensures { queue.new.items ≡ (number, request) ∷ queue.old.items }
-{
-    queue.push_front((number, request)).unwrap();
-}
-
 impl<B: Board, P: Region> CoreJob<B, P> {
     // Hands the worker a request. Where there is no memory for it, the request goes back to the front of the queue.
     fn accept(&mut self, alloc: Global, number: u64, request: Request) -> Result<Turn, Memory>
@@ -73,13 +58,14 @@ impl<B: Board, P: Region> CoreJob<B, P> {
             (with_next (number, request) (stands_at (sight_by B.view B.trail B.at) P.state self.old))
             (stands_at (sight_by B.view B.trail B.at) P.state self.new) }
     {
-        match CoreWorker::accept(&mut self.worker, alloc, &self.piece, number, request) {
-            Ok(()) => Ok(Turn::Moved),
-            Err(refused) => {
-                put_back(&mut self.queue, number, refused.request);
-                Err(Memory)
-            }
-        }
+        hand_to(
+            &mut self.worker,
+            &mut self.queue,
+            alloc,
+            &self.piece,
+            number,
+            request,
+        )
     }
 
     // Gives the worker a turn.
@@ -112,10 +98,7 @@ impl<B: Board, P: Region> CoreJob<B, P> {
             (stands_at (sight_by B.view B.trail B.at) P.state self.old)
             (stands_at (sight_by B.view B.trail B.at) P.state self.new) }
     {
-        if !is_open(&self.worker) {
-            return self.turn(alloc, gate);
-        }
-        match self.queue.pop_front() {
+        match next_for(&self.worker, &mut self.queue) {
             Some((number, request)) => self.accept(alloc, number, request),
             None => self.turn(alloc, gate),
         }
@@ -209,7 +192,7 @@ impl<B: Board, P: Region> CoreJob<B, P> {
         !Worker::leading(&self.worker)
             && self.worker.has_posted()
             && !self.worker.has_staged()
-            && (self.queue.is_empty() || !CoreWorker::has_room(&self.worker))
+            && (self.queue.is_empty() || !self.worker.has_room())
     }
 
     // Hands the worker's answers over.

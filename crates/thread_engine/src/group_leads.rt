@@ -67,7 +67,7 @@ impl GroupLeads {
     fn open(alloc: Global, group: u32) -> Result<GroupLeads, AllocError> {
         let mut cores = Vec::with_capacity(alloc, group as usize)?;
         for _ in 0..group {
-            cores.push_reserved(AtomicU64::new(AWAY));
+            cores.push(AtomicU64::new(AWAY))?;
         }
         Ok(GroupLeads {
             begun: AtomicU64::new(0),

@@ -12,7 +12,7 @@ ghost use Rattle.thread_engine.specs.TableTokens.{AddsTokens, HaveTokens};
 
 use atomic_board::{GroupTable, SeatToken};
 use chunk_map::Geometry;
-use engine_core::openings::{FoundRegion, Numbered, Of, On};
+use engine_core::found_region::{FoundRegion, Numbered, Of, On};
 use fs_model::Memory;
 use group_board::Opening;
 use pm_region::ReadRegion;
