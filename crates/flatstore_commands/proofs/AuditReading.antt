@@ -10,7 +10,7 @@ use Rattle.fs_text.specs.Streams.{IsReadOut}
 use Rattle.run_audit.specs.declared.audit_input.AuditInput.{AuditInput}
 use Rattle.run_audit.specs.Parting.{listed}
 use Rattle.run_audit.specs.Replies.{audit_input_of}
-use Rattle.flatstore_commands.specs.Audits.{IsReadAudit, IsUnreadAudit, input_status, is_refused}
+use Rattle.flatstore_commands.specs.Audits.{IsReadAudit, IsUnreadAudit, input_status, is_bad_input}
 use Rattle.flatstore_commands.specs.Ends.{SourceUse}
 use Rattle.flatstore_commands.specs.Promise.{IsInput}
 use Rattle.flatstore_commands.specs.Reads.{unread_as}
@@ -37,6 +37,6 @@ module _ (cores : ℕ) (source : SourceUse) (r : Result AuditInput InputError) (
   pub is_unread : (e : InputError) → r ≡ Err e → (r ≡ Err inputs.SourceFault → Rose source.faults source.faults') → IsUnreadAudit source cores (unread_as e)
   is_unread (inputs.BadInput line rule) is cause =
       let at : audit_input_of cores read_as.0 ≡ Err (line, rule) = said_by (Err (inputs.BadInput line rule)) is in
-      inl (whole (ap (λ q. is_said (listed q)) is), read_as.0, read_as.1, ap is_refused at, ap input_status (sym at))
+      inl (whole (ap (λ q. is_said (listed q)) is), read_as.0, read_as.1, ap is_bad_input at, ap input_status (sym at))
   is_unread inputs.SourceFault is cause = inr (inl (refl, cause is))
   is_unread inputs.Memory is cause = inr (inr refl)

@@ -25,7 +25,7 @@ use Rattle.run_audit.specs.Replies.{audit_input_of}
 use Rattle.run_audit.specs.VerdictText.{verdict_text}
 use Rattle.run_audit.specs.declared.audit_input.AuditInput.{AuditInput}
 use Rattle.run_audit.specs.declared.verdict.Verdict.{Verdict}
-use Rattle.flatstore_commands.specs.Audits.{AuditsBy, IsVerdict, IsVerdictText, IsJudged, IsUnjudged, IsUnreadAudit, IsReadAudit, input_status, is_refused, due_by}
+use Rattle.flatstore_commands.specs.Audits.{AuditsBy, IsVerdict, IsVerdictText, IsJudged, IsUnjudged, IsUnreadAudit, IsReadAudit, input_status, is_bad_input, due_by}
 use Rattle.flatstore_commands.specs.Ends.{CountsFaults, SourceUse, SinkUse}
 use Rattle.flatstore_commands.specs.Ordering.{IsServed, IsFault, is_of_line, is_of_region}
 use Rattle.flatstore_commands.specs.Played.{IsCounted, IsUnserved}
@@ -97,7 +97,7 @@ fault_usage : (fault : Fault) → fault_status fault ≡ statuses.Usage → ⊥
 fault_usage (faults.NotARegion rule) e = cc e
 fault_usage (faults.Damaged part chunk rule) e = cc e
 
-bad_writing : (i : Result (List Request × List Reply) (ℕ × ℕ)) → is_refused i ≡ true → is_of_writing (input_status i) ≡ false
+bad_writing : (i : Result (List Request × List Reply) (ℕ × ℕ)) → is_bad_input i ≡ true → is_of_writing (input_status i) ≡ false
 bad_writing (Ok x) h = cc h
 bad_writing (Err (line, rule)) h = refl
 

@@ -23,7 +23,7 @@ use Rattle.flatstore_commands.specs.Ends.{SourceUse, SinkUse, CountsFaults}
 use Rattle.flatstore_commands.specs.Ordering.{IsServed, is_of_line, is_of_region, is_quiet}
 use Rattle.flatstore_commands.specs.Played.{IsUnserved}
 use Rattle.flatstore_commands.specs.Promise.{IsInput}
-use Rattle.flatstore_commands.specs.Scans.{answers_text, IsScanText, queries_status, scan_due, IsScanFault, Answers, Scans}
+use Rattle.flatstore_commands.specs.Scans.{answers_text, IsScanText, queries_status, scan_due, IsScanFault, AnswersQueries, Scans}
 use Rattle.flatstore_commands.specs.Shows.{HasShown, WritesText, is_of_writing}
 use Rattle.flatstore_commands.specs.Statuses.{fault_status}
 use Rattle.flatstore_commands.specs.Asking.{AreUnread, IsReadyFor, IsUnasked, KeepsAll, is_refused}
@@ -103,7 +103,7 @@ module _ (old s : State) (found word : ℕ → ℕ) (A : Attached old s s.frame.
       → (IsTelling s → (r.status ≡ scan_due (first_fault s.frame.bytes found) input) ⊎ IsScanFault source sink r.status)
       → (r.status ≡ statuses.SourceFault → IsServed s found)
       → (is_of_line r.status ≡ true → IsServed s found × IsReadOut source.coming source.left × (r.status ≡ queries_status (queries_of input)))
-      → Answers old s found word source input sink r
+      → AnswersQueries old s found word source input sink r
   unanswered input r incomplete unwritten due read line = record {
     reads = words_found;
     due = due;
@@ -118,7 +118,7 @@ module _ (old s : State) (found word : ℕ → ℕ) (A : Attached old s s.frame.
   }
 
   refused_by : (status : Status) (r : CommandReport) → r.status ≡ status → r.complete ≡ false → IsUnasked s source status
-      → (input : List ℕ) × IsInput source.coming input × Answers old s found word source input sink r
+      → (input : List ℕ) × IsInput source.coming input × AnswersQueries old s found word source input sink r
   refused_by status r is incomplete (inl (inl (fault, at, told))) =
       let some = some_input source.coming in (
         some.0,

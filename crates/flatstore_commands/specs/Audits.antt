@@ -29,9 +29,9 @@ abbrev pub input_status : Result (List Request × List Reply) (ℕ × ℕ) → S
 input_status (Ok x) = statuses.Done
 input_status (Err (line, rule)) = statuses.BadInput line rule
 
-abbrev pub is_refused : Result (List Request × List Reply) (ℕ × ℕ) → Bool
-is_refused (Ok x) = false
-is_refused (Err e) = true
+abbrev pub is_bad_input : Result (List Request × List Reply) (ℕ × ℕ) → Bool
+is_bad_input (Ok x) = false
+is_bad_input (Err e) = true
 
 -- the status that the words found and the input alone decide; word 2 is the number of cores
 abbrev pub due_by : (ℕ → ℕ) → List ℕ → Option Fault → Status
@@ -100,7 +100,7 @@ pub record IsReadAudit (source : SourceUse) (cores : ℕ) (x : AuditInput) : Typ
 abbrev pub IsUnreadAudit : SourceUse → ℕ → Status → Type 0
 IsUnreadAudit source cores status =
     (IsReadOut source.coming source.left × (input : List ℕ) × IsInput source.coming input
-    × (is_refused (audit_input_of cores input) ≡ true)
+    × (is_bad_input (audit_input_of cores input) ≡ true)
     × (status ≡ input_status (audit_input_of cores input)))
     ⊎ (((status ≡ statuses.SourceFault) × Rose source.faults source.faults')
     ⊎ (status ≡ statuses.Memory))

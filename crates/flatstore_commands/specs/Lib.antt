@@ -12,6 +12,7 @@ pub mod Audits
 pub mod Dumps
 pub mod Shows
 pub mod Logs
+pub mod ShownTexts
 pub mod Reads
 pub mod Scans
 pub mod Asking

@@ -62,7 +62,7 @@ IsScanFault source sink status =
     ⊎ ((status ≡ statuses.SinkFault) × Rose sink.faults sink.faults'))
 
 -- Of a region that was attached, the words that it then reads, and this input.
-pub record Answers (old new : State) (found word : ℕ → ℕ) (source : SourceUse) (input : List ℕ)
+pub record AnswersQueries (old new : State) (found word : ℕ → ℕ) (source : SourceUse) (input : List ℕ)
     (sink : SinkUse) (r : CommandReport) : Type 0 where
   -- Where the region tells, the words read are those found.
   pub reads : IsTelling new → (w : ℕ) → InRange new.frame w → word w ≡ found w
@@ -94,4 +94,4 @@ pub record Scans (old new : State) (found word : ℕ → ℕ) (source : SourceUs
   pub attaches : Attaches old new found r
   pub answers : r.attached ≡ true
       → (input : List ℕ) × IsInput source.coming input
-      × Answers old new found word source input sink r
+      × AnswersQueries old new found word source input sink r

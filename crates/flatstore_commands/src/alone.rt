@@ -15,12 +15,11 @@ ghost use Rattle.flatstore_commands.specs.Scans.{Scans};
 ghost use Rattle.flatstore_commands.specs.declared.report.Status.TheVariants as statuses;
 
 use crate::command::{Command, parse_command};
-use crate::dumping::dump_region;
 use crate::formatting::format_region;
-use crate::logging::log_region;
 use crate::playing::replay_region;
 use crate::report::{CommandReport, Status};
 use crate::scan_ranges::scan_region;
+use crate::showing::{Showing, show_region};
 use fs_text::{Sink, Source};
 use pm_region::{ReadRegion, SplitRegion};
 use std::alloc::Global;
@@ -122,8 +121,8 @@ pub fn flatstore_alone<T: Threads, S: Source, O: Sink, R: SplitRegion + ReadRegi
         Command::Run { .. } | Command::Audit { .. } | Command::Load { .. } => {
             CommandReport::of(alloc, Status::Usage, false)
         }
-        Command::Dump { .. } => dump_region(alloc, sink, region),
-        Command::Log { .. } => log_region(alloc, sink, region),
+        Command::Dump { .. } => show_region(alloc, sink, region, Showing::Pairs),
+        Command::Log { .. } => show_region(alloc, sink, region, Showing::Entries),
         Command::Scan { .. } => scan_region(alloc, source, sink, region),
     }
 }

@@ -15,11 +15,11 @@ ghost use Rattle.flatstore_commands.specs.Ordering.{is_quiet};
 ghost use Rattle.flatstore_commands.specs.Played.{StandsWhole, HasWritten, is_ended};
 ghost use Rattle.flatstore_commands.specs.declared.report.Status.TheVariants as statuses;
 
-use crate::dumping::live_pairs;
 use crate::load_size::LoadSize;
 use crate::replay::{is_ended, recovered, status_of};
 use crate::report::{CommandReport, Status};
 use crate::run_threads::{NotRun, run_report};
+use crate::showing::live_pairs;
 use core_worker::Gate;
 use engine_core::run_outcome::End;
 use fs_text::{LoadTally, OutError, Sink, write_tally};
