@@ -20,7 +20,9 @@ use std::collections::VecDeque;
 use std::sync::Wait;
 use std::sync::atomic::AtomicBool;
 use std::test::Fail;
+use std::time::Clock;
 use thread_engine::core_job::CoreJob;
+use thread_engine::group_leads::AllLeads;
 
 // A queue with a put of three bytes under this key, as request 7.
 fn queue_of(alloc: Global, key: Key) -> Result<VecDeque<(u64, Request)>, Fail>
@@ -35,28 +37,30 @@ fn queue_of(alloc: Global, key: Key) -> Result<VecDeque<(u64, Request)>, Fail>
 // Works a job off, where the others have said so much of memory. It gives how many requests are left, and whether one
 // was answered.
 fn work_off<B: Board, P: Region>(
-    rt: &impl Wait,
+    rt: &(impl Wait + Clock),
     alloc: Global,
     job: &mut CoreJob<B, P>,
+    leads: &AllLeads,
     short: bool,
 ) -> (u64, bool)
     requires { IsAtWork (B.seat job.old.seat)
         (stands_at (sight_by B.view B.trail B.at) P.state job.old) }
 {
-    job.work(rt, alloc, &OpenGate, &AtomicBool::new(short));
+    job.work(rt, alloc, &OpenGate, &AtomicBool::new(short), leads, 0);
     let answer = job.worker.next_answer();
     (job.queue.len() as u64, answer.is_some())
 }
 
 // Works such a queue off, at this seat. The key is passed since what is known of it must be said of what is passed.
 fn worked<B: Board + Drop>(
-    rt: &impl Wait,
+    rt: &(impl Wait + Clock),
     alloc: Global,
     seat: B,
     piece: SteadyRegion,
     worker: Worker,
     queue: VecDeque<(u64, Request)>,
     _key: Key,
+    leads: &AllLeads,
     short: bool,
 ) -> (u64, bool)
     requires seated { IsSeated (steady_state piece) (B.seat seat).place (B.seat seat).number
@@ -72,11 +76,16 @@ fn worked<B: Board + Drop>(
         queue,
         pass: None,
     };
-    work_off(rt, alloc, &mut job, short)
+    work_off(rt, alloc, &mut job, leads, short)
 }
 
-fn worked_at_board(rt: &impl Wait, alloc: Global, short: bool) -> Result<(u64, bool), Fail> {
+fn worked_at_board(
+    rt: &(impl Wait + Clock),
+    alloc: Global,
+    short: bool,
+) -> Result<(u64, bool), Fail> {
     let queue = queue_of(alloc, 29)?;
+    let leads = AllLeads::open(alloc, 1, 1)?;
     let region = attached(alloc)?;
     let Some((worker, mut board)) = seated(alloc, &region)? else {
         return Ok((0, false));
@@ -85,7 +94,7 @@ fn worked_at_board(rt: &impl Wait, alloc: Global, short: bool) -> Result<(u64, b
         board: &mut board,
         member: 1,
     };
-    Ok(worked(rt, alloc, seat, region, worker, queue, 29, short))
+    Ok(worked(rt, alloc, seat, region, worker, queue, 29, &leads, short))
 }
 
 #[test]
