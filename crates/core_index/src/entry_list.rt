@@ -116,14 +116,17 @@ fn marked(version: Version, home: u32) -> Marked
     }
 }
 
-// Takes out the places of entries that are gone, where they are half of all or more.
-fn close_up(marks: &mut Vec<Marked>, left: u64)
+// Takes out the places of entries that are gone, where there is no place for so many more, and a quarter or more of all
+// places are of such entries.
+fn close_up(marks: &mut Vec<Marked>, left: u64, room: usize)
     ensures marks { (n top : ℕ) → AreMarks marks.old.items n top → AreMarks marks.new.items n top }
     ensures kept { kept marks.new.items ≡ kept marks.old.items }
     ensures length { length marks.new.items ≤ length marks.old.items }
     ensures capacity { vec_capacity marks.new ≡ vec_capacity marks.old }
 {
-    if left > marks.len() as u64 / 2 {
+    let places = marks.len();
+    let most_left = places - places.div_ceil(4);
+    if room <= marks.capacity() - places || left > most_left as u64 {
         return;
     }
     marks.retain(|m| !m.gone);
@@ -161,12 +164,13 @@ impl EntryList {
         })
     }
 
-    /// Makes room for so many more, first of all by closing up, where no more than half of the places stand.
+    /// Makes room for so many more: by closing up, where a quarter of the places or more are of entries that are gone, and
+    /// by more places only where that isn't enough.
     pub fn reserve(&mut self, room: u64) -> Result<(), Memory>
         ensures ok { OnOk result (room ≤ self.new.room) }
         ensures keeps { Keeps self.old self.new }
     {
-        close_up(&mut self.marks, self.left);
+        close_up(&mut self.marks, self.left, room as usize);
         self.marks.reserve(room as usize)?;
         Ok(())
     }
