@@ -9,7 +9,7 @@ use Rattle.core_room.specs.CleaningRoom.{left_after, left_words}
 use Rattle.log_standing.specs.declared.types.Settled.{Settled}
 use Rattle.log_standing.specs.NameCounts.{StandingState}
 use Rattle.log_cleaner.specs.Copying.{IsUpToDate}
-use Rattle.log_cleaner.specs.CopyBatch.{IsBatchOf, IsLess, KeepsNames}
+use Rattle.log_cleaner.specs.CopyBatch.{IsCopyBatch, IsLess, KeepsNames}
 use Rattle.log_cleaner.specs.Tallied.{KeepsTally}
 use Rattle.log_cleaner.specs.declared.types.Victim.{Victim}
 use Rattle.core_worker.specs.TakenChunks.{appended_to}
@@ -41,5 +41,5 @@ pub record CopiesInRegion (s t : State) (victim : Victim) (log log' : LogState)
   pub stands : StandsIn t log'
   pub counted : IsTelling t → IsUpToDate t log' new
   pub chunk : IsTelling t → entries_in t log' victim.chunk ≡ entries_in s log victim.chunk
-  pub batch : IsTelling t → IsBatchOf s log old victim.chunk n ws
+  pub batch : IsTelling t → IsCopyBatch s log old victim.chunk n ws
   pub less : IsTelling t → IsLess old new (entries_in s log victim.chunk)

@@ -1,5 +1,5 @@
 -- The first eligible chunk in cyclic order.
-use Rattle.std.proofs.Common.{◌≡◌, inl, inr, ⊎_elim, ℕ, ◌+◌, ◌*◌, ◌≤◌, ◌<◌, ◌||◌, Bool, true, false, Option, Some, None, is_some, refl, sym, ◌∙◌, ap, arith}
+use Rattle.std.proofs.Common.{◌≡◌, ◌≢◌, inl, inr, ⊎_elim, ℕ, ◌+◌, ◌*◌, ◌≤◌, ◌<◌, ◌||◌, Bool, true, false, List, length, take, Option, Some, None, is_some, refl, sym, ◌∙◌, ap, arith}
 use Rattle.std.specs.Prelude.{nat_le}
 use Rattle.std.proofs.lemmas.Bool.{and_from, and_parts, cases_lt, le-leb, leb-true}
 use Rattle.pm_region.specs.State.{State}
@@ -8,12 +8,16 @@ use Rattle.core_log.specs.declared.types.Room.{Room}
 use Rattle.core_log.specs.Log.{LogState, StandsIn, tail_of, tail_in}
 use Rattle.log_cleaner.specs.declared.types.Victim.{Victim}
 use Rattle.core_log.specs.Walking.{entries_in}
+use Rattle.log_entry.specs.declared.entry.Entry.{Entry}
+use Rattle.log_entry.specs.Spelling.{words_of}
 use Rattle.log_standing.specs.ChunkCounts.{IsStandingOf}
 use Rattle.log_standing.specs.NameCounts.{StandingState}
 use Rattle.log_cleaner.specs.Choosing.{copy_lines, fits, has_room, IsCandidate, IsEligible, IsPast, Comes, IsVictim, IsFirstIn}
-use Rattle.log_cleaner.specs.Copying.{tally_of, to_copy}
+use Rattle.log_cleaner.specs.Copying.{awaits, left_to_copy, tally_of, to_copy, words_sum}
 use Rattle.log_cleaner.specs.Floors.{HasFloors, Searches}
+use Rattle.log_cleaner.specs.Searching.{Forgets, IsRead}
 use Rattle.log_cleaner.proofs.FloorLaws.{left_searched}
+use Rattle.log_cleaner.proofs.LessLaws.{sum_ones, sum_take}
 use Rattle.log_cleaner.proofs.Parts.{chunk_of}
 
 pub tail_small : (s : State) (log : LogState) (j : ℕ) → StandsIn s log → is_some (tail_of log.chunks j) ≡ true → tail_in log j ≤ 524288
@@ -85,13 +89,27 @@ more_room room fewest lines le has =
 more_lines : (j i e w f v : ℕ) → e ≤ f → w ≤ v → copy_lines (record { chunk = j; entries = e; words = w }) ≤ copy_lines (record { chunk = i; entries = f; words = v })
 more_lines j i e w f v le few = omega (arith, le, few)
 
+-- of the first entries no more is left than of all
+taken_fewer : (st : StandingState) (n : ℕ) (es : List (ℕ × Entry)) → (length (left_to_copy st (take n es)) ≤ length (left_to_copy st es)) × (words_sum (left_to_copy st (take n es)) ≤ words_sum (left_to_copy st es))
+taken_fewer st n es =
+    let a = sum_take (λ (x : ℕ × Entry). 1) (awaits st) n es in
+    let b = sum_ones (left_to_copy st (take n es)) in
+    let c = sum_ones (left_to_copy st es) in
+    (omega (arith, a, b, c), sum_take (λ (x : ℕ × Entry). length (words_of x.1)) (awaits st) n es)
+
 -- a chunk is not eligible where so much is left of it at least that it doesn't fit
 pub past_eligible : (s : State) (log : LogState) (st : StandingState) (room : Room) (j : ℕ) → HasFloors s log st → IsPast st room j → IsEligible s log st room j → ⊥
 past_eligible s log st room j floors past is =
-    let floor = (floors.counted j past.amount past.noted).floor in
+    let counted = floors.counted j past.amount past.noted in
+    let floor = counted.floor in
+    let whole = taken_fewer st counted.seen.many (entries_in s log j) in
     let v = to_copy s log st j in
-    let fewer = more_lines j j past.amount.entries past.amount.words v.entries v.words floor.entries floor.words in
+    let fewer = more_lines j j past.amount.entries past.amount.words v.entries v.words (let a = floor.entries in let b = whole.0 in omega (arith, a, b)) (let a = floor.words in let b = whole.1 in omega (arith, a, b)) in
     absurd (let both : false ≡ true = sym past.past ∙ more_room room (copy_lines (record { chunk = j; entries = past.amount.entries; words = past.amount.words })) (copy_lines v) fewer is.fitting in cc both)
+
+-- as a body tests it
+pub fits_as : (room : Room) (v : Victim) (lines : ℕ) (r : Bool) → lines ≡ copy_lines v → r ≡ has_room room lines → fits room v ≡ r
+fits_as room v lines r is test = ap (has_room room) (sym is) ∙ sym test
 
 -- the same of the names after a search
 pub same_to_copy : (s : State) (log : LogState) (old new : StandingState) → Searches old new → (j : ℕ) → to_copy s log new j ≡ to_copy s log old j
@@ -115,3 +133,21 @@ pub first_was : (s : State) (log : LogState) (old new : StandingState) (room : R
 first_was s log old new room low high None same none = λ i le lt is. none i le lt (eligible_searched s log old new room same i is)
 first_was s log old new room low high (Some v) same is =
     (is.0 ∙ same_to_copy s log old new same v.chunk, eligible_was s log old new room same v.chunk is.1, is.2, λ i le lt eligible. is.3 i le lt (eligible_searched s log old new room same i eligible))
+
+-- What was read of a chunk fits where the chunk does, and is then all of it.
+module _ (s : State) (log : LogState) (old begun new : StandingState) (room : Room) (j : ℕ) (v : Victim) (alone : Bool) (forgets : Forgets old begun j) (read : IsRead s log begun new room j v alone) where
+  pub read_fits : is_some (tail_of log.chunks j) ≡ true → log.opened ≢ Some j → fits room v ≡ true → IsCandidate s log old room j (Some v)
+  read_fits has closed fit =
+      let all : v ≡ to_copy s log begun j = read.left ∙ ap (λ (l : List (ℕ × Entry)). tally_of j (left_to_copy begun l)) (read.whole fit) in
+      candidate_was s log old begun room j (Some v) forgets.same (all, record { has = has; closed = closed; fitting = ap (fits room) (sym all) ∙ fit })
+
+  pub read_past : fits room v ≡ false → IsCandidate s log old room j None
+  read_past past = candidate_was s log old begun room j None forgets.same (λ eligible.
+      let es = entries_in s log j in
+      let part = left_to_copy begun (take read.many es) in
+      let whole = left_to_copy begun es in
+      let fewer = taken_fewer begun read.many es in
+      let lines = more_lines j j (length part) (words_sum part) (length whole) (words_sum whole) fewer.0 fewer.1 in
+      let fit = ap (fits room) read.left ∙ more_room room (copy_lines (tally_of j part)) (copy_lines (tally_of j whole)) lines eligible.fitting in
+      let both : false ≡ true = sym past ∙ fit in
+      cc both)

@@ -1,5 +1,5 @@
 -- A chunk with nothing left to copy is made Free.
-use Rattle.std.proofs.Common.{◌≡◌, ◌≢◌, inl, inr, ⊎_elim, ℕ, ◌+◌, ◌≤◌, ◌<◌, ◌==◌, ◌&&◌, not, Bool, true, false, cond, List, [], ◌∷◌, map, length, Option, Some, None, is_some, refl, sym, ◌∙◌, ap, subst, arith}
+use Rattle.std.proofs.Common.{◌≡◌, ◌≢◌, inl, inr, ⊎_elim, ℕ, ◌+◌, ◌≤◌, ◌<◌, ◌==◌, ◌&&◌, not, Bool, true, false, cond, List, [], ◌∷◌, map, length, take, Option, Some, None, is_some, refl, sym, ◌∙◌, ap, subst, arith}
 use Rattle.std.specs.List.{AllByRecursion, filter, count_by}
 use Rattle.std.proofs.lemmas.Bool.{cond-true, cond-false, eqb-true, eq-eqb, ne_eqb, and_parts, cases_eq}
 use Rattle.pm_region.specs.Cell.{Cell}
@@ -29,8 +29,8 @@ use Rattle.log_standing.specs.ChunkCounts.{has_name, is_named, chunks_with, IsSt
 use Rattle.log_cleaner.specs.Copying.{awaits, left_to_copy}
 use Rattle.log_cleaner.specs.Clearing.{ClearingState, is_doomed, IsGathered}
 use Rattle.log_cleaner.specs.ImagesBeside.{Stands, EachInPart, LosesOnly, AgreesIn, Vanish}
-use Rattle.log_cleaner.specs.Floors.{HasFloors, IsCounted, IsFoundIn, IsSeen}
-use Rattle.log_cleaner.proofs.FloorLaws.{all_in, both_so, each_so, more_sums, none_named, sum_ones}
+use Rattle.log_cleaner.specs.Floors.{AreSeen, HasFloors, IsCounted, IsFoundIn}
+use Rattle.log_cleaner.proofs.FloorLaws.{all_in, both_so, each_so, in_taken, more_sums, none_named, sum_ones}
 use Rattle.log_cleaner.proofs.Parts.{StandsAt, part_has, part_in, placed_in, placed_has, name_in, in_named, count_has, Another, another, count_without, count_same, chunk_of, chunk_lasts, was, was_may, was_outside, reads_kept, blocks_kept, free_well, log_well, same_else, was_chunk, image_chunk, entries_still}
 
 pub filter_has : {X : Type 0} (p : X → Bool) (xs : List X) (x : X) → In x xs → p x ≡ true → filter p xs ≡ [] → ⊥
@@ -312,32 +312,37 @@ module _ (s : State) (log : LogState) (st : StandingState) (c : ClearingState) (
             let one = same.count (eqb-true (count_of st y.1.key y.1.version) 1 both.0) in
             (λ t. eq-eqb (count_of new y.1.key y.1.version) 1 one t && not (same.told t)) ∙ both.1
 
-        named_once : IsSeen st i es → (k v : ℕ) → is_told new k v ≡ false → count_by (is_named k v) es ≤ 1
+        named_once : (xs : List (ℕ × Entry)) → ((y : ℕ × Entry) → In y xs → In y es) → AreSeen st i xs → (k v : ℕ) → is_told new k v ≡ false → count_by (is_named k v) xs ≤ 1
         unfolding each_alike
-        named_once seen k v untold = by (is_told st k v) refl where
-          by : (b : Bool) → is_told st k v ≡ b → count_by (is_named k v) es ≤ 1
+        named_once xs within seen k v untold = by (is_told st k v) refl where
+          by : (b : Bool) → is_told st k v ≡ b → count_by (is_named k v) xs ≤ 1
           by false was = seen.once k v was
           by true was =
-              let none = none_named k v es (each_so (λ (y : ℕ × Entry). Alike y.1.key y.1.version) (λ (y : ℕ × Entry). is_named k v y ≡ true → ⊥) (λ y same is. (let e = same_name y.1.key y.1.version k v is in
-              let both : false ≡ true = sym untold ∙ sym (λ t. is_told new (e.0 t) (e.1 t)) ∙ same.told ∙ (λ t. is_told st (e.0 t) (e.1 t)) ∙ was in cc both)) es (each_alike es (λ y is. is))) in
+              let none = none_named k v xs (each_so (λ (y : ℕ × Entry). Alike y.1.key y.1.version) (λ (y : ℕ × Entry). is_named k v y ≡ true → ⊥) (λ y same is. (let e = same_name y.1.key y.1.version k v is in
+              let both : false ≡ true = sym untold ∙ sym (λ t. is_told new (e.0 t) (e.1 t)) ∙ same.told ∙ (λ t. is_told st (e.0 t) (e.1 t)) ∙ was in cc both)) xs (each_alike xs within)) in
               let n = none.0 in
               omega (arith, n)
 
         pub clear_counted : (a : Amount) → IsCounted st i a es → IsCounted new i a es
         unfolding each_alike named_once
         clear_counted a was =
-            let all = each_alike es (λ y is. is) in
-            let more = more_sums (awaits st) (awaits new) es (each_so (λ (y : ℕ × Entry). Alike y.1.key y.1.version) (λ (y : ℕ × Entry). awaits st y ≡ true → awaits new y ≡ true) (λ y same. still_awaits y same) es all) in
+            let front = take was.seen.many es in
+            let within = in_taken was.seen.many es in
+            let all = each_alike front within in
+            let more = more_sums (awaits st) (awaits new) front (each_so (λ (y : ℕ × Entry). Alike y.1.key y.1.version) (λ (y : ℕ × Entry). awaits st y ≡ true → awaits new y ≡ true) (λ y same. still_awaits y same) front all) in
             let ones = more (λ (y : ℕ × Entry). 1) in
             let words = more (λ (y : ℕ × Entry). length (words_of y.1)) in
-            let x = sum_ones (left_to_copy st es) in
-            let y = sum_ones (left_to_copy new es) in
+            let x = sum_ones (left_to_copy st front) in
+            let y = sum_ones (left_to_copy new front) in
             let e = was.floor.entries in
             let w = was.floor.words in
             record {
               seen = record {
-                found = both_so (λ (y : ℕ × Entry). Alike y.1.key y.1.version) (IsFoundIn st i) (IsFoundIn new i) (λ y same found untold. same.spot ∙ found (sym same.told ∙ untold)) es all was.seen.found;
-                once = named_once was.seen;
+                many = was.seen.many;
+                seen = record {
+                  found = both_so (λ (y : ℕ × Entry). Alike y.1.key y.1.version) (IsFoundIn st i) (IsFoundIn new i) (λ y same found untold. same.spot ∙ found (sym same.told ∙ untold)) front all was.seen.seen.found;
+                  once = named_once front within was.seen.seen;
+                };
               };
               floor = record { entries = omega (arith, ones, x, y, e); words = omega (arith, words, w) };
             }

@@ -1,6 +1,8 @@
 -- What is left of a chunk, counted entry by entry.
-use Rattle.std.proofs.Common.{◌≡◌, ℕ, ◌+◌, ◌-◌, ◌≤◌, ◌<◌, Bool, true, false, cond, List, [], ◌∷◌, length, ◌∙◌, ap, arith}
-use Rattle.std.proofs.lemmas.List.Sums.{sum_by-cons}
+use Rattle.std.proofs.Common.{◌≡◌, ℕ, ◌+◌, ◌-◌, ◌≤◌, ◌<◌, Bool, true, false, cond, List, ◌∷◌, ◌++◌, length, sym, ◌∙◌, ap, arith}
+use Rattle.std.proofs.lemmas.List.{length-append}
+use Rattle.std.proofs.lemmas.List.Elements.{filter-append}
+use Rattle.std.proofs.lemmas.List.Sums.{sum_by-append, sum_by-cons}
 use Rattle.pm_region.specs.State.{State}
 use Rattle.log_entry.specs.declared.entry.Entry.{Entry}
 use Rattle.log_entry.specs.Spelling.{words_of}
@@ -58,13 +60,17 @@ count_on s log st j place p v w f so_far is =
     let d = so_far.words in
     record { entries = omega (arith, t.0, a, c); words = omega (arith, t.1, b, d) }
 
--- nothing is left
-pub count_ends : (st : StandingState) (es : List (ℕ × Entry)) (j place : ℕ) (v : Victim) → Counted st es place v → behind place es ≡ [] → v.chunk ≡ j → v ≡ tally_of j (left_to_copy st es)
-count_ends st es j place v so_far none chunk =
-    let a = ap (λ (l : List (ℕ × Entry)). length (left_to_copy st l)) none in
-    let b = ap (λ (l : List (ℕ × Entry)). words_sum (left_to_copy st l)) none in
+-- so much is left of the entries before it
+pub count_ends : (st : StandingState) (es done : List (ℕ × Entry)) (j place : ℕ) (v : Victim) → Counted st es place v → done ++ behind place es ≡ es → v.chunk ≡ j → v ≡ tally_of j (left_to_copy st done)
+count_ends st es done j place v so_far split chunk =
+    let rest = left_to_copy st (behind place es) in
+    let parts = sym (filter-append (awaits st) done (behind place es)) ∙ ap (left_to_copy st) split in
+    let long = ap (λ (l : List (ℕ × Entry)). length l) parts in
+    let both = length-append (left_to_copy st done) rest in
+    let words = ap words_sum parts in
+    let sums = sum_by-append (λ (x : ℕ × Entry). length (words_of x.1)) (left_to_copy st done) rest in
     let c = so_far.entries in
     let d = so_far.words in
-    let e : v.entries ≡ length (left_to_copy st es) = omega (arith, a, c) in
-    let f : v.words ≡ words_sum (left_to_copy st es) = omega (arith, b, d) in
+    let e : v.entries ≡ length (left_to_copy st done) = omega (arith, long, both, c) in
+    let f : v.words ≡ words_sum (left_to_copy st done) = omega (arith, words, sums, d) in
     (λ i. record { chunk = chunk i; entries = e i; words = f i })

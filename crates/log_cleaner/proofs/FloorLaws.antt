@@ -1,5 +1,5 @@
 -- What a search has counted of a chunk stays right.
-use Rattle.std.proofs.Common.{◌≡◌, inl, inr, ℕ, ◌+◌, ◌≤◌, ◌==◌, ◌&&◌, not, Bool, true, false, cond, List, [], ◌∷◌, ◌++◌, length, Option, is_some, refl, sym, ◌∙◌, ap, subst, arith}
+use Rattle.std.proofs.Common.{◌≡◌, inl, inr, ⊎_elim, ℕ, zero, suc, ◌+◌, ◌≤◌, ◌==◌, ◌&&◌, not, Bool, true, false, cond, List, [], ◌∷◌, ◌++◌, length, take, Option, is_some, refl, sym, ◌∙◌, ap, subst, arith}
 use Rattle.std.specs.List.{AllByRecursion, count_by, filter, sum_by}
 use Rattle.std.proofs.lemmas.List.Sums.{sum_by-cons}
 use Rattle.log_entry.specs.declared.entry.Entry.{Entry}
@@ -81,16 +81,53 @@ module _ (k v : ℕ) where
 abbrev pub SameSpot : StandingState → StandingState → ℕ × Entry → Type 0
 SameSpot old new y = spot_of new y.1.key y.1.version ≡ spot_of old y.1.key y.1.version
 
-pub seen_kept : (old new : StandingState) (j : ℕ) (es : List (ℕ × Entry)) → ((k v : ℕ) → is_told new k v ≡ false → is_told old k v ≡ false) → AllByRecursion (SameSpot old new) es → IsSeen old j es → IsSeen new j es
-seen_kept old new j es still spots seen = record {
-  found = both_so (SameSpot old new) (IsFoundIn old j) (IsFoundIn new j) (λ y same was untold. same ∙ was (still y.1.key y.1.version untold)) es spots seen.found;
-  once = λ k v untold. seen.once k v (still k v untold);
+-- of the first entries
+pub all_taken : {X : Type 0} (P : X → Type 0) (n : ℕ) (xs : List X) → AllByRecursion P xs → AllByRecursion P (take n xs)
+all_taken P zero xs all = tt
+all_taken P (suc n) [] all = tt
+all_taken P (suc n) (x ∷ xs) all = (all.0, all_taken P n xs all.1)
+
+pub in_taken : {X : Type 0} (n : ℕ) (xs : List X) (y : X) → In y (take n xs) → In y xs
+in_taken zero xs y is = absurd is
+in_taken (suc n) [] y is = absurd is
+in_taken (suc n) (x ∷ xs) y is = ⊎_elim (λ e. inl e) (λ later. inr (in_taken n xs y later)) is
+
+abbrev pub seen_kept : (old new : StandingState) (j : ℕ) (es : List (ℕ × Entry)) → ((k v : ℕ) → is_told new k v ≡ false → is_told old k v ≡ false) → AllByRecursion (SameSpot old new) es → IsSeen old j es → IsSeen new j es
+seen_kept old new j es still spots was = record {
+  many = was.many;
+  seen = record {
+    found = both_so (SameSpot old new) (IsFoundIn old j) (IsFoundIn new j) (λ y same found untold. same ∙ found (still y.1.key y.1.version untold)) (take was.many es) (all_taken (SameSpot old new) was.many es spots) was.seen.found;
+    once = λ k v untold. was.seen.once k v (still k v untold);
+  };
 }
 
-pub floor_kept : (a : Amount) (old new : StandingState) (es : List (ℕ × Entry)) → left_to_copy new es ≡ left_to_copy old es → IsFloor a old es → IsFloor a new es
-floor_kept a old new es left floor =
-    let long = ap (λ (l : List (ℕ × Entry)). length l) left in
-    let words = ap words_sum left in
+-- what is left of those that pass a test passes it
+passes : {X : Type 0} (f : X → Bool) (x : X) (xs : List X) → In x (filter f xs) → f x ≡ true
+passes f x [] is = absurd is
+passes {X = X} f x (y ∷ ys) is = by (f y) refl (passes f x ys) is where
+  by : (b : Bool) → f y ≡ b → (In x (filter f ys) → f x ≡ true) → In x (cond b (y ∷ filter f ys) (filter f ys)) → f x ≡ true
+  by true on later here = ⊎_elim (λ e. ap f e ∙ on) later here
+  by false off later here = later here
+
+same_rest : {X : Type 0} (x : X) (xs ys : List X) → x ∷ xs ≡ x ∷ ys → xs ≡ ys
+same_rest x xs ys e = cc e
+
+-- where of a list the same pass two tests, so do of its first elements
+pub taken_alike : {X : Type 0} (f g : X → Bool) (xs : List X) → filter f xs ≡ filter g xs → (n : ℕ) → filter f (take n xs) ≡ filter g (take n xs)
+taken_alike f g xs same zero = refl
+taken_alike f g [] same (suc n) = refl
+taken_alike {X = X} f g (x ∷ xs) same (suc n) = by (f x) refl (g x) refl (λ e. taken_alike f g xs e n) same where
+  by : (b : Bool) → f x ≡ b → (d : Bool) → g x ≡ d → (filter f xs ≡ filter g xs → filter f (take n xs) ≡ filter g (take n xs)) → cond b (x ∷ filter f xs) (filter f xs) ≡ cond d (x ∷ filter g xs) (filter g xs) → cond b (x ∷ filter f (take n xs)) (filter f (take n xs)) ≡ cond d (x ∷ filter g (take n xs)) (filter g (take n xs))
+  by true on true also rest e = ap (λ (l : List X). x ∷ l) (rest (same_rest x (filter f xs) (filter g xs) e))
+  by true on false off rest e = absurd (let is = passes g x xs (subst (λ (l : List X). In x l) e (inl refl)) in let both : true ≡ false = sym is ∙ off in cc both)
+  by false off true on rest e = absurd (let is = passes f x xs (subst (λ (l : List X). In x l) (sym e) (inl refl)) in let both : true ≡ false = sym is ∙ off in cc both)
+  by false off false also rest e = rest e
+
+pub floor_kept : (a : Amount) (old new : StandingState) (es : List (ℕ × Entry)) → left_to_copy new es ≡ left_to_copy old es → {n : ℕ} → IsFloor a old n es → IsFloor a new n es
+floor_kept a old new es left {n} floor =
+    let same = taken_alike (awaits new) (awaits old) es left n in
+    let long = ap (λ (l : List (ℕ × Entry)). length l) same in
+    let words = ap words_sum same in
     let e = floor.entries in
     let w = floor.words in
     record { entries = omega (arith, long, e); words = omega (arith, words, w) }
@@ -149,7 +186,7 @@ none_floors s log st none = record { closed = λ j some. absurd (none j some); c
 pub floors_tally : (s : State) (log : LogState) (st : StandingState) (t : Option TallyState) → HasFloors s log st → HasFloors s log (record st { tally = t })
 floors_tally s log st t F = record {
   closed = F.closed;
-  counted = λ j a is. (let was = F.counted j a is in record { seen = record { found = was.seen.found; once = was.seen.once }; floor = record { entries = was.floor.entries; words = was.floor.words } });
+  counted = λ j a is. (let was = F.counted j a is in record { seen = record { many = was.seen.many; seen = record { found = was.seen.seen.found; once = was.seen.seen.once } }; floor = record { entries = was.floor.entries; words = was.floor.words } });
 }
 
 -- in a log whose closed chunks stay, and have the same entries

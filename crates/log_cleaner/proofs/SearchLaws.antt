@@ -1,26 +1,30 @@
 -- A chunk is read for a search, entry by entry.
-use Rattle.std.proofs.Common.{◌≡◌, ◌≢◌, ◌⊎◌, inl, inr, ⊎_elim, ℕ, ◌+◌, ◌-◌, ◌≤◌, ◌<◌, ◌==◌, ◌&&◌, ◌||◌, not, Bool, true, false, cond, List, [], ◌∷◌, ◌++◌, length, Option, Some, None, is_some, refl, sym, ◌∙◌, ap, subst, arith, append_assoc}
+use Rattle.std.proofs.Common.{◌≡◌, ◌≢◌, ◌⊎◌, inl, inr, ⊎_elim, ℕ, ◌+◌, ◌-◌, ◌≤◌, ◌<◌, ◌==◌, ◌&&◌, ◌||◌, not, Bool, true, false, cond, List, [], ◌∷◌, ◌++◌, length, take, Option, Some, None, is_some, refl, sym, ◌∙◌, ap, subst, arith, append_assoc}
 use Rattle.std.specs.List.{AllByRecursion, count_by}
 use Rattle.std.proofs.lemmas.Bool.{and_parts, cond-true, cond-false, eqb-true, eq-eqb}
+use Rattle.std.proofs.Math.Seq.{take-append_seam}
 use Rattle.std.proofs.lemmas.List.Sums.{sum_by-append, sum_by-cons}
 use Rattle.pm_region.specs.State.{State}
 use Rattle.log_entry.specs.declared.entry.Entry.{Entry}
 use Rattle.log_entry.specs.Spelling.{words_of}
 use Rattle.core_log.specs.declared.types.Peek.{Peek}
+use Rattle.core_log.specs.declared.types.Room.{Room}
 use Rattle.core_log.specs.Log.{LogState, Spelled, tail_of, without}
 use Rattle.core_log.specs.Walking.{entries_in, words_in, behind, IsFound}
 use Rattle.core_log.proofs.Clients.{ordered, all_behind, without_other}
 use Rattle.log_standing.specs.declared.types.Amount.{Amount}
+use Rattle.log_standing.specs.declared.types.Spot.{Spot}
 use Rattle.log_standing.specs.NameCounts.{StandingState, name_eq, count_of, floor_at, is_told, spot_of, wants}
 use Rattle.log_standing.specs.ChunkCounts.{is_named, has_name, IsStandingOf}
 use Rattle.log_standing.proofs.Clients.{name_same, same_name}
 use Rattle.log_standing.proofs.Filled.{append_none}
 use Rattle.log_cleaner.specs.declared.types.Victim.{Victim}
-use Rattle.log_cleaner.specs.Copying.{left_to_copy, words_sum}
-use Rattle.log_cleaner.specs.Floors.{HasFloors, IsClosed, IsCounted, IsFoundIn, IsSeen, Searches, spot_at}
-use Rattle.log_cleaner.specs.Searching.{IsRead, Looks}
+use Rattle.log_cleaner.specs.Choosing.{fits}
+use Rattle.log_cleaner.specs.Copying.{left_to_copy, tally_of, words_sum}
+use Rattle.log_cleaner.specs.Floors.{AreSeen, HasFloors, IsClosed, IsCounted, IsFoundIn, Searches, spot_at}
+use Rattle.log_cleaner.specs.Searching.{Forgets, IsRead, Looks}
 use Rattle.log_cleaner.proofs.CountLaws.{Counted, count_ends, count_on, count_starts}
-use Rattle.log_cleaner.proofs.FloorLaws.{all_in, and_last, both_so, each_so, left_searched, none_named}
+use Rattle.log_cleaner.proofs.FloorLaws.{all_in, and_last, both_so, each_so, in_taken, left_searched, none_named, searches_both, searches_itself}
 use Rattle.log_cleaner.proofs.Parts.{count_has, count_without, in_named}
 use Rattle.store_image.specs.Facts.{In}
 
@@ -34,7 +38,7 @@ pub record Looking (s : State) (log : LogState) (old st : StandingState) (j plac
   pub split : done ++ behind place (entries_in s log j) ≡ entries_in s log j
   pub count : Counted old (entries_in s log j) place v
   pub long : AllByRecursion HasWords done
-  pub seen : alone ≡ true → IsSeen st j done
+  pub seen : alone ≡ true → AreSeen st j done
   pub others : (k n : ℕ) → (spot_of st k n ≡ spot_of old k n) ⊎ ((count_of old k n ≡ 1) × (has_name (entries_in s log j) k n ≡ true))
 
 pub looking_starts : (s : State) (log : LogState) (st : StandingState) (j : ℕ) (v : Victim) → Spelled (words_in s log j) → v.entries ≡ 0 → v.words ≡ 0 → Looking s log st st j 0 true v
@@ -75,7 +79,7 @@ module _ (s : State) (log : LogState) (old st st' : StandingState) (j place : �
   there k n is = ap (λ (l : List (ℕ × Entry)). has_name l k n) (sym (ap (λ (l : List (ℕ × Entry)). so_far.done ++ l) (sym f.left) ∙ so_far.split)) ∙ named_there so_far.done (behind p.next (entries_in s log j)) f.found k n is
 
   -- seen, if this one is the only one of its name
-  module _ (on : r ≡ true) (seen : IsSeen st j so_far.done) where
+  module _ (on : r ≡ true) (seen : AreSeen st j so_far.done) where
     untold_was : (k n : ℕ) → is_told st' k n ≡ false → is_told st k n ≡ false
     untold_was k n untold = sym (L.same.told k n) ∙ untold
 
@@ -116,7 +120,7 @@ module _ (s : State) (log : LogState) (old st st' : StandingState) (j place : �
           let o = none.0 in
           omega (arith, m, e, o)
 
-    pub seen_on : IsSeen st' j (so_far.done ++ f.found ∷ [])
+    pub seen_on : AreSeen st' j (so_far.done ++ f.found ∷ [])
     seen_on = record {
       found = and_last (IsFoundIn st' j) so_far.done f.found (both_so (IsFoundIn st j) HasWords (IsFoundIn st' j) found_still so_far.done seen.found so_far.long) found_now;
       once = once_on;
@@ -144,16 +148,42 @@ module _ (s : State) (log : LogState) (old st st' : StandingState) (j place : �
           (λ (one : count_of st p.name.key p.name.version ≡ 1). inr (sym (same.counts k n) ∙ (λ t. count_of st (sym e.0 t) (sym e.1 t)) ∙ one, there k n (sym (name_is k n) ∙ is)))
           L.lone
 
-pub looking_ends : (s : State) (log : LogState) (old st : StandingState) (j place : ℕ) (alone : Bool) (v : Victim) → Looking s log old st j place alone v → behind place (entries_in s log j) ≡ [] → v.chunk ≡ j → IsRead s log old st j v alone
-looking_ends s log old st j place alone v so_far none chunk = record {
-  left = count_ends old (entries_in s log j) j place v so_far.count none chunk;
-  seen = λ on. subst (IsSeen st j) (append_none so_far.done (behind place (entries_in s log j)) none ∙ so_far.split) (so_far.seen on);
-  others = so_far.others;
+-- Reading ends there, where no entry is left or what was found doesn't fit.
+module _ (s : State) (log : LogState) (old st : StandingState) (room : Room) (j place : ℕ) (alone : Bool) (v : Victim) (so_far : Looking s log old st j place alone v) (chunk : v.chunk ≡ j) where
+  are_done : take (length so_far.done) (entries_in s log j) ≡ so_far.done
+  are_done = ap (take (length so_far.done)) (sym so_far.split) ∙ take-append_seam so_far.done (behind place (entries_in s log j))
+
+  pub looking_ends : (fits room v ≡ true → behind place (entries_in s log j) ≡ []) → IsRead s log old st room j v alone
+  looking_ends ends = record {
+    many = length so_far.done;
+    left = count_ends old (entries_in s log j) so_far.done j place v so_far.count so_far.split chunk ∙ ap (λ (l : List (ℕ × Entry)). tally_of j (left_to_copy old l)) (sym are_done);
+    whole = λ fit. are_done ∙ append_none so_far.done (behind place (entries_in s log j)) (ends fit) ∙ so_far.split;
+    seen = λ on. subst (AreSeen st j) (sym are_done) (so_far.seen on);
+    others = so_far.others;
+  }
+
+pub forgets_itself : (st : StandingState) (j : ℕ) → Forgets st st j
+forgets_itself st j = record { same = searches_itself st; floors = refl; others = λ k n other. refl }
+
+pub forgets_both : (old mid new : StandingState) (j : ℕ) → Forgets old mid j → Forgets mid new j → Forgets old new j
+forgets_both old mid new j a b = record {
+  same = searches_both old mid new a.same b.same;
+  floors = b.floors ∙ a.floors;
+  others = λ k n other. (let was = a.others k n other in b.others k n (λ at. other (ap (λ (p : Spot). p.chunk) (sym was) ∙ at)) ∙ was);
 }
 
 -- What is noted of each chunk stays right, and is right of the one that was read.
-module _ (s : State) (log : LogState) (old mid new : StandingState) (j : ℕ) (v : Victim) (alone : Bool) (stands : IsStandingOf s log old) (same : Searches old mid) (kept : mid.floors ≡ old.floors) (read : IsRead s log old mid j v alone) (closed : IsClosed log j)
-    (rest : new ≡ record mid { floors = new.floors }) (noted : (i : ℕ) → floor_at new i ≡ cond (j == i) (cond alone (Some (record { entries = v.entries; words = v.words })) None) (floor_at mid i)) (floors : HasFloors s log old) where
+module _ (s : State) (log : LogState) (old begun mid new : StandingState) (room : Room) (j : ℕ) (v : Victim) (alone : Bool) (stands : IsStandingOf s log old) (forgets : Forgets old begun j) (searches : Searches begun mid) (floors_are : mid.floors ≡ begun.floors) (read : IsRead s log begun mid room j v alone) (closed : IsClosed log j)
+    (rest : new ≡ record mid { floors = new.floors }) {amount : Option Amount} (amount_is : amount ≡ cond alone (Some (record { entries = v.entries; words = v.words })) None) (sets : (i : ℕ) → floor_at new i ≡ cond (j == i) amount (floor_at mid i)) (floors : HasFloors s log old) where
+  noted : (i : ℕ) → floor_at new i ≡ cond (j == i) (cond alone (Some (record { entries = v.entries; words = v.words })) None) (floor_at mid i)
+  noted i = sets i ∙ ap (λ (o : Option Amount). cond (j == i) o (floor_at mid i)) amount_is
+
+  same : Searches old mid
+  same = searches_both old begun mid forgets.same searches
+
+  kept : mid.floors ≡ old.floors
+  kept = floors_are ∙ forgets.floors
+
   spot_now : (k n : ℕ) → spot_of new k n ≡ spot_of mid k n
   spot_now k n = ap (λ (x : StandingState). spot_of x k n) rest
 
@@ -188,40 +218,50 @@ module _ (s : State) (log : LogState) (old mid new : StandingState) (j : ℕ) (v
 
   other_found : (i : ℕ) → i ≢ j → is_some (tail_of log.chunks i) ≡ true → (y : ℕ × Entry) → In y (entries_in s log i) → IsFoundIn old i y → IsFoundIn new i y
   other_found i ne there y here found untold = spot_now y.1.key y.1.version ∙ ⊎_elim
-      (λ (e : spot_of mid y.1.key y.1.version ≡ spot_of old y.1.key y.1.version). e ∙ found (sym (told_now y.1.key y.1.version) ∙ untold))
-      (λ e. absurd (in_one i ne there y.1.key y.1.version (in_named (entries_in s log i) y here) e.1 e.0))
-      (read.others y.1.key y.1.version)
+      (λ (e : spot_of mid y.1.key y.1.version ≡ spot_of begun y.1.key y.1.version). e ∙ forgets.others y.1.key y.1.version (λ at. ne (ap (λ (p : Spot). p.chunk) (sym was) ∙ at)) ∙ was)
+      (λ e. absurd (in_one i ne there y.1.key y.1.version (in_named (entries_in s log i) y here) e.1 (sym (forgets.same.counts y.1.key y.1.version) ∙ e.0)))
+      (read.others y.1.key y.1.version) where
+        was : spot_of old y.1.key y.1.version ≡ spot_at i y
+        was = found (sym (told_now y.1.key y.1.version) ∙ untold)
 
   others_counted : (i : ℕ) → i ≢ j → (a : Amount) → floor_at mid i ≡ Some a → IsCounted new i a (entries_in s log i)
   others_counted i ne a is =
       let at : floor_at old i ≡ Some a = ap (λ (fs : List (Option Amount)). floor_at (record old { floors = fs }) i) (sym kept) ∙ is in
       let was = floors.counted i a at in
-      let es = entries_in s log i in
+      let front = take was.seen.many (entries_in s log i) in
+      let within = in_taken was.seen.many (entries_in s log i) in
       let there = (floors.closed i (ap is_some at)).has in
-      let long = ap (λ (l : List (ℕ × Entry)). length l) (left_now es) in
-      let words = ap words_sum (left_now es) in
+      let long = ap (λ (l : List (ℕ × Entry)). length l) (left_now front) in
+      let words = ap words_sum (left_now front) in
       let e = was.floor.entries in
       let f = was.floor.words in
       record {
         seen = record {
-          found = both_so (λ (y : ℕ × Entry). In y es) (IsFoundIn old i) (IsFoundIn new i) (other_found i ne there) es (all_in (λ (y : ℕ × Entry). In y es) es (λ y is. is)) was.seen.found;
-          once = λ k n untold. was.seen.once k n (sym (told_now k n) ∙ untold);
+          many = was.seen.many;
+          seen = record {
+            found = both_so (λ (y : ℕ × Entry). In y front) (IsFoundIn old i) (IsFoundIn new i) (λ y here. other_found i ne there y (within y here)) front (all_in (λ (y : ℕ × Entry). In y front) front (λ y is. is)) was.seen.seen.found;
+            once = λ k n untold. was.seen.seen.once k n (sym (told_now k n) ∙ untold);
+          };
         };
         floor = record { entries = omega (arith, long, e); words = omega (arith, words, f) };
       }
 
   here_counted : alone ≡ true → IsCounted new j (record { entries = v.entries; words = v.words }) (entries_in s log j)
   here_counted on =
-      let es = entries_in s log j in
+      let front = take read.many (entries_in s log j) in
       let seen = read.seen on in
-      let long = ap (λ (l : List (ℕ × Entry)). length l) (left_now es) in
-      let words = ap words_sum (left_now es) in
-      let e = ap (λ (x : Victim). x.entries) read.left in
-      let f = ap (λ (x : Victim). x.words) read.left in
+      let long = ap (λ (l : List (ℕ × Entry)). length l) (left_now front) in
+      let words = ap words_sum (left_now front) in
+      let left = read.left ∙ ap (tally_of j) (left_searched old begun forgets.same front) in
+      let e = ap (λ (x : Victim). x.entries) left in
+      let f = ap (λ (x : Victim). x.words) left in
       record {
         seen = record {
-          found = each_so (IsFoundIn mid j) (IsFoundIn new j) (λ y found untold. spot_now y.1.key y.1.version ∙ found (same.told y.1.key y.1.version ∙ sym (told_now y.1.key y.1.version) ∙ untold)) es seen.found;
-          once = λ k n untold. seen.once k n (same.told k n ∙ sym (told_now k n) ∙ untold);
+          many = read.many;
+          seen = record {
+            found = each_so (IsFoundIn mid j) (IsFoundIn new j) (λ y found untold. spot_now y.1.key y.1.version ∙ found (same.told y.1.key y.1.version ∙ sym (told_now y.1.key y.1.version) ∙ untold)) front seen.found;
+            once = λ k n untold. seen.once k n (same.told k n ∙ sym (told_now k n) ∙ untold);
+          };
         };
         floor = record { entries = omega (arith, long, e); words = omega (arith, words, f) };
       }

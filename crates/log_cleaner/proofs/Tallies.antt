@@ -12,7 +12,7 @@ use Rattle.core_log.specs.Walking.{entries_in}
 use Rattle.log_standing.specs.NameCounts.{StandingState, copies_at, killed, Changes}
 use Rattle.log_cleaner.specs.declared.types.Victim.{Victim}
 use Rattle.log_cleaner.specs.Copying.{left_to_copy, words_sum, tally_of, to_copy, IsEachOnce}
-use Rattle.log_cleaner.specs.CopyBatch.{batch_in, entries_of, firsts, next_batch, IsLess, IsBatchOf, Bounds, lowered_by}
+use Rattle.log_cleaner.specs.CopyBatch.{batch_in, entries_of, firsts, next_batch, IsLess, IsCopyBatch, Bounds, lowered_by}
 use Rattle.log_cleaner.proofs.Between.{kill_less}
 use Rattle.log_cleaner.proofs.LessLaws.{sum_take, sum_firsts, filter_all}
 
@@ -34,7 +34,7 @@ none_long (x ∷ xs) le = absurd (omega (arith, le))
 pub tally_none : (v : Victim) (st : StandingState) (es : List (ℕ × Entry)) → Bounds v st es → v.entries ≡ 0 → left_to_copy st es ≡ []
 tally_none v st es bounds none = let a = bounds.entries in none_long (left_to_copy st es) (omega (arith, a, none))
 
-module _ (s : State) (log : LogState) (old new : StandingState) (j n : ℕ) (ws : List ℕ) (v : Victim) (copied : IsBatchOf s log old j n ws) (less : IsLess old new (entries_in s log j)) where
+module _ (s : State) (log : LogState) (old new : StandingState) (j n : ℕ) (ws : List ℕ) (v : Victim) (copied : IsCopyBatch s log old j n ws) (less : IsLess old new (entries_in s log j)) where
   long : length ws ≡ words_sum (batch_in s log old j)
   long = ap (λ (l : List ℕ). length l) copied.words ∙ words_long (batch_in s log old j)
 

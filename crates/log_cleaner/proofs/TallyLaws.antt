@@ -1,5 +1,5 @@
 -- What is left of a chunk, as names are noted of it and wanted no more.
-use Rattle.std.proofs.Common.{◌≡◌, ⊎_elim, ℕ, ◌+◌, ◌-◌, ◌≤◌, ◌<◌, ◌==◌, ◌&&◌, not, Bool, true, false, cond, List, [], ◌∷◌, ◌++◌, length, Option, Some, None, is_some, refl, sym, ◌∙◌, ap, subst, arith, append_assoc}
+use Rattle.std.proofs.Common.{◌≡◌, ⊎_elim, ℕ, ◌+◌, ◌-◌, ◌≤◌, ◌<◌, ◌==◌, ◌&&◌, not, Bool, true, false, cond, List, [], ◌∷◌, ◌++◌, length, take, Option, Some, None, is_some, refl, sym, ◌∙◌, ap, subst, arith, append_assoc}
 use Rattle.std.specs.Prelude.{option_map}
 use Rattle.std.specs.List.{filter, sum_by, count_by}
 use Rattle.std.proofs.lemmas.Bool.{and_parts, cases_lt, cond-true, cond-false, eq-eqb}
@@ -16,7 +16,7 @@ use Rattle.log_standing.specs.declared.types.Copies.{Copies}
 use Rattle.log_standing.specs.declared.types.Spot.{Spot}
 use Rattle.log_standing.specs.NameCounts.{StandingState, name_eq, copies_at, count_in, count_of, told_in, is_told, spot_in, spot_of, wants, floor_at, floor_in, less_entry, Lowers, LowersFloors, Changes, SameCopies, tally_without}
 use Rattle.log_standing.specs.ChunkCounts.{is_named}
-use Rattle.log_standing.specs.Tallies.{TallyState, amount_at, entries_in as entries_of, less, more, words_in as words_at}
+use Rattle.log_standing.specs.Tallies.{TallyState, amount_at, entries_held, less, more, words_held}
 use Rattle.log_standing.proofs.Clients.{same_name}
 use Rattle.log_standing.proofs.Filled.{append_none}
 use Rattle.log_cleaner.specs.Copying.{awaits, left_to_copy, words_sum}
@@ -150,7 +150,7 @@ module _ (old new : StandingState) (k v : ℕ) (now : Option Copies) (changes : 
       by true is = let e = same_name k v i w is in ap spot_in (changes i w ∙ cond-true (name_eq (k, v) (i, w)) now (copies_at old i w) is) ∙ spot ∙ (λ t. spot_of old (e.0 t) (e.1 t))
       by false isnt = ap spot_in (changes i w ∙ cond-false (name_eq (k, v) (i, w)) now (copies_at old i w) isnt)
 
-    seen_still : (j : ℕ) (es : List (ℕ × Entry)) → IsSeen old j es → IsSeen new j es
+    abbrev seen_still : (j : ℕ) (es : List (ℕ × Entry)) → IsSeen old j es → IsSeen new j es
     seen_still j es = seen_kept old new j es untold_still (every (SameSpot old new) (λ y. spot_same y.1.key y.1.version) es)
 
     floor_unwanted : wants old k v ≡ false → new.floors ≡ old.floors → (j : ℕ) (es : List (ℕ × Entry)) → HasFloor old j es → HasFloor new j es
@@ -182,10 +182,11 @@ module _ (old new : StandingState) (k v : ℕ) (now : Option Copies) (changes : 
           let now : Some (less_entry w was) ≡ Some a = sym (lowers j ∙ cond-true ((spot_of old k v).chunk == j) (option_map (less_entry w) (floor_at old j)) (floor_at old j) here ∙ ap (option_map (less_entry w)) at) ∙ is in
           let same : less_entry w was ≡ a = cc now in
           let had_it = had was at in
-          let once = had_it.seen.once k v (is_untold wanted) in
-          let named = one_named k v w es (each_so (IsFoundIn old j) (λ (y : ℕ × Entry). is_named k v y ≡ true → length (words_of y.1) ≡ w) (λ y found is_it. ap (λ (p : Spot). p.words) (sym (named_found wanted j y found is_it))) es had_it.seen.found) once in
-          let entries = fewer_entries wanted es in
-          let words = fewer_words wanted es in
+          let front = take had_it.seen.many es in
+          let once = had_it.seen.seen.once k v (is_untold wanted) in
+          let named = one_named k v w front (each_so (IsFoundIn old j) (λ (y : ℕ × Entry). is_named k v y ≡ true → length (words_of y.1) ≡ w) (λ y found is_it. ap (λ (p : Spot). p.words) (sym (named_found wanted j y found is_it))) front had_it.seen.seen.found) once in
+          let entries = fewer_entries wanted front in
+          let words = fewer_words wanted front in
           let e = had_it.floor.entries in
           let f = had_it.floor.words in
           let g = ap (λ (x : Amount). x.entries) same in
@@ -197,9 +198,10 @@ module _ (old new : StandingState) (k v : ℕ) (now : Option Copies) (changes : 
           }
       by false other o at =
           let had_it = had a (sym (lowers j ∙ cond-false ((spot_of old k v).chunk == j) (option_map (less_entry (spot_of old k v).words) (floor_at old j)) (floor_at old j) other) ∙ is) in
-          let none = none_named k v es (each_so (IsFoundIn old j) (λ (y : ℕ × Entry). is_named k v y ≡ true → ⊥) (λ y found is_it. (let there = ap (λ (p : Spot). p.chunk) (named_found wanted j y found is_it) in let both : false ≡ true = sym other ∙ eq-eqb (spot_of old k v).chunk j there in cc both)) es had_it.seen.found) in
-          let entries = fewer_entries wanted es in
-          let words = fewer_words wanted es in
+          let front = take had_it.seen.many es in
+          let none = none_named k v front (each_so (IsFoundIn old j) (λ (y : ℕ × Entry). is_named k v y ≡ true → ⊥) (λ y found is_it. (let there = ap (λ (p : Spot). p.chunk) (named_found wanted j y found is_it) in let both : false ≡ true = sym other ∙ eq-eqb (spot_of old k v).chunk j there in cc both)) front had_it.seen.seen.found) in
+          let entries = fewer_entries wanted front in
+          let words = fewer_words wanted front in
           let e = had_it.floor.entries in
           let f = had_it.floor.words in
           let n = none.0 in
@@ -258,16 +260,16 @@ pub record Tallying (t : TallyState) (es : List (ℕ × Entry)) (place : ℕ) : 
 
 -- no name has more than was read
 pub record IsBelow (t : TallyState) (place : ℕ) : Type 0 where
-  pub entries : (k v : ℕ) → entries_of (amount_at t k v) ≤ place
-  pub words : (k v : ℕ) → words_at (amount_at t k v) ≤ place
+  pub entries : (k v : ℕ) → entries_held (amount_at t k v) ≤ place
+  pub words : (k v : ℕ) → words_held (amount_at t k v) ≤ place
 
 none_noted : (t : TallyState) (k v : ℕ) → t.names ≡ [] → amount_at t k v ≡ None
 none_noted t k v none = ap (λ (l : List ((ℕ × ℕ) × Amount)). amount_at (record t { names = l }) k v) none
 
 pub below_starts : (t : TallyState) → t.names ≡ [] → IsBelow t 0
 below_starts t none = record {
-  entries = λ k v. (let e = ap entries_of (none_noted t k v none) in omega (arith, e));
-  words = λ k v. (let e = ap words_at (none_noted t k v none) in omega (arith, e));
+  entries = λ k v. (let e = ap entries_held (none_noted t k v none) in omega (arith, e));
+  words = λ k v. (let e = ap words_held (none_noted t k v none) in omega (arith, e));
 }
 
 pub tally_starts : (s : State) (log : LogState) (j : ℕ) (t : TallyState) → Spelled (words_in s log j) → t.names ≡ [] → length (entries_in s log j) ≤ t.room → Tallying t (entries_in s log j) 0
@@ -277,7 +279,7 @@ tally_starts s log j t spelled none room =
     record {
       done = [];
       split = all;
-      each = record { entries = λ k v. ap entries_of (none_noted t k v none); words = λ k v. ap words_at (none_noted t k v none) };
+      each = record { entries = λ k v. ap entries_held (none_noted t k v none); words = λ k v. ap words_held (none_noted t k v none) };
       room = omega (arith, long, room);
     }
 
@@ -285,10 +287,10 @@ pub below_on : (old new : TallyState) (place : ℕ) (p : Peek) → IsBelow old p
 below_on old new place p below notes within = ⊎_elim
     (λ (some : 0 < old.room). record {
       entries = λ k v. (let a = below.entries k v in let b = below.entries p.name.key p.name.version in
-          let e = ap entries_of (notes.noted some k v) ∙ entries_cond (name_eq (p.name.key, p.name.version) (k, v)) (more (amount_at old p.name.key p.name.version) (p.next - p.place)) (amount_at old k v) in
+          let e = ap entries_held (notes.noted some k v) ∙ entries_cond (name_eq (p.name.key, p.name.version) (k, v)) (more (amount_at old p.name.key p.name.version) (p.next - p.place)) (amount_at old k v) in
           le_cond (name_eq (p.name.key, p.name.version) (k, v)) _ _ _ _ e (omega (arith, b, within.0, within.1)) (omega (arith, a, within.0, within.1)));
       words = λ k v. (let a = below.words k v in let b = below.words p.name.key p.name.version in
-          let e = ap words_at (notes.noted some k v) ∙ words_cond (name_eq (p.name.key, p.name.version) (k, v)) (more (amount_at old p.name.key p.name.version) (p.next - p.place)) (amount_at old k v) in
+          let e = ap words_held (notes.noted some k v) ∙ words_cond (name_eq (p.name.key, p.name.version) (k, v)) (more (amount_at old p.name.key p.name.version) (p.next - p.place)) (amount_at old k v) in
           le_cond (name_eq (p.name.key, p.name.version) (k, v)) _ _ _ _ e (omega (arith, b, within.0, within.1)) (omega (arith, a, within.0, within.1)));
     })
     (λ (none : old.room ≤ 0). subst (λ (t : TallyState). IsBelow t p.next) (sym (notes.full (omega (arith, none)))) (record {
@@ -297,11 +299,11 @@ below_on old new place p below notes within = ⊎_elim
     }))
     (cases_lt 0 old.room)
   where
-    entries_cond : (b : Bool) (a : Amount) (o : Option Amount) → entries_of (cond b (Some a) o) ≡ cond b a.entries (entries_of o)
+    entries_cond : (b : Bool) (a : Amount) (o : Option Amount) → entries_held (cond b (Some a) o) ≡ cond b a.entries (entries_held o)
     entries_cond true a o = refl
     entries_cond false a o = refl
 
-    words_cond : (b : Bool) (a : Amount) (o : Option Amount) → words_at (cond b (Some a) o) ≡ cond b a.words (words_at o)
+    words_cond : (b : Bool) (a : Amount) (o : Option Amount) → words_held (cond b (Some a) o) ≡ cond b a.words (words_held o)
     words_cond true a o = refl
     words_cond false a o = refl
 
@@ -325,16 +327,16 @@ module _ (s : State) (log : LogState) (j place : ℕ) (p : Peek) (old new : Tall
   at_name : (k v : ℕ) → is_named k v f.found ≡ true → amount_at old p.name.key p.name.version ≡ amount_at old k v
   at_name k v is = let e = same_name p.name.key p.name.version k v (name_is k v ∙ is) in λ i. amount_at old (e.0 i) (e.1 i)
 
-  noted_entries : (k v : ℕ) → entries_of (amount_at new k v) ≡ entries_of (amount_at old k v) + cond (is_named k v f.found) 1 0
-  noted_entries k v = elim (is_named k v f.found) as (λ b. is_named k v f.found ≡ b → entries_of (amount_at new k v) ≡ entries_of (amount_at old k v) + cond b 1 0) [
-    | true ↦ λ is. ap entries_of (notes.noted some k v ∙ cond-true (name_eq (p.name.key, p.name.version) (k, v)) (Some (more (amount_at old p.name.key p.name.version) (p.next - p.place))) (amount_at old k v) (name_is k v ∙ is)) ∙ ap (λ (o : Option Amount). entries_of o + 1) (at_name k v is)
-    | false ↦ λ isnt. (let e = ap entries_of (notes.noted some k v ∙ cond-false (name_eq (p.name.key, p.name.version) (k, v)) (Some (more (amount_at old p.name.key p.name.version) (p.next - p.place))) (amount_at old k v) (name_is k v ∙ isnt)) in omega (arith, e))
+  noted_entries : (k v : ℕ) → entries_held (amount_at new k v) ≡ entries_held (amount_at old k v) + cond (is_named k v f.found) 1 0
+  noted_entries k v = elim (is_named k v f.found) as (λ b. is_named k v f.found ≡ b → entries_held (amount_at new k v) ≡ entries_held (amount_at old k v) + cond b 1 0) [
+    | true ↦ λ is. ap entries_held (notes.noted some k v ∙ cond-true (name_eq (p.name.key, p.name.version) (k, v)) (Some (more (amount_at old p.name.key p.name.version) (p.next - p.place))) (amount_at old k v) (name_is k v ∙ is)) ∙ ap (λ (o : Option Amount). entries_held o + 1) (at_name k v is)
+    | false ↦ λ isnt. (let e = ap entries_held (notes.noted some k v ∙ cond-false (name_eq (p.name.key, p.name.version) (k, v)) (Some (more (amount_at old p.name.key p.name.version) (p.next - p.place))) (amount_at old k v) (name_is k v ∙ isnt)) in omega (arith, e))
   ] refl
 
-  noted_words : (k v : ℕ) → words_at (amount_at new k v) ≡ words_at (amount_at old k v) + cond (is_named k v f.found) (length (words_of f.found.1)) 0
-  noted_words k v = elim (is_named k v f.found) as (λ b. is_named k v f.found ≡ b → words_at (amount_at new k v) ≡ words_at (amount_at old k v) + cond b (length (words_of f.found.1)) 0) [
-    | true ↦ λ is. (let e = ap words_at (notes.noted some k v ∙ cond-true (name_eq (p.name.key, p.name.version) (k, v)) (Some (more (amount_at old p.name.key p.name.version) (p.next - p.place))) (amount_at old k v) (name_is k v ∙ is)) ∙ ap (λ (o : Option Amount). words_at o + (p.next - p.place)) (at_name k v is) in let n = size in omega (arith, e, n))
-    | false ↦ λ isnt. (let e = ap words_at (notes.noted some k v ∙ cond-false (name_eq (p.name.key, p.name.version) (k, v)) (Some (more (amount_at old p.name.key p.name.version) (p.next - p.place))) (amount_at old k v) (name_is k v ∙ isnt)) in omega (arith, e))
+  noted_words : (k v : ℕ) → words_held (amount_at new k v) ≡ words_held (amount_at old k v) + cond (is_named k v f.found) (length (words_of f.found.1)) 0
+  noted_words k v = elim (is_named k v f.found) as (λ b. is_named k v f.found ≡ b → words_held (amount_at new k v) ≡ words_held (amount_at old k v) + cond b (length (words_of f.found.1)) 0) [
+    | true ↦ λ is. (let e = ap words_held (notes.noted some k v ∙ cond-true (name_eq (p.name.key, p.name.version) (k, v)) (Some (more (amount_at old p.name.key p.name.version) (p.next - p.place))) (amount_at old k v) (name_is k v ∙ is)) ∙ ap (λ (o : Option Amount). words_held o + (p.next - p.place)) (at_name k v is) in let n = size in omega (arith, e, n))
+    | false ↦ λ isnt. (let e = ap words_held (notes.noted some k v ∙ cond-false (name_eq (p.name.key, p.name.version) (k, v)) (Some (more (amount_at old p.name.key p.name.version) (p.next - p.place))) (amount_at old k v) (name_is k v ∙ isnt)) in omega (arith, e))
   ] refl
 
   pub tally_on : Tallying new (entries_in s log j) p.next

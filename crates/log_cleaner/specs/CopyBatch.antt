@@ -83,7 +83,7 @@ pub record IsLess (old new : StandingState) (es : List (ℕ × Entry)) : Type 0 
   pub none : length (next_batch old es) < MOST_ENTRIES → left_to_copy new es ≡ []
 
 -- so many entries were copied, with these words; none only where none is left
-pub record IsBatchOf (s : State) (log : LogState) (st : StandingState) (j n : ℕ) (ws : List ℕ) :
+pub record IsCopyBatch (s : State) (log : LogState) (st : StandingState) (j n : ℕ) (ws : List ℕ) :
     Type 0 where
   pub count : n ≡ length (batch_in s log st j)
   pub words : ws ≡ flat_map words_of (copies_in s log st j)

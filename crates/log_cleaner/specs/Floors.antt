@@ -1,5 +1,5 @@
 -- How much of each closed chunk is still to be copied at least, as a search has counted it.
-use Rattle.std.specs.Prelude.{◌≡◌, ◌≢◌, ℕ, ◌≤◌, true, false, List, length, Some, is_some}
+use Rattle.std.specs.Prelude.{◌≡◌, ◌≢◌, ℕ, ◌≤◌, true, false, List, length, take, Some, is_some}
 use Rattle.std.specs.List.{AllByRecursion, count_by}
 use Rattle.pm_region.specs.State.{State}
 use Rattle.log_entry.specs.declared.entry.Entry.{Entry}
@@ -27,18 +27,25 @@ IsFoundIn st j y = is_told st y.1.key y.1.version ≡ false
     → spot_of st y.1.key y.1.version ≡ spot_at j y
 
 -- These entries of chunk j were found there, and no two of them have one name, but for names that were told dead.
-pub record IsSeen (st : StandingState) (j : ℕ) (es : List (ℕ × Entry)) : Type 0 where
+pub record AreSeen (st : StandingState) (j : ℕ) (es : List (ℕ × Entry)) : Type 0 where
   pub found : AllByRecursion (IsFoundIn st j) es
   pub once : (k v : ℕ) → is_told st k v ≡ false → count_by (is_named k v) es ≤ 1
 
--- no less of these entries is still to be copied
-pub record IsFloor (a : Amount) (st : StandingState) (es : List (ℕ × Entry)) : Type 0 where
-  pub entries : a.entries ≤ length (left_to_copy st es)
-  pub words : a.words ≤ words_sum (left_to_copy st es)
+-- so many of the entries of chunk j were seen, from the first on
+pub record IsSeen (st : StandingState) (j : ℕ) (es : List (ℕ × Entry)) : Type 0 where
+  pub many : ℕ
+  pub seen : AreSeen st j (take many es)
 
+-- no less of so many of these entries, from the first on, is still to be copied
+pub record IsFloor (a : Amount) (st : StandingState) (many : ℕ) (es : List (ℕ × Entry)) :
+    Type 0 where
+  pub entries : a.entries ≤ length (left_to_copy st (take many es))
+  pub words : a.words ≤ words_sum (left_to_copy st (take many es))
+
+-- It is counted of the entries that were seen: of the whole chunk no less is left.
 pub record IsCounted (st : StandingState) (j : ℕ) (a : Amount) (es : List (ℕ × Entry)) : Type 0 where
   pub seen : IsSeen st j es
-  pub floor : IsFloor a st es
+  pub floor : IsFloor a st seen.many es
 
 -- what is noted of chunk j is right, if it has these entries
 abbrev pub HasFloor : StandingState → ℕ → List (ℕ × Entry) → Type 0

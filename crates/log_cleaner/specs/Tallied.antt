@@ -6,7 +6,7 @@ use Rattle.log_entry.specs.Spelling.{words_of}
 use Rattle.core_log.specs.declared.types.Peek.{Peek}
 use Rattle.log_standing.specs.ChunkCounts.{is_named}
 use Rattle.log_standing.specs.NameCounts.{StandingState, floor_at, name_eq}
-use Rattle.log_standing.specs.Tallies.{TallyState, amount_at, entries_in as entries_of, more, words_in}
+use Rattle.log_standing.specs.Tallies.{TallyState, amount_at, entries_held, more, words_held}
 use Rattle.log_cleaner.specs.Copying.{left_to_copy, words_sum}
 use Rattle.log_cleaner.specs.Floors.{HasFloor}
 
@@ -16,8 +16,8 @@ words_named k v es = sum_by (λ x. if is_named k v x then length (words_of x.1) 
 
 -- what each name has of these entries
 pub record HasAmounts (t : TallyState) (es : List (ℕ × Entry)) : Type 0 where
-  pub entries : (k v : ℕ) → entries_of (amount_at t k v) ≡ count_by (is_named k v) es
-  pub words : (k v : ℕ) → words_in (amount_at t k v) ≡ words_named k v es
+  pub entries : (k v : ℕ) → entries_held (amount_at t k v) ≡ count_by (is_named k v) es
+  pub words : (k v : ℕ) → words_held (amount_at t k v) ≡ words_named k v es
 
 -- an entry was noted, where there was room for its name
 pub record NotesIf (old new : TallyState) (p : Peek) : Type 0 where

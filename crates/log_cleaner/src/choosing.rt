@@ -1,46 +1,24 @@
 // Which chunk is cleaned next.
-ghost use Rattle.std.specs.Prelude.{◌≡◌, ◌≢◌, ℕ, ◌+◌, ◌*◌, ◌/◌, ◌≤◌, ◌<◌, nat_le, true, false, is_some, Some, None, IfSome, IfOk, OnErr};
+ghost use Rattle.std.specs.Prelude.{◌≡◌, ℕ, ◌+◌, ◌≤◌, ◌<◌, false, Some, None, IfSome, IfOk, OnErr};
 ghost use Rattle.pm_region.specs.State.{IsTelling};
-ghost use Rattle.core_log.specs.Log.{StandsIn, tail_of};
+ghost use Rattle.core_log.specs.Log.{StandsIn};
 ghost use Rattle.log_standing.specs.ChunkCounts.{IsStandingOf};
-ghost use Rattle.log_cleaner.specs.Choosing.{copy_lines, has_room, IsChosen, IsCandidate, IsFirstIn, IsPast, IsVictim};
+ghost use Rattle.log_cleaner.specs.Choosing.{IsChosen, IsCandidate, IsFirstIn, IsPast, IsVictim};
 ghost use Rattle.log_cleaner.specs.Floors.{HasFloors, Searches};
 
+use crate::fitting::{copy_lines, has_room};
 use crate::reading_start::tail_of;
 use crate::searching::search_chunk;
 use crate::types::Victim;
 use chunk_map::layout_sizes::MOST_CHUNKS;
 use core_log::{CoreLog, Room};
 use fs_model::Memory;
-use log_entry::MOST_ENTRIES;
 use log_standing::Standing;
-use pm_region::{LINE_WORDS, Region};
+use pm_region::Region;
 use std::alloc::Global;
 
 // No part has more chunks.
 const CHUNKS: u32 = MOST_CHUNKS as u32;
-
-// The lines that the copies take at most.
-fn copy_lines(victim: Victim) -> u64
-    ensures { result ≡ copy_lines victim }
-{
-    victim.words.div_ceil(LINE_WORDS) + victim.entries.div_ceil(u64::from(MOST_ENTRIES))
-}
-
-// Whether the open chunk has so many lines besides what is promised.
-fn has_lines(room: &Room, lines: u64) -> bool
-    ensures { result ≡ nat_le (room.now.pledged_lines + lines) room.now.open_lines }
-{
-    lines <= room.open_lines && room.pledged_lines <= room.open_lines - lines
-}
-
-// Whether a chunk with so many lines to copy may be cleaned: they are a third of a payload at most, and there is room
-// for them.
-fn has_room(room: &Room, lines: u64) -> bool
-    ensures { result ≡ has_room room.now lines }
-{
-    lines <= room.payload_lines / 3 && (has_lines(room, lines) || room.free_chunks >= 1)
-}
 
 // Whether a chunk is to be read: it was not counted yet, or what was left of it at least may fit.
 fn is_worth(standing: &Standing, room: &Room, chunk: u32) -> bool
@@ -84,11 +62,7 @@ fn candidate<R: Region>(
     if log.opened() == Some(chunk) || tail_of(log, chunk).is_none() {
         return None;
     }
-    let victim = search_chunk(region, log, standing, chunk);
-    if has_room(room, copy_lines(victim)) {
-        return Some(victim);
-    }
-    None
+    search_chunk(region, log, standing, room, chunk)
 }
 
 // The first of some chunk numbers that is one to be cleaned.

@@ -3,7 +3,7 @@ ghost use Rattle.std.specs.Prelude.{◌≡◌, ◌+◌, ◌^◌, ◌<◌, ◌≤
 ghost use Rattle.pm_region.specs.State.{IsTelling};
 ghost use Rattle.core_log.specs.Log.{StandsIn, tail_of};
 ghost use Rattle.core_log.specs.Walking.{entries_in};
-ghost use Rattle.log_standing.specs.Tallies.{amount_at, entries_in as entries_of, words_in};
+ghost use Rattle.log_standing.specs.Tallies.{amount_at, entries_held, words_held};
 ghost use Rattle.log_cleaner.specs.Tallied.{HasAmounts, NotesIf};
 
 use crate::clearing::entry_count;
@@ -17,8 +17,8 @@ use std::alloc::Global;
 // Notes an entry, where there is room for its name.
 fn note(tally: &mut Tally, found: Peek)
     requires size { found.place ≤ found.next }
-    requires entries { entries_of (amount_at tally.old found.name.key found.name.version) ≤ found.place }
-    requires words { words_in (amount_at tally.old found.name.key found.name.version) ≤ found.place }
+    requires entries { entries_held (amount_at tally.old found.name.key found.name.version) ≤ found.place }
+    requires words { words_held (amount_at tally.old found.name.key found.name.version) ≤ found.place }
     requires more { found.place + 1 < 2 ^ 64 }
     ensures { NotesIf tally.old tally.new found }
 {

@@ -20,7 +20,7 @@ ghost use Rattle.log_cleaner.specs.Tallied.{KeepsTally};
 ghost use Rattle.log_cleaner.specs.Additions.{is_among, Lacks, AddsEach, AppendsNew, with_open, OpensNew};
 ghost use Rattle.log_cleaner.specs.Clearing.{ClearingState, IsGathered};
 ghost use Rattle.log_cleaner.specs.Copying.{left_to_copy, tally_of, to_copy, IsEachOnce, IsUpToDate};
-ghost use Rattle.log_cleaner.specs.CopyBatch.{IsLess, IsBatchOf, Bounds, lowered_by};
+ghost use Rattle.log_cleaner.specs.CopyBatch.{IsLess, IsCopyBatch, Bounds, lowered_by};
 ghost use Rattle.log_cleaner.specs.ImagesBeside.{MakesCopies, GivesUp, Vanish};
 ghost use Rattle.log_cleaner.specs.Vanishing.{MayGo, NoneElse};
 
@@ -126,18 +126,18 @@ pub fn every_tally()
     ensures within { (s : State) (log : LogState) (old new : StandingState) (chunk n : ℕ)
         (ws : List ℕ)
         (kept : Victim)
-        → IsBatchOf s log old chunk n ws → IsLess old new (entries_in s log chunk)
+        → IsCopyBatch s log old chunk n ws → IsLess old new (entries_in s log chunk)
         → Bounds kept old (entries_in s log chunk) → (n ≤ kept.entries) × (length ws ≤ kept.words) }
     ensures lowered { (s : State) (log : LogState) (old new : StandingState) (chunk n : ℕ)
         (ws : List ℕ)
         (kept : Victim)
-        → IsBatchOf s log old chunk n ws → IsLess old new (entries_in s log chunk)
+        → IsCopyBatch s log old chunk n ws → IsLess old new (entries_in s log chunk)
         → Bounds kept old (entries_in s log chunk)
         → Bounds (lowered_by kept n (length ws)) new (entries_in s log chunk) }
     ensures just { (s : State) (log : LogState) (old new : StandingState) (chunk n : ℕ)
         (ws : List ℕ)
         (kept : Victim)
-        → IsBatchOf s log old chunk n ws → IsLess old new (entries_in s log chunk)
+        → IsCopyBatch s log old chunk n ws → IsLess old new (entries_in s log chunk)
         → IsEachOnce (left_to_copy old (entries_in s log chunk))
         → kept ≡ tally_of chunk (left_to_copy old (entries_in s log chunk))
         → lowered_by kept n (length ws) ≡ tally_of chunk

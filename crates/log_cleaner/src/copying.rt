@@ -6,7 +6,7 @@ ghost use Rattle.core_log.specs.Log.{StandsIn, tail_of, room_of, with_tail, open
 ghost use Rattle.core_log.specs.Chunk.{padded};
 ghost use Rattle.core_log.specs.Walking.{entries_in};
 ghost use Rattle.log_cleaner.specs.Copying.{IsUpToDate};
-ghost use Rattle.log_cleaner.specs.CopyBatch.{copies_in, copied_in, CopiesFit, IsBatchOf, HasCopied, KeepsNames, Bounds};
+ghost use Rattle.log_cleaner.specs.CopyBatch.{copies_in, copied_in, CopiesFit, IsCopyBatch, HasCopied, KeepsNames, Bounds};
 ghost use Rattle.log_cleaner.specs.Tallied.{KeepsTally};
 ghost use Rattle.log_cleaner.specs.ImagesBeside.{MakesCopies};
 
@@ -68,7 +68,7 @@ pub fn copy_live<R: Region>(
     ensures moments { MakesCopies (R.state region.old) (R.state region.new) log.old
         (copies_in (R.state region.old) log.old standing.old victim.now.chunk) }
     ensures batch { IfOk result (λ n. IsTelling (R.state region.old)
-        → IsBatchOf (R.state region.old) log.old standing.old victim.now.chunk (copied_in n)
+        → IsCopyBatch (R.state region.old) log.old standing.old victim.now.chunk (copied_in n)
         buffer.new.words) }
     ensures told { IfOk result (λ n. IsTelling (R.state region.old) → IsSome n) }
     ensures ok { OnOk result (HasCopied (R.state region.old) (R.state region.new) log.old log.new

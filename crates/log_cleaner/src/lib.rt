@@ -8,6 +8,7 @@ mod clearing;
 mod collect_copies;
 mod copying;
 mod counting;
+mod fitting;
 mod reading_start;
 mod searching;
 mod types;

@@ -13,17 +13,17 @@ pub record TallyState : Type 0 where
 abbrev pub amount_at : TallyState → ℕ → ℕ → Option Amount
 amount_at t k v = lookup (name_eq (k, v)) t.names
 
-abbrev pub entries_in : Option Amount → ℕ
-entries_in None = 0
-entries_in (Some a) = a.entries
+abbrev pub entries_held : Option Amount → ℕ
+entries_held None = 0
+entries_held (Some a) = a.entries
 
-abbrev pub words_in : Option Amount → ℕ
-words_in None = 0
-words_in (Some a) = a.words
+abbrev pub words_held : Option Amount → ℕ
+words_held None = 0
+words_held (Some a) = a.words
 
 -- with one more entry of so many words
 abbrev pub more : Option Amount → ℕ → Amount
-more a words = record { entries = entries_in a + 1; words = words_in a + words }
+more a words = record { entries = entries_held a + 1; words = words_held a + words }
 
 abbrev pub less_by : Amount → Amount → Amount
 less_by a by = record { entries = a.entries - by.entries; words = a.words - by.words }
@@ -32,7 +32,7 @@ less_by a by = record { entries = a.entries - by.entries; words = a.words - by.w
 abbrev pub less : ℕ → ℕ → TallyState → TallyState
 less k v t = record t {
   left = record {
-    entries = t.left.entries - entries_in (amount_at t k v);
-    words = t.left.words - words_in (amount_at t k v);
+    entries = t.left.entries - entries_held (amount_at t k v);
+    words = t.left.words - words_held (amount_at t k v);
   };
 }

@@ -2,7 +2,7 @@
 ghost use Rattle.std.specs.Prelude.{◌≡◌, ℕ, ◌+◌, ◌-◌, ◌^◌, ◌<◌, ◌≤◌, [], Some, None, IfOk, if◌then◌else◌};
 ghost use Rattle.std.specs.HashMap.{get, spare};
 ghost use Rattle.log_standing.specs.Names.{name_eq};
-ghost use Rattle.log_standing.specs.Tallies.{amount_at, entries_in, words_in, less, more, less_by};
+ghost use Rattle.log_standing.specs.Tallies.{amount_at, entries_held, words_held, less, more, less_by};
 
 use crate::types::Amount;
 use fs_model::{Key, Memory, Version};
@@ -46,8 +46,8 @@ fn less_by(amount: Amount, by: Amount) -> Amount
 
 // With one more entry.
 fn more(amount: Option<Amount>, words: u64) -> Amount
-    requires entries { entries_in amount + 1 < 2 ^ 64 }
-    requires words { words_in amount + words < 2 ^ 64 }
+    requires entries { entries_held amount + 1 < 2 ^ 64 }
+    requires words { words_held amount + words < 2 ^ 64 }
     ensures { result ≡ more amount words }
 {
     match amount {
@@ -103,8 +103,8 @@ impl Tally {
     /// Notes an entry of the chunk with so many words. What is left stays.
     pub fn note(&mut self, name: EntryName, words: u64)
         requires room { 0 < self.old.room }
-        requires entries { entries_in (amount_at self.old name.key name.version) + 1 < 2 ^ 64 }
-        requires words { words_in (amount_at self.old name.key name.version) + words < 2 ^ 64 }
+        requires entries { entries_held (amount_at self.old name.key name.version) + 1 < 2 ^ 64 }
+        requires words { words_held (amount_at self.old name.key name.version) + words < 2 ^ 64 }
         ensures noted { (k v : ℕ) → amount_at self.new k v
             ≡ (if name_eq (name.key, name.version) (k, v)
             then Some (more (amount_at self.old name.key name.version) words)

@@ -18,7 +18,7 @@ use Rattle.log_standing.specs.NameCounts.{StandingState}
 use Rattle.log_cleaner.specs.CopyBatch.{copied_in}
 use Rattle.log_cleaner.specs.Additions.{OpensNew, with_open}
 use Rattle.log_cleaner.specs.Copying.{IsUpToDate, left_to_copy}
-use Rattle.log_cleaner.specs.CopyBatch.{Bounds, IsBatchOf, IsLess, next_batch, entries_of}
+use Rattle.log_cleaner.specs.CopyBatch.{Bounds, IsCopyBatch, IsLess, next_batch, entries_of}
 use Rattle.log_cleaner.proofs.Opened.{open_up, open_else}
 use Rattle.licence.specs.Licence.{Licensed, IsLogOf, part_at, part_end}
 use Rattle.licence.specs.Writes.{Opens}
@@ -58,7 +58,7 @@ if_ok_on (Ok n) P Q on is = on n is
 if_ok_on (Err e) P Q on is = tt
 
 -- What a batch says of the entries, by the chunk before it was opened.
-batch_moved : (s mid : State) (log log' : LogState) (st : StandingState) (j n : ℕ) (ws : List ℕ) → entries_in mid log' j ≡ entries_in s log j → IsBatchOf mid log' st j n ws → IsBatchOf s log st j n ws
+batch_moved : (s mid : State) (log log' : LogState) (st : StandingState) (j n : ℕ) (ws : List ℕ) → entries_in mid log' j ≡ entries_in s log j → IsCopyBatch mid log' st j n ws → IsCopyBatch s log st j n ws
 batch_moved s mid log log' st j n ws same B = record {
   count = B.count ∙ ap (λ (es : List (ℕ × Entry)). length (next_batch st es)) same;
   words = B.words ∙ ap (λ (es : List (ℕ × Entry)). flat_map words_of (entries_of (next_batch st es))) same;
