@@ -18,9 +18,9 @@ use Rattle.group_board.specs.Seats.{SeatAt}
 use Rattle.batch_leader.specs.declared.taken.Taken.{Taken}
 use Rattle.batch_leader.specs.declared.changes.Changes.{Changes}
 use Rattle.batch_leader.specs.declared.states.Collecting.{Collecting}
-use Rattle.batch_leader.specs.TakenChanges.{spelled, entries_in, taken_in, AreApart, IsTaken, HasOut}
+use Rattle.batch_leader.specs.TakenChanges.{spelled, entries_taken, taken_in, AreApart, IsTaken, HasOut}
 use Rattle.core_log.specs.declared.types.Room.{Room}
-use Rattle.batch_leader.specs.Rounds.{member_at, slot_at, round_end, own_lines, fits, stays_in, goes_fresh, words_in, space, left_free, leaves_room, has_chunk}
+use Rattle.batch_leader.specs.Rounds.{member_at, slot_at, round_end, own_lines, fits, stays_in, goes_fresh, words_taken, space, left_free, leaves_room, has_chunk}
 use Rattle.batch_leader.specs.Leading.{IsFrom, IsNew, AreUnlogged, AreNamedApart, Collects, IsKept, LeavesRoom, HasSpace}
 
 pub member_low : (m i n : ℕ) → m < n → i < 8 * n → member_at m i < n
@@ -92,7 +92,7 @@ apart_more (x ∷ xs) t apart none = by_first (λ n. apart_more xs t apart.1 n) 
   by_first rest true e n = absurd (cc n)
   by_first rest false e n = (taken_more xs t x.member x.slot n ∙ not_it (eqb x.member t.member && eqb x.slot t.slot) e ∙ apart.0, rest n)
 
-entries_more : (ts : List Taken) (t : Taken) → entries_in (ts ++ t ∷ []) ≡ entries_in ts ++ t.change.entry ∷ []
+entries_more : (ts : List Taken) (t : Taken) → entries_taken (ts ++ t ∷ []) ≡ entries_taken ts ++ t.change.entry ∷ []
 entries_more [] t = refl
 entries_more (x ∷ xs) t = ap (λ (es : List Entry). x.change.entry ∷ es) (entries_more xs t)
 
@@ -101,7 +101,7 @@ words_more [] e = append-nil (words_of e)
 words_more (x ∷ xs) e = ap (λ (ws : List ℕ). words_of x ++ ws) (words_more xs e) ∙ sym (append_assoc (words_of x) (flat_map words_of xs) (words_of e))
 
 pub spelled_more : (ts : List Taken) (t : Taken) → spelled (ts ++ t ∷ []) ≡ spelled ts ++ words_of t.change.entry
-spelled_more ts t = ap (flat_map words_of) (entries_more ts t) ∙ words_more (entries_in ts) t.change.entry
+spelled_more ts t = ap (flat_map words_of) (entries_more ts t) ∙ words_more (entries_taken ts) t.change.entry
 
 abbrev own_of : ℕ → Taken → ℕ
 own_of m t = if t.member == m then lines_for (length (words_of t.change.entry)) else 0
@@ -175,7 +175,7 @@ module _ (seat : SeatAt) (v u : View) (old new : Collecting) (t : Taken) (C : Co
     member = C.member;
     holds = ap (λ (w : View). w.holds) view ∙ C.holds;
     out = out_more;
-    flying = λ b. ap (λ (w : View). w.flying) view ∙ ap (λ (es : List Entry). es ++ t.change.entry ∷ []) (C.flying whole) ∙ sym (entries_more ts t) ∙ ap entries_in (sym items);
+    flying = λ b. ap (λ (w : View). w.flying) view ∙ ap (λ (es : List Entry). es ++ t.change.entry ∷ []) (C.flying whole) ∙ sym (entries_more ts t) ∙ ap entries_taken (sym items);
     broken = λ b. let both : true ≡ false = sym b ∙ ap (λ (w : View). w.broken) view ∙ whole in absurd (cc both);
     passed = subst (AllByRecursion (IsFrom seat.number new.at)) (sym items) (all_more (IsFrom seat.number new.at) ts t
         (all_weaker (IsFrom seat.number old.at) (IsFrom seat.number new.at) ts (λ x from. (from.0, (let lt = from.1 in omega (arith, lt, at)), from.2, from.3)) C.passed)
@@ -185,8 +185,8 @@ module _ (seat : SeatAt) (v u : View) (old new : Collecting) (t : Taken) (C : Co
     own_few = (let n : length new.changes.taken.items ≡ length (ts ++ t ∷ []) = ap length items in let l = longer in let a = C.own_few in let b = own_short in omega (arith, n, l, a, b, own));
     unlogged = subst (AreUnlogged seat.number u) (sym items) (unlogged_by seat.number v u (ts ++ t ∷ []) (ap (λ (w : View). w.pending) view) (ap (λ (w : View). w.kept) view)
         (all_more (λ x. IsNew seat.number x.member x.slot v x.change.entry) ts t C.unlogged (record { new = unlogged.new; own = unlogged.own })));
-    named = subst (λ (es : List Entry). AreNamedApart es) (sym (entries_more ts t) ∙ ap entries_in (sym items))
-        (named_more (entries_in ts) t.change.entry C.named (subst (λ (es : List Entry). LacksName es t.change.entry) (C.flying whole) unlogged.alone));
+    named = subst (λ (es : List Entry). AreNamedApart es) (sym (entries_more ts t) ∙ ap entries_taken (sym items))
+        (named_more (entries_taken ts) t.change.entry C.named (subst (λ (es : List Entry). LacksName es t.change.entry) (C.flying whole) unlogged.alone));
   }
 
 -- and after it passed a slot
@@ -198,7 +198,7 @@ collects_past seat v u old new C within changes own at taken holds flying broken
       member = C.member;
       holds = holds ∙ C.holds;
       out = subst (HasOut seat.place u) (sym items) (record { each = C.out.each; taken = λ a s. ap (λ (f : ℕ → ℕ → Option Entry). f a s) taken ∙ C.out.taken a s; apart = C.out.apart });
-      flying = λ b. flying ∙ C.flying (sym broken ∙ b) ∙ ap entries_in (sym items);
+      flying = λ b. flying ∙ C.flying (sym broken ∙ b) ∙ ap entries_taken (sym items);
       broken = λ b. items ∙ C.broken (sym broken ∙ b);
       passed = subst (AllByRecursion (IsFrom seat.number new.at)) (sym items)
           (all_weaker (IsFrom seat.number old.at) (IsFrom seat.number new.at) old.changes.taken.items (λ x from. (from.0, (let lt = from.1 in omega (arith, lt, at)), from.2, from.3)) C.passed);
@@ -206,7 +206,7 @@ collects_past seat v u old new C within changes own at taken holds flying broken
       own = own ∙ C.own ∙ ap (own_lines seat.number) (sym items);
       own_few = (let n : length new.changes.taken.items ≡ length old.changes.taken.items = ap length items in let a = C.own_few in omega (arith, n, a, own));
       unlogged = subst (AreUnlogged seat.number u) (sym items) (unlogged_by seat.number v u old.changes.taken.items pending kept C.unlogged);
-      named = subst (λ (ts : List Taken). AreNamedApart (entries_in ts)) (sym items) C.named;
+      named = subst (λ (ts : List Taken). AreNamedApart (entries_taken ts)) (sym items) C.named;
     }
 
 -- and after something that doesn't concern what it took
@@ -218,14 +218,14 @@ collects_still seat v u old new C changes own at taken holds flying broken pendi
       member = C.member;
       holds = holds ∙ C.holds;
       out = subst (HasOut seat.place u) (sym items) (record { each = C.out.each; taken = λ a s. ap (λ (f : ℕ → ℕ → Option Entry). f a s) taken ∙ C.out.taken a s; apart = C.out.apart });
-      flying = λ b. flying ∙ C.flying (sym broken ∙ b) ∙ ap entries_in (sym items);
+      flying = λ b. flying ∙ C.flying (sym broken ∙ b) ∙ ap entries_taken (sym items);
       broken = λ b. items ∙ C.broken (sym broken ∙ b);
       passed = subst (λ (n : ℕ). AllByRecursion (IsFrom seat.number n) new.changes.taken.items) (sym at) (subst (AllByRecursion (IsFrom seat.number old.at)) (sym items) C.passed);
       within = (let low = C.within in omega (arith, at, low));
       own = own ∙ C.own ∙ ap (own_lines seat.number) (sym items);
       own_few = (let n : length new.changes.taken.items ≡ length old.changes.taken.items = ap length items in let a = C.own_few in omega (arith, n, a, own));
       unlogged = subst (AreUnlogged seat.number u) (sym items) (unlogged_by seat.number v u old.changes.taken.items pending kept C.unlogged);
-      named = subst (λ (ts : List Taken). AreNamedApart (entries_in ts)) (sym items) C.named;
+      named = subst (λ (ts : List Taken). AreNamedApart (entries_taken ts)) (sym items) C.named;
     }
 
 -- at the beginning
@@ -236,14 +236,14 @@ collects_first seat v u c may items landed at own view =
       member = may.member;
       holds = ap (λ (w : View). w.holds) view;
       out = subst (HasOut seat.place u) (sym items) (record { each = tt; taken = λ a s. ap (λ (w : View). w.taken a s) view ∙ may.gave_back a s; apart = tt });
-      flying = λ b. ap (λ (w : View). w.flying) view ∙ landed (sym (ap (λ (w : View). w.broken) view) ∙ b) ∙ ap entries_in (sym items);
+      flying = λ b. ap (λ (w : View). w.flying) view ∙ landed (sym (ap (λ (w : View). w.broken) view) ∙ b) ∙ ap entries_taken (sym items);
       broken = λ b. items;
       passed = subst (AllByRecursion (IsFrom seat.number c.at)) (sym items) tt;
       within = omega (arith, at);
       own = own ∙ ap (own_lines seat.number) (sym items);
       own_few = omega (arith, own);
       unlogged = subst (AreUnlogged seat.number u) (sym items) tt;
-      named = subst (λ (ts : List Taken). AreNamedApart (entries_in ts)) (sym items) tt;
+      named = subst (λ (ts : List Taken). AreNamedApart (entries_taken ts)) (sym items) tt;
     }
 
 -- An entry that fits has room in the chunk that the batch is for.
@@ -251,12 +251,12 @@ by_case : (room : Room) (lines_now : ℕ) (b : Bool) → nat_lt room.open_lines 
 by_case room n true t few payload = omega (arith, few, payload)
 by_case room n false t few payload = grind (arith, nat_tests)
 
-suits_of : (room : Room) (ts : List Taken) (fresh : Bool) (n : ℕ) → 5 ≤ room.payload_lines → n ≤ 34 → stays_in room ts (goes_fresh room ts fresh n) n ≡ true → lines_for (words_in ts + n) ≤ space room (goes_fresh room ts fresh n)
+suits_of : (room : Room) (ts : List Taken) (fresh : Bool) (n : ℕ) → 5 ≤ room.payload_lines → n ≤ 34 → stays_in room ts (goes_fresh room ts fresh n) n ≡ true → lines_for (words_taken ts + n) ≤ space room (goes_fresh room ts fresh n)
 unfolding stays_in goes_fresh
 suits_of room [] fresh n payload short e =
-    let zero_more : words_in [] + n ≡ n = omega arith in
+    let zero_more : words_taken [] + n ≡ n = omega arith in
     subst (λ (k : ℕ). lines_for k ≤ space room (nat_lt room.open_lines (lines_for n))) (sym zero_more) (by_case room (lines_for n) (nat_lt room.open_lines (lines_for n)) refl (omega (arith, short)) payload)
-suits_of room (t ∷ ts) fresh n payload short e = leb-true (lines_for (words_in (t ∷ ts) + n)) (space room fresh) e
+suits_of room (t ∷ ts) fresh n payload short e = leb-true (lines_for (words_taken (t ∷ ts) + n)) (space room fresh) e
 
 chunk_of : (room : Room) (f : Bool) → has_chunk room f ≡ true → f ≡ true → 0 < room.free_chunks
 chunk_of room true e h = grind (arith, nat_tests)
@@ -274,31 +274,31 @@ first_leaves room n false t kept = ⊎_elim (λ r. inl (omega (arith, r))) (λ f
 next_leaves : (room : Room) (lines words n : ℕ) (b : Bool) → LeavesRoom room b lines words → LeavesRoom room b (lines + lines_for n) (words + n)
 next_leaves room lines words n b left = ⊎_elim (λ r. inl (omega (arith, r))) (λ f. inr f) left
 
-other_leaves : (room : Room) (lines : ℕ) (ts : List Taken) (b : Bool) (n : ℕ) → leaves_room room lines ts b n ≡ true → LeavesRoom room b (lines + 0) (words_in ts + n)
+other_leaves : (room : Room) (lines : ℕ) (ts : List Taken) (b : Bool) (n : ℕ) → leaves_room room lines ts b n ≡ true → LeavesRoom room b (lines + 0) (words_taken ts + n)
 unfolding leaves_room
 other_leaves room lines ts b n e = ⊎_elim
-    (λ r. (let le = leb-true (room.pledged_lines - lines) (space room b - lines_for (words_in ts + n)) r in inl (omega (arith, le))))
+    (λ r. (let le = leb-true (room.pledged_lines - lines) (space room b - lines_for (words_taken ts + n)) r in inl (omega (arith, le))))
     (λ f. inr (leb-true 2 (left_free room b) f))
-    (or_cases (nat_le (room.pledged_lines - lines) (space room b - lines_for (words_in ts + n))) (nat_le 2 (left_free room b)) e)
+    (or_cases (nat_le (room.pledged_lines - lines) (space room b - lines_for (words_taken ts + n))) (nat_le 2 (left_free room b)) e)
 
-own_leaves : (room : Room) (lines : ℕ) (ts : List Taken) (fresh : Bool) (n : ℕ) → (ts ≡ [] → lines ≡ 0) → (ts ≢ [] → LeavesRoom room fresh lines (words_in ts)) → IsKept room
-    → LeavesRoom room (goes_fresh room ts fresh n) (lines + lines_for n) (words_in ts + n)
+own_leaves : (room : Room) (lines : ℕ) (ts : List Taken) (fresh : Bool) (n : ℕ) → (ts ≡ [] → lines ≡ 0) → (ts ≢ [] → LeavesRoom room fresh lines (words_taken ts)) → IsKept room
+    → LeavesRoom room (goes_fresh room ts fresh n) (lines + lines_for n) (words_taken ts + n)
 unfolding goes_fresh
 own_leaves room lines [] fresh n none left kept =
     let zero_lines : lines ≡ 0 = none refl in
     let same : lines + lines_for n ≡ lines_for n = omega (arith, zero_lines) in
-    let words : words_in [] + n ≡ n = omega arith in
-    subst (λ (x : ℕ). LeavesRoom room (nat_lt room.open_lines (lines_for n)) x (words_in [] + n)) (sym same)
+    let words : words_taken [] + n ≡ n = omega arith in
+    subst (λ (x : ℕ). LeavesRoom room (nat_lt room.open_lines (lines_for n)) x (words_taken [] + n)) (sym same)
     (subst (λ (x : ℕ). LeavesRoom room (nat_lt room.open_lines (lines_for n)) (lines_for n) x) (sym words) (first_leaves room n (nat_lt room.open_lines (lines_for n)) refl kept))
-own_leaves room lines (t ∷ ts) fresh n none left kept = next_leaves room lines (words_in (t ∷ ts)) n fresh (left (λ e. cc e))
+own_leaves room lines (t ∷ ts) fresh n none left kept = next_leaves room lines (words_taken (t ∷ ts)) n fresh (left (λ e. cc e))
 
-by_mine : (room : Room) (lines : ℕ) (ts : List Taken) (fresh mine : Bool) (n : ℕ) → (mine || leaves_room room lines ts (goes_fresh room ts fresh n) n) ≡ true → (ts ≡ [] → lines ≡ 0) → (ts ≢ [] → LeavesRoom room fresh lines (words_in ts)) → IsKept room
-    → LeavesRoom room (goes_fresh room ts fresh n) (lines + more_own mine n) (words_in ts + n)
+by_mine : (room : Room) (lines : ℕ) (ts : List Taken) (fresh mine : Bool) (n : ℕ) → (mine || leaves_room room lines ts (goes_fresh room ts fresh n) n) ≡ true → (ts ≡ [] → lines ≡ 0) → (ts ≢ [] → LeavesRoom room fresh lines (words_taken ts)) → IsKept room
+    → LeavesRoom room (goes_fresh room ts fresh n) (lines + more_own mine n) (words_taken ts + n)
 by_mine room lines ts fresh true n e none left kept = own_leaves room lines ts fresh n none left kept
 by_mine room lines ts fresh false n e none left kept = other_leaves room lines ts (goes_fresh room ts fresh n) n e
 
-pub fits_suits : (room : Room) (lines : ℕ) (ts : List Taken) (fresh mine : Bool) (n : ℕ) → 5 ≤ room.payload_lines → n ≤ 34 → (ts ≡ [] → lines ≡ 0) → (ts ≢ [] → HasSpace room fresh lines (words_in ts)) → fits room lines ts fresh mine n ≡ true
-    → HasSpace room (goes_fresh room ts fresh n) (lines + more_own mine n) (words_in ts + n)
+pub fits_suits : (room : Room) (lines : ℕ) (ts : List Taken) (fresh mine : Bool) (n : ℕ) → 5 ≤ room.payload_lines → n ≤ 34 → (ts ≡ [] → lines ≡ 0) → (ts ≢ [] → HasSpace room fresh lines (words_taken ts)) → fits room lines ts fresh mine n ≡ true
+    → HasSpace room (goes_fresh room ts fresh n) (lines + more_own mine n) (words_taken ts + n)
 unfolding fits
 fits_suits room lines ts fresh mine n payload short none had e =
     let stays = and_parts (stays_in room ts (goes_fresh room ts fresh n) n) _ (and_parts (nat_le n 34) _ e).1 in

@@ -12,28 +12,28 @@ use Rattle.group_laws.proofs.Clients.{if2_into, In-append_right}
 use Rattle.group_laws.specs.MemberViews.{View}
 use Rattle.group_board.specs.Views.{after_commit}
 use Rattle.batch_leader.specs.declared.taken.Taken.{Taken}
-use Rattle.batch_leader.specs.TakenChanges.{entries_in, taken_in, IsTaken, HasOut}
+use Rattle.batch_leader.specs.TakenChanges.{entries_taken, taken_in, IsTaken, HasOut}
 
-spelled_all : (p : Place) (ts : List Taken) → AllByRecursion (IsTaken p) ts → AllByRecursion HasSpelling (entries_in ts)
+spelled_all : (p : Place) (ts : List Taken) → AllByRecursion (IsTaken p) ts → AllByRecursion HasSpelling (entries_taken ts)
 spelled_all p [] each = tt
 spelled_all p (t ∷ ts) each = (each.0.spelled, spelled_all p ts each.1)
 
-some_all : (ts : List Taken) → ts ≢ [] → 0 < length (entries_in ts)
+some_all : (ts : List Taken) → ts ≢ [] → 0 < length (entries_taken ts)
 some_all [] some = absurd (some refl)
 some_all (t ∷ ts) some = omega arith
 
-pub batch_of : (p : Place) (ts : List Taken) → AllByRecursion (IsTaken p) ts → ts ≢ [] → IsBatch (entries_in ts)
+pub batch_of : (p : Place) (ts : List Taken) → AllByRecursion (IsTaken p) ts → ts ≢ [] → IsBatch (entries_taken ts)
 batch_of p ts each some = record { some = some_all ts some; each = spelled_all p ts each }
 
 -- each entry of the list is one of a list that has them all
-pub all_among : (ts : List Taken) (es : List Entry) → ((e : Entry) → In e (entries_in ts) → In e es) → AllByRecursion (λ t. In t.change.entry es) ts
+pub all_among : (ts : List Taken) (es : List Entry) → ((e : Entry) → In e (entries_taken ts) → In e es) → AllByRecursion (λ t. In t.change.entry es) ts
 all_among [] es in_all = tt
 all_among (t ∷ ts) es in_all = (in_all t.change.entry (inl refl), all_among ts es (λ e i. in_all e (inr i)))
 
-pub all_flying : (ts : List Taken) (es : List Entry) → es ≡ entries_in ts → AllByRecursion (λ t. In t.change.entry es) ts
+pub all_flying : (ts : List Taken) (es : List Entry) → es ≡ entries_taken ts → AllByRecursion (λ t. In t.change.entry es) ts
 all_flying ts es is = all_among ts es (λ e i. subst (λ (xs : List Entry). In e xs) (sym is) i)
 
-pub all_committed : (ts : List Taken) (v : View) → v.flying ≡ entries_in ts → AllByRecursion (λ t. In t.change.entry (after_commit v).kept) ts
+pub all_committed : (ts : List Taken) (v : View) → v.flying ≡ entries_taken ts → AllByRecursion (λ t. In t.change.entry (after_commit v).kept) ts
 all_committed ts v is = all_among ts (v.kept ++ v.flying) (λ e i. In-append_right e v.kept v.flying (subst (λ (xs : List Entry). In e xs) (sym is) i))
 
 -- the first one is given back

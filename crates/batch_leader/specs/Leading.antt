@@ -30,8 +30,8 @@ use Rattle.batch_leader.specs.declared.states.Collected.{Collected}
 use Rattle.batch_leader.specs.declared.states.Collected.TheVariants.{Took, RoundOver}
 use Rattle.batch_leader.specs.declared.states.Released.{Released}
 use Rattle.batch_leader.specs.declared.states.Released.TheVariants as released
-use Rattle.batch_leader.specs.TakenChanges.{entries_in, HasOut}
-use Rattle.batch_leader.specs.Rounds.{member_at, slot_at, round_end, own_lines, words_in, space, left_free, fits, goes_fresh, Passes, shown_at}
+use Rattle.batch_leader.specs.TakenChanges.{entries_taken, HasOut}
+use Rattle.batch_leader.specs.Rounds.{member_at, slot_at, round_end, own_lines, words_taken, space, left_free, fits, goes_fresh, Passes, shown_at}
 
 -- what was taken so far
 abbrev pub taken_by : Collecting → List Taken
@@ -60,14 +60,14 @@ pub record CollectsAt (p : Place) (m : ℕ) (v : View) (c : Collecting) : Type 0
   pub member : m < members p
   pub holds : v.holds ≡ true
   pub out : HasOut p v (taken_by c)
-  pub flying : v.broken ≡ false → v.flying ≡ entries_in (taken_by c)
+  pub flying : v.broken ≡ false → v.flying ≡ entries_taken (taken_by c)
   pub broken : v.broken ≡ true → taken_by c ≡ []
   pub passed : AllByRecursion (IsFrom m c.at) (taken_by c)
   pub within : c.at ≤ round_end p
   pub own : c.own_lines ≡ own_lines m (taken_by c)
   pub own_few : c.own_lines ≤ LONGEST_ENTRY_LINES * length (taken_by c)
   pub unlogged : AreUnlogged m v (taken_by c)
-  pub named : AreNamedApart (entries_in (taken_by c))
+  pub named : AreNamedApart (entries_taken (taken_by c))
 
 abbrev pub Collects : SeatAt → View → Collecting → Type 0
 Collects seat v c = CollectsAt seat.place seat.number v c
@@ -89,7 +89,7 @@ HasSpace room fresh own n = (lines_for n ≤ space room fresh) × (fresh ≡ tru
 
 -- The entries have room in the batch's chunk, as this room tells it.
 abbrev pub Suits : Room → Collecting → Type 0
-Suits room c = taken_by c ≢ [] → HasSpace room c.fresh c.own_lines (words_in (taken_by c))
+Suits room c = taken_by c ≢ [] → HasSpace room c.fresh c.own_lines (words_taken (taken_by c))
 
 -- looks of member m at n slots of its round, from a position on
 abbrev pub looks_upto : ℕ → ℕ → ℕ → List (ℕ × Kind)
@@ -225,11 +225,11 @@ pub record FindsNone (before after : Option Group) (m : ℕ) (v v' : View) : Typ
 pub record IsBatchAt (p : Place) (m : ℕ) (v : View) (b : Batch) : Type 0 where
   pub member : m < members p
   pub out : HasOut p v b.changes.taken.items
-  pub flying : v.flying ≡ entries_in b.changes.taken.items
+  pub flying : v.flying ≡ entries_taken b.changes.taken.items
   pub whole : v.broken ≡ false
   pub own : b.own_lines ≡ own_lines m b.changes.taken.items
   pub unlogged : AreUnlogged m v b.changes.taken.items
-  pub named : AreNamedApart (entries_in b.changes.taken.items)
+  pub named : AreNamedApart (entries_taken b.changes.taken.items)
 
 abbrev pub IsBatchOf : SeatAt → View → Batch → Type 0
 IsBatchOf seat v b = IsBatchAt seat.place seat.number v b

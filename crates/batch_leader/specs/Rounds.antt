@@ -25,8 +25,8 @@ abbrev pub round_end : Place → ℕ
 round_end p = SLOTS * members p
 
 -- how many words the entries have, and the lines that m's own entries take, each by itself
-abbrev pub words_in : List Taken → ℕ
-words_in ts = length (spelled ts)
+abbrev pub words_taken : List Taken → ℕ
+words_taken ts = length (spelled ts)
 
 unfoldable pub own_lines : ℕ → List Taken → ℕ
 own_lines m [] = 0
@@ -46,11 +46,11 @@ abbrev pub space : Room → Bool → ℕ
 space room fresh = if fresh then room.payload_lines else room.open_lines
 
 unfoldable pub stays_in : Room → List Taken → Bool → ℕ → Bool
-stays_in room ts fresh n = is_first ts || nat_le (lines_for (words_in ts + n)) (space room fresh)
+stays_in room ts fresh n = is_first ts || nat_le (lines_for (words_taken ts + n)) (space room fresh)
 
 -- After the batch with so many words more: the free lines of its chunk, the free chunks, and what is pledged to others than the batch.
 abbrev pub left_open : Room → List Taken → Bool → ℕ → ℕ
-left_open room ts fresh n = space room fresh - lines_for (words_in ts + n)
+left_open room ts fresh n = space room fresh - lines_for (words_taken ts + n)
 
 abbrev pub left_free : Room → Bool → ℕ
 left_free room fresh = if fresh then room.free_chunks - 1 else room.free_chunks

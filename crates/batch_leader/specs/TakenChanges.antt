@@ -13,8 +13,8 @@ abbrev pub entry_in : Taken → Entry
 entry_in t = t.change.entry
 
 -- the entries, in order
-abbrev pub entries_in : List Taken → List Entry
-entries_in ts = map entry_in ts
+abbrev pub entries_taken : List Taken → List Entry
+entries_taken ts = map entry_in ts
 
 abbrev pub name_of : Taken → EntryName
 name_of t = record { key = t.change.entry.key; version = t.change.entry.version }
@@ -41,7 +41,7 @@ pub record IsTaken (p : Place) (t : Taken) : Type 0 where
 
 -- the words of the entries, in order
 abbrev pub spelled : List Taken → List ℕ
-spelled ts = flat_map words_of (entries_in ts)
+spelled ts = flat_map words_of (entries_taken ts)
 
 -- The view's member has exactly these changes out.
 pub record HasOut (p : Place) (v : View) (ts : List Taken) : Type 0 where

@@ -2,7 +2,7 @@
 ghost use Rattle.std.specs.Prelude.{◌≡◌, ℕ, ◌+◌, ◌/◌, ◌≤◌, ◌==◌, true, length, MatchOption, if◌then◌else◌};
 ghost use Rattle.pm_region.specs.Words.{lines_for};
 ghost use Rattle.batch_leader.specs.Leading.{Fits, taken_by};
-ghost use Rattle.batch_leader.specs.Rounds.{fits, Passes, goes_fresh, stays_in, leaves_room, has_chunk, left_free, space, words_in};
+ghost use Rattle.batch_leader.specs.Rounds.{fits, Passes, goes_fresh, stays_in, leaves_room, has_chunk, left_free, space, words_taken};
 
 use crate::states::Collecting;
 use core_log::Room;
@@ -69,7 +69,7 @@ impl Collecting {
     // The lines of the batch with so many words more.
     fn lines_with(&self, words: u64) -> u64
         requires { words ≤ LONGEST_ENTRY }
-        ensures { result ≡ lines_for (words_in (taken_by self.now) + words) }
+        ensures { result ≡ lines_for (words_taken (taken_by self.now) + words) }
     {
         (self.changes.word_count() + words).div_ceil(LINE_WORDS)
     }

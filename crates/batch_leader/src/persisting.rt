@@ -11,7 +11,7 @@ ghost use Rattle.licence.specs.Licence.{IsLogOf};
 ghost use Rattle.licence.specs.Writes.{Begins};
 ghost use Rattle.batch_leader.specs.Leading.{IsBatchOf, IsCertain, IsLost};
 ghost use Rattle.batch_leader.specs.Persisting.{HasRoom, opened_for, StaysLicensed, IsLicensedNow, WritesPart, WritesOpenChunk};
-ghost use Rattle.batch_leader.specs.Rounds.{words_in};
+ghost use Rattle.batch_leader.specs.Rounds.{words_taken};
 ghost use Rattle.batch_leader.specs.TakenChanges.{name_in, spelled};
 
 use crate::returning::Returning;
@@ -76,7 +76,7 @@ impl Batch {
             (B.seat board.old).number
             (B.view board.old) log.old }
         requires room { HasRoom (R.state region.old) log.old
-            (words_in self.changes.taken.items) Option.None }
+            (words_taken self.changes.taken.items) Option.None }
         ensures seat { B.seat board.new ≡ B.seat board.old }
         ensures moments { StaysLicensed (R.state region.old) (R.state region.new)
             (B.seat board.old) (B.view board.old) }
@@ -130,7 +130,7 @@ impl Batch {
             (B.seat board.old).number
             (B.view board.old) log.old }
         requires room { HasRoom (R.state region.old) log.old
-            (words_in self.changes.taken.items) fresh }
+            (words_taken self.changes.taken.items) fresh }
         ensures seat { B.seat board.new ≡ B.seat board.old }
         ensures moments { StaysLicensed (R.state region.old) (R.state region.new)
             (B.seat board.old) (B.view board.old) }

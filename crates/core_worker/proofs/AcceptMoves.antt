@@ -1,5 +1,5 @@
 -- Accepting a request is a whole move to whoever runs several workers.
-use Rattle.std.proofs.Common.{◌≡◌, ◌≢◌, inl, inr, ⊎_elim, ℕ, ◌==◌, Bool, true, false, cond, List, [], ◌∷◌, ◌++◌, map, Option, Some, None, Result, Ok, Err, OnOk, OnErr, refl, sym, ◌∙◌, ap, subst, arith}
+use Rattle.std.proofs.Common.{◌≡◌, ◌≢◌, inl, inr, ⊎_elim, ℕ, ◌==◌, Bool, true, false, cond, List, [], ◌∷◌, ◌++◌, map, Option, Some, None, refl, sym, ◌∙◌, ap, subst, arith}
 use Rattle.std.specs.Prelude.{Vec, option_to_list}
 use Rattle.std.specs.Global.{Global}
 use Rattle.std.specs.List.{filter}
@@ -339,11 +339,3 @@ back_moves s w b k B stays = λ x T. record {
       (λ j own. quiet_refuses x.place.layout (stock_of w) (x.view.last j) (x.view.last j) (omega arith))
       (still_in x.place x.number x.view w b [] N.holds (λ j. ap (λ (y : Worker). placed_for x.view y.places.items j) B.rest) (stock_same w b (ap (λ (y : Worker). y.log) B.rest) (ap (λ (y : Worker). y.allocator) B.rest) (ap (λ (y : Worker). y.leading) B.rest)));
 }
-
-pub ok_accepts : {X Y : Type 0} (o : Result X Y) (s : State) (w b : Worker) (n : ℕ) (r : Request) → w.winds_down ≡ false → StaysTied s w b (key_of r) → OnOk o (HoldsOrBeginsByEachView s w b n r) → OnOk o (AcceptMoves s w b (key_of r) ((n, r) ∷ []))
-ok_accepts (Ok y) s w b n r works stays accepts = accept_moves s w b n r works stays accepts
-ok_accepts (Err y) s w b n r works stays accepts = accepts
-
-pub err_accepts : {X Y : Type 0} (o : Result X Y) (s : State) (w u b : Worker) (k : ℕ) → StaysTied s w b k → IsAsBefore w u → OnErr o (b ≡ u) → OnErr o (AcceptMoves s w b k [])
-err_accepts (Ok y) s w u b k stays before same = same
-err_accepts (Err y) s w u b k stays before same = back_moves s w b k (subst (IsAsBefore w) (sym same) before) stays

@@ -1,5 +1,5 @@
 -- A request is accepted, whatever view the worker is tied to.
-use Rattle.std.proofs.Common.{◌≡◌, ℕ, suc, ltb, ◌+◌, ◌<◌, List, [], ◌∷◌, length, true, false, Result, Ok, Err, OnOk, OnErr, refl, sym, ◌∙◌, ap, subst, arith}
+use Rattle.std.proofs.Common.{◌≡◌, ℕ, suc, ltb, ◌+◌, ◌<◌, List, [], ◌∷◌, length, true, false, inr, refl, sym, ◌∙◌, ap, subst, arith}
 use Rattle.std.proofs.lemmas.Bool.{and_parts, ltb-true}
 use Rattle.pm_region.specs.State.{State, IsTelling}
 use Rattle.fs_model.specs.declared.model.Request.{Request}
@@ -23,7 +23,7 @@ use Rattle.core_worker.specs.Refusals.{HasAnswerRoom}
 use Rattle.core_worker.specs.Serving.{KeepsLine}
 use Rattle.core_worker.proofs.UnderWay.{room_counted}
 use Rattle.core_worker.proofs.AcceptedOrder.{order_before, order_held, order_begun_now}
-use Rattle.core_worker.proofs.Beginnings.{aside_of, before_holds, held_holds, prepared_stands, begun_holds, begun_accepts}
+use Rattle.core_worker.proofs.Beginnings.{aside_of, before_holds, held_holds, prepared_stands, begun_holds}
 
 -- what room says
 free_in : (ps : List Place) → any_free ps ≡ true → (s : ℕ) × (s < length ps) × (place_at ps s ≡ Free)
@@ -73,24 +73,20 @@ held_tie s w u q n r B more busy adds room works few x T =
     }
 
 -- after it was begun
-pub begun_tie : {X Y : Type 0} (r : Result X Y) (s : State) (k : ℕ) (w u b : Worker) → IsAsBefore w u → u.winds_down ≡ false → OnlyBegins u b → is_busy u.places.items k ≡ false → OnOk r (UsesRoom u b k) → OnOk r (KeepsTies u b k) → OnErr r (b ≡ u) → OnOk r ((j : ℕ) → is_busy u.places.items j ≡ true → is_busy b.places.items j ≡ true) → OnOk r (KeepsLine u b k) → OnOk r ((n : ℕ) → HasAnswerRoom (n + 1) u → HasAnswerRoom n b) → HasAnswerRoom 73 u → length u.queue < 64 → StaysTied s w b k
-begun_tie (Ok y) s k w u b B works rest idle uses keeps err busy line less room few x T =
+pub begun_tie : (s : State) (k : ℕ) (w u b : Worker) → IsAsBefore w u → u.winds_down ≡ false → OnlyBegins u b → is_busy u.places.items k ≡ false → UsesRoom u b k → KeepsTies u b k → ((j : ℕ) → is_busy u.places.items j ≡ true → is_busy b.places.items j ≡ true) → KeepsLine u b k → ((n : ℕ) → HasAnswerRoom (n + 1) u → HasAnswerRoom n b) → HasAnswerRoom 73 u → length u.queue < 64 → StaysTied s w b k
+begun_tie s k w u b B works rest idle uses keeps busy line less room few x T =
     let U = prepared_tie s k w u B x T in
     let K = keeps x (tied_aside s u k x U) in
-    let done : Result (Unit {0}) (Unit {0}) = Ok tt in
-    let holds = begun_holds done x.place x.number x.view u b U.holds works rest same_room K.holds err busy in
+    let holds = begun_holds x.place x.number x.view u b U.holds works rest same_room K.holds busy in
     record { holds = holds; stands = K.stands s U.stands; own = T.own; order = order_begun_now x.place x.number x.view w u b k B room (T.order.hand (sym (ap (λ (z : Worker). z.winds_down) B.rest) ∙ works)) few rest uses.records line less T.holds holds T.order }
   where
     same_room : (j : ℕ) → is_busy u.places.items j ≡ true → room_at b.index j ≡ room_at u.index j
     same_room j on = uses.others j (λ e. (let both : true ≡ false = sym on ∙ ap (is_busy u.places.items) e ∙ idle in cc both))
-begun_tie (Err y) s k w u b B works rest idle uses keeps err busy line less room few x T = subst (λ (z : Worker). IsTied s z k x) (sym err) (prepared_tie s k w u B x T)
 
-pub accepts_begun : {X Y : Type 0} (r : Result X Y) (s : State) (w u b : Worker) (n k : ℕ) (q : Request) → k ≡ key_of q → IsAsBefore w u → Prepared w u k (wants_room w q) → is_busy u.places.items k ≡ false → OnlyBegins u b → OnOk r (UsesRoom u b (key_of q)) → OnOk r (ByEachView s u (key_of q) (λ v. Begins (IsTelling s) u b (v.cell (key_of q)) n q)) → OnOk r (HoldsOrBeginsByEachView s w b n q)
-accepts_begun (Ok y) s w u b n k q same B P idle rest uses begins = λ x T.
+pub accepts_begun : (s : State) (w u b : Worker) (n : ℕ) (q : Request) → IsAsBefore w u → Prepared w u (key_of q) (wants_room w q) → is_busy w.places.items (key_of q) ≡ false → OnlyBegins u b → UsesRoom u b (key_of q) → ByEachView s u (key_of q) (λ v. Begins (IsTelling s) u b (v.cell (key_of q)) n q) → HoldsOrBeginsByEachView s w b n q
+accepts_begun s w u b n q B P idle rest uses begins x T =
     let U = prepared_tie s (key_of q) w u B x T in
-    let done : Result (Unit {0}) (Unit {0}) = Ok tt in
-    begun_accepts done (IsTelling s) x.view w u b n k q same B P idle rest uses (begins x (tied_aside s u (key_of q) x U) U.stands)
-accepts_begun (Err y) s w u b n k q same B P idle rest uses begins = begins
+    (u, B, P, inr (idle, rest, begins x (tied_aside s u (key_of q) x U) U.stands, uses))
 
 -- what memory was taken for pledges nothing
 pub prepared_room : (w u : Worker) → IsAsBefore w u → HasKeptRoom w → HasKeptRoom u

@@ -14,8 +14,8 @@ use Rattle.lazy_alloc.specs.Sets.{Sets, chunk_is_free, free_chunk_count, free_bl
 use Rattle.group_laws.specs.Places.{Place}
 use Rattle.group_laws.specs.MemberViews.{View}
 use Rattle.batch_leader.specs.declared.taken.Taken.{Taken}
-use Rattle.batch_leader.specs.TakenChanges.{entries_in, spelled}
-use Rattle.batch_leader.specs.Rounds.{is_first, words_in, space}
+use Rattle.batch_leader.specs.TakenChanges.{entries_taken, spelled}
+use Rattle.batch_leader.specs.Rounds.{is_first, words_taken, space}
 use Rattle.batch_leader.specs.Leading.{HasSpace}
 use Rattle.batch_leader.specs.Persisting.{opened_for}
 use Rattle.engine_laws.specs.StockChanges.{lines_in, one_if, Spends}
@@ -36,10 +36,10 @@ some_word e = by e.key e.version e.body where
   by k n (bodies.Embedded u) = omega arith
   by k n bodies.Tombstone = omega arith
 
-some_words : (ts : List Taken) → is_first ts ≡ false → 1 ≤ words_in ts
+some_words : (ts : List Taken) → is_first ts ≡ false → 1 ≤ words_taken ts
 some_words [] e = absurd (cc e)
 some_words (t ∷ ts) e =
-    let words : words_in (t ∷ ts) ≡ length (words_of t.change.entry) + words_in ts = length-append (words_of t.change.entry) (spelled ts) in
+    let words : words_taken (t ∷ ts) ≡ length (words_of t.change.entry) + words_taken ts = length-append (words_of t.change.entry) (spelled ts) in
     let one = some_word t.change.entry in
     omega (arith, words, one)
 
@@ -62,13 +62,13 @@ module _ (p : Place) (m : ℕ) (v u : View) (w x : Worker) (H : Holds p m v w) (
   abbrev taken : List Taken
   taken = P.batch.changes.taken.items
 
-  pub batch_spends : v.flying ≡ entries_in taken → is_first taken ≡ false → HasSpace (room_for w) P.batch.fresh P.batch.own_lines (words_in taken) → Spends p.layout v.took v.flying u.took u.flying (stock_of w) (stock_of x) None
+  pub batch_spends : v.flying ≡ entries_taken taken → is_first taken ≡ false → HasSpace (room_for w) P.batch.fresh P.batch.own_lines (words_taken taken) → Spends p.layout v.took v.flying u.took u.flying (stock_of w) (stock_of x) None
   batch_spends flying some had =
-      let n = words_in taken in
+      let n = words_taken taken in
       let word = some_words taken some in
-      let at = opened_some w.log P.fresh (is_open w P.batch.fresh P.fresh P.batch.own_lines (words_in taken) x.allocator had word P.chunk) in
+      let at = opened_some w.log P.fresh (is_open w P.batch.fresh P.fresh P.batch.own_lines (words_taken taken) x.allocator had word P.chunk) in
       let room = ap room_of P.log ∙ room_appended (opened_for w.log P.fresh) (spelled taken) at.0 at.1 in
-      let is = (space_is w x.allocator P.batch.fresh P.fresh P.batch.own_lines (words_in taken) had P.chunk).0 in
+      let is = (space_is w x.allocator P.batch.fresh P.fresh P.batch.own_lines (words_taken taken) had P.chunk).0 in
       let count = taken_chunks P.batch.fresh w.allocator x.allocator P.fresh P.chunk in
       record {
         opened = P.batch.fresh;
@@ -87,7 +87,7 @@ module _ (p : Place) (m : ℕ) (v u : View) (w x : Worker) (H : Holds p m v w) (
       start_low true e = let a = ap (λ b. cond {A = ℕ} b (payload_lines p.layout) (lines_free w)) e in let b = ap (space (room_for w)) e in let l = ap payload_lines H.log_layout in omega (arith, a, b, l)
       start_low false e = let a = ap (λ b. cond {A = ℕ} b (payload_lines p.layout) (lines_free w)) e in let b = ap (space (room_for w)) e in let low = lines_low w in omega (arith, a, b, low)
 
-      by : (f : Bool) → P.batch.fresh ≡ f → lines_for (words_in taken) ≤ space (room_for w) P.batch.fresh → space (room_for w) P.batch.fresh ≡ room_of (opened_for w.log P.fresh) → room_of x.log ≡ room_of (opened_for w.log P.fresh) - lines_for (words_in taken)
+      by : (f : Bool) → P.batch.fresh ≡ f → lines_for (words_taken taken) ≤ space (room_for w) P.batch.fresh → space (room_for w) P.batch.fresh ≡ room_of (opened_for w.log P.fresh) → room_of x.log ≡ room_of (opened_for w.log P.fresh) - lines_for (words_taken taken)
           → cond {A = ℕ} P.batch.fresh (payload_lines p.layout) (lines_free w) + (lines_in v.took + lines_in u.flying) ≤ lines_free x + (lines_in u.took + lines_in v.flying)
       by f e fits is room =
           let few = batch_few taken in

@@ -1,5 +1,5 @@
 -- What was done is what beginning a request is.
-use Rattle.std.proofs.Common.{◌≡◌, ℕ, ◌+◌, ◌<◌, ◌≤◌, arith, length, length-append, Result, Ok, Err, OnOk, OnErr, inr, ⊎_elim, List, ◌∷◌, [], ◌++◌, Bool, true, false, Option, Some, None, refl, sym, ◌∙◌, ap, subst}
+use Rattle.std.proofs.Common.{◌≡◌, ℕ, ◌+◌, ◌<◌, ◌≤◌, arith, length, length-append, ⊎_elim, List, ◌∷◌, [], ◌++◌, Bool, true, false, Option, Some, None, refl, sym, ◌∙◌, ap, subst}
 use Rattle.std.specs.declared.collections.VecDeque.{VecDeque}
 use Rattle.std.specs.Global.{Global}
 use Rattle.fs_model.specs.declared.model.Request.{Request}
@@ -20,7 +20,7 @@ use Rattle.core_worker.specs.OwnPlaces.{place_at, is_busy, key_in}
 use Rattle.core_worker.specs.KeyTies.{KnowsKey}
 use Rattle.log_standing.specs.NameCounts.{count_in, count_of}
 use Rattle.core_log.specs.declared.types.Room.{Room}
-use Rattle.batch_leader.specs.Rounds.{words_in}
+use Rattle.batch_leader.specs.Rounds.{words_taken}
 use Rattle.batch_leader.specs.Leading.{Suits, HasSpace}
 use Rattle.core_worker.proofs.UnderWay.{told_same}
 use Rattle.core_worker.proofs.CleaningKept.{keeps_counts}
@@ -30,7 +30,7 @@ use Rattle.std.proofs.lemmas.Bool.{cases_eq}
 use Rattle.conflict_queue.specs.Waiting.{AddsLast}
 use Rattle.core_worker.specs.StandingTies.{SameNames}
 use Rattle.core_worker.proofs.NamesStood.{names_same}
-use Rattle.core_worker.specs.Accepting.{IsAsBefore, Prepared, wants_room, HoldsOrBegins}
+use Rattle.core_worker.specs.Accepting.{IsAsBefore}
 use Rattle.group_laws.specs.Places.{Place}
 use Rattle.group_laws.specs.MemberViews.{View}
 use Rattle.core_worker.specs.declared.types.Leading.{Leading}
@@ -52,11 +52,14 @@ module _ (Known : Type 0) (w u : Worker) (cell : Option (List ℕ)) (n : ℕ) (r
   by_why : (x : Option Shortage) → cause ≡ x → BeginsBy Known x w u cell n r → Begins Known w u cell n r
   by_why x is done = subst (λ (s : Bool). BeginsAs Known s w u cell n r) (sym runs) (subst (λ (y : Option Shortage). BeginsBy Known y w u cell n r) (sym is) done)
 
-  pub begins_refused : (o : Option Shortage) (s : Shortage) → o ≡ Some s → o ≡ cause → IsAnswered w u (answer_with n (reply_to s) (Some s)) → Begins Known w u cell n r
-  begins_refused o s is why a = by_why (Some s) (sym why ∙ is) a
+  pub begins_refused : (s : Shortage) → cause ≡ Some s → IsAnswered w u (answer_with n (reply_to s) (Some s)) → Begins Known w u cell n r
+  begins_refused s why a = by_why (Some s) why a
 
-  pub begins_answered : (o : Option Shortage) → o ≡ None → o ≡ cause → is_change r cell ≡ false → (a : Reply) → IsSaid Known r (answer_to r cell) a → IsAnswered w u (answer_with n a None) → Begins Known w u cell n r
-  begins_answered o is why change reply said a = by_why None (sym why ∙ is) (subst (λ (c : Bool). AnswersOrStages Known c w u cell n r) (sym change) (reply, said, a))
+  pub begins_answered : (a : Reply) → cause ≡ None → is_change r cell ≡ false → IsSaid Known r (answer_to r cell) a → IsAnswered w u (answer_with n a None) → Begins Known w u cell n r
+  begins_answered a why change reply said = by_why None why (subst (λ (c : Bool). AnswersOrStages Known c w u cell n r) (sym change) (a, reply, said))
+
+  pub begins_staged : cause ≡ None → is_change r cell ≡ true → IsStaged w u n r → Begins Known w u cell n r
+  begins_staged why change staged = by_why None why (subst (λ (c : Bool). AnswersOrStages Known c w u cell n r) (sym change) staged)
 
 -- an answer more changes none of the ties
 abbrev pub with_answers : Worker → VecDeque Answer Global → Worker
@@ -220,7 +223,7 @@ prepared_holds p m v w u e same more counts tally H = subst (λ (x : Worker). Ho
   by : (l : Leading) → HasSpaceFor (record w { queue = [] }) l → HasSpaceFor (record w { queue = []; answers = u.answers; index = u.index; standing = u.standing }) l
   by (leads.Nothing b) h = tt
   by (leads.Collecting c) h = subst (λ (r : Room). Suits r c) (sym (told_same w u.standing tally)) h
-  by (leads.Batch b) h = subst (λ (r : Room). HasSpace r b.fresh b.own_lines (words_in b.changes.taken.items)) (sym (told_same w u.standing tally)) h
+  by (leads.Batch b) h = subst (λ (r : Room). HasSpace r b.fresh b.own_lines (words_taken b.changes.taken.items)) (sym (told_same w u.standing tally)) h
   by (leads.Persisted x) h = tt
   by (leads.Failed x) h = tt
   by leads.Between h = tt
@@ -289,21 +292,8 @@ held_holds p m v w u q h B more busy adds H =
     (λ on k idle. A.others k (λ same. (let both : true ≡ false = sym busy ∙ ap (is_busy w.places.items) (sym same) ∙ idle in cc both)) ∙ H.waits on k idle))
 
 -- after a request is begun
-begun_aside : {X Y : Type 0} (r : Result X Y) (p : Place) (m : ℕ) (v : View) (u b : Worker) → OnOk r (HoldsAside p m v b) → OnErr r (b ≡ u) → HoldsAside p m v u → HoldsAside p m v b
-begun_aside (Ok x) p m v u b ok err H = ok
-begun_aside (Err y) p m v u b ok err H = subst (λ (z : Worker). HoldsAside p m v z) (sym err) H
-
-begun_busy : {X Y : Type 0} (r : Result X Y) (u b : Worker) → OnOk r ((k : ℕ) → is_busy u.places.items k ≡ true → is_busy b.places.items k ≡ true) → OnErr r (b ≡ u) → (k : ℕ) → is_busy u.places.items k ≡ true → is_busy b.places.items k ≡ true
-begun_busy (Ok x) u b ok err k busy = ok k busy
-begun_busy (Err y) u b ok err k busy = ap (λ (z : Worker). is_busy z.places.items k) err ∙ busy
-
-pub begun_stands : {X Y : Type 0} (r : Result X Y) (s : State) (p : Place) (m : ℕ) (v : View) (u b : Worker) → OnOk r (Stands s p m v b) → OnErr r (b ≡ u) → Stands s p m v u → Stands s p m v b
-begun_stands (Ok x) s p m v u b ok err H = ok
-begun_stands (Err y) s p m v u b ok err H = subst (λ (z : Worker). Stands s p m v z) (sym err) H
-
-pub begun_holds : {X Y : Type 0} (r : Result X Y) (p : Place) (m : ℕ) (v : View) (u b : Worker) → Holds p m v u → u.winds_down ≡ false → OnlyBegins u b → ((k : ℕ) → is_busy u.places.items k ≡ true → room_at b.index k ≡ room_at u.index k) → OnOk r (HoldsAside p m v b) → OnErr r (b ≡ u) → OnOk r ((k : ℕ) → is_busy u.places.items k ≡ true → is_busy b.places.items k ≡ true) → Holds p m v b
-begun_holds r p m v u b H works rest room ok err keeps =
-    let A = begun_aside r p m v u b ok err (aside_of p m v u H) in
+pub begun_holds : (p : Place) (m : ℕ) (v : View) (u b : Worker) → Holds p m v u → u.winds_down ≡ false → OnlyBegins u b → ((k : ℕ) → is_busy u.places.items k ≡ true → room_at b.index k ≡ room_at u.index k) → HoldsAside p m v b → ((k : ℕ) → is_busy u.places.items k ≡ true → is_busy b.places.items k ≡ true) → Holds p m v b
+begun_holds p m v u b H works rest room A keeps =
     let queue : b.queue ≡ u.queue = ap (λ (x : Worker). x.queue) rest in
     of_aside p m v b A
     (λ k busy. by_was k (is_busy u.places.items k) refl (A.admitted k busy) queue)
@@ -314,9 +304,5 @@ begun_holds r p m v u b H works rest room ok err keeps =
     by_was k false e some queue = (let l = ap (λ (q : List Held). length (waiting q k)) queue ∙ ap length (H.waits works k e) in omega (arith, l, some))
 
     was_idle : (k : ℕ) (x : Bool) → is_busy u.places.items k ≡ x → is_busy b.places.items k ≡ false → is_busy u.places.items k ≡ false
-    was_idle k true e idle = absurd (let both : true ≡ false = sym (begun_busy r u b keeps err k e) ∙ idle in cc both)
+    was_idle k true e idle = absurd (let both : true ≡ false = sym (keeps k e) ∙ idle in cc both)
     was_idle k false e idle = e
-
-pub begun_accepts : {X Y : Type 0} (r : Result X Y) (t : Type 0) (v : View) (w u b : Worker) (n k : ℕ) (q : Request) → k ≡ key_of q → IsAsBefore w u → Prepared w u k (wants_room w q) → is_busy u.places.items k ≡ false → OnlyBegins u b → OnOk r (UsesRoom u b (key_of q)) → OnOk r (Begins t u b (v.cell (key_of q)) n q) → OnOk r (HoldsOrBegins t v w b n q)
-begun_accepts (Ok x) t v w u b n k q same B P idle rest uses begins = (u, B, subst (λ (j : ℕ). Prepared w u j (wants_room w q)) same P, inr (ap (λ (y : Worker). is_busy y.places.items (key_of q)) (sym B.rest) ∙ ap (is_busy u.places.items) (sym same) ∙ idle, rest, begins, uses))
-begun_accepts (Err y) t v w u b n k q same B P idle rest uses begins = begins

@@ -3,7 +3,7 @@ use Rattle.std.proofs.Common.{◌≡◌, ◌≢◌, ◌⊎◌, ⊎_elim, inl, in
 use Rattle.log_entry.specs.declared.entry.Entry.{Entry}
 use Rattle.group_laws.specs.MemberViews.{View}
 use Rattle.group_board.specs.Seats.{SeatAt}
-use Rattle.batch_leader.specs.TakenChanges.{entries_in}
+use Rattle.batch_leader.specs.TakenChanges.{entries_taken}
 use Rattle.core_worker.specs.declared.types.Leading.{Leading}
 use Rattle.core_worker.specs.declared.types.Leading.TheVariants as leads
 use Rattle.core_worker.specs.Order.{MayLeadStopped}
@@ -56,7 +56,7 @@ led_flies seat u leads.Between L whole held = absurd L
 -- a stopped core has nothing in flight of what it leads
 pub stopped_flies : (l : Leading) → MayLeadStopped l → in_flight l ≡ []
 stopped_flies (leads.Nothing b) may = refl
-stopped_flies (leads.Collecting c) may = ap entries_in may
+stopped_flies (leads.Collecting c) may = ap entries_taken may
 stopped_flies (leads.Batch b) may = absurd may
 stopped_flies (leads.Persisted x) may = absurd may
 stopped_flies (leads.Failed x) may = refl

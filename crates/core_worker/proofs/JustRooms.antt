@@ -1,5 +1,5 @@
 -- The index has room for just the changes that may come: what each call does to that.
-use Rattle.std.proofs.Common.{◌≡◌, ◌≢◌, ◌⊎◌, inl, inr, ⊎_elim, ℕ, ◌+◌, ◌<◌, ◌≤◌, ◌||◌, Bool, true, false, cond, List, [], ◌∷◌, length, length-append, Result, Ok, Err, OnOk, OnErr, Option, Some, None, refl, sym, ◌∙◌, ap, subst, arith}
+use Rattle.std.proofs.Common.{◌≡◌, ◌≢◌, ◌⊎◌, inl, inr, ⊎_elim, ℕ, ◌+◌, ◌<◌, ◌≤◌, ◌||◌, Bool, true, false, cond, List, [], ◌∷◌, length, length-append, Result, Ok, Err, Option, Some, None, refl, sym, ◌∙◌, ap, subst, arith}
 use Rattle.std.specs.Prelude.{MatchOption, is_some}
 use Rattle.std.proofs.lemmas.Bool.{cases_eq}
 use Rattle.chunk_map.specs.declared.layouts.Geometry.{Geometry}
@@ -176,28 +176,28 @@ module _ (w u b : Worker) (k : ℕ) (wanted : Bool) (B : IsAsBefore w u) (P : Pr
           let same = queue k in
           omega (arith, had, now, more, most, before, after, empty, same)
 
--- where it may have been given back
-pub accepted_just : {X Y : Type 0} (r : Result X Y) (s : State) (w u b : Worker) (q : Request) (wanted : Bool) → IsAsBefore w u → Prepared w u (key_of q) wanted → wanted ≡ wants_room w q → w.winds_down ≡ false → is_busy w.places.items (key_of q) ≡ false → (t : Tie) → IsTied s w (key_of q) t → IsTied s b (key_of q) t → OnlyBegins u b
-    → OnOk r (UsesRoom u b (key_of q)) → OnOk r ((j : ℕ) → is_busy u.places.items j ≡ true → is_busy b.places.items j ≡ true) → OnOk r (KeepsLine u b (key_of q)) → OnErr r (b ≡ u) → OnErr r (may_stage u q ≡ false) → HasJustRoom w → HasJustRoom b
-accepted_just (Ok y) s w u b q wanted B P is works idle t T N only uses busy line err gets J =
+pub accepted_just : (s : State) (w u b : Worker) (q : Request) (wanted : Bool) → IsAsBefore w u → Prepared w u (key_of q) wanted → w.winds_down ≡ false → is_busy w.places.items (key_of q) ≡ false → (t : Tie) → IsTied s w (key_of q) t → IsTied s b (key_of q) t → OnlyBegins u b → UsesRoom u b (key_of q) → ((j : ℕ) → is_busy u.places.items j ≡ true → is_busy b.places.items j ≡ true) → KeepsLine u b (key_of q)
+    → HasJustRoom w → HasJustRoom b
+accepted_just s w u b q wanted B P works idle t T N only uses busy line J =
     just_begun w u b (key_of q) wanted B P idle (T.holds.waits works (key_of q) idle) only uses
     (λ j ne. bool_same (is_busy u.places.items j) (is_busy b.places.items j) (busy j) (line.others j ne))
     (λ on. (let least = N.holds.admitted (key_of q) on in omega (arith, least))) J
-accepted_just (Err y) s w u b q wanted B P is works idle t T N only uses busy line err gets J =
+
+-- it is given back, and no room was made for it
+pub returned_just : (w u : Worker) (q : Request) (wanted : Bool) → IsAsBefore w u → Prepared w u (key_of q) wanted → wanted ≡ wants_room w q → is_busy w.places.items (key_of q) ≡ false → may_stage u q ≡ false → HasJustRoom w → HasJustRoom u
+returned_just w u q wanted B P is idle gets J =
     let none : wanted ≡ false = is ∙ wanted_none (is_busy w.places.items (key_of q)) (may_stage w q) idle (sym (stage_same w u q B.records) ∙ gets) in
     let no_room : cond wanted 1 0 ≡ 0 = ap (λ (x : Bool). cond {A = ℕ} x 1 0) none in
     let more = P.record_room in
-    subst HasJustRoom (sym err) (just_before w u B
-    (λ j. ⊎_elim (λ (e : j ≡ key_of q). subst (λ i. room_at u.index i ≡ room_at w.index i) (sym e) (omega (arith, more, no_room))) (P.others j) (cases_eq j (key_of q))) J)
+    just_before w u B (λ j. ⊎_elim (λ (e : j ≡ key_of q). subst (λ i. room_at u.index i ≡ room_at w.index i) (sym e) (omega (arith, more, no_room))) (P.others j) (cases_eq j (key_of q))) J
 
 -- of one that is answered at once no room is left
-pub accepted_roomy : {X Y : Type 0} (r : Result X Y) (w u b : Worker) (q : Request) (wanted : Bool) → Prepared w u (key_of q) wanted → OnOk r (UsesRoom u b (key_of q)) → OnOk r (is_busy b.places.items (key_of q) ≡ false → (j : ℕ) → room_at b.index j ≤ room_at w.index j)
-accepted_roomy (Ok y) w u b q wanted P uses = λ idle j. ⊎_elim
+pub accepted_roomy : (w u b : Worker) (q : Request) (wanted : Bool) → Prepared w u (key_of q) wanted → UsesRoom u b (key_of q) → is_busy b.places.items (key_of q) ≡ false → (j : ℕ) → room_at b.index j ≤ room_at w.index j
+accepted_roomy w u b q wanted P uses idle j = ⊎_elim
     (λ (same : j ≡ key_of q). subst (λ i. room_at b.index i ≤ room_at w.index i) (sym same)
     (let now = uses.answered idle in let more = P.record_room in let most = one_most wanted in omega (arith, now, more, most)))
     (λ (ne : j ≢ key_of q). (let a = uses.others j ne in let c = P.others j ne in omega (arith, a, c)))
     (cases_eq j (key_of q))
-accepted_roomy (Err y) w u b q wanted P uses = uses
 
 -- The waiting requests of a key are begun.
 

@@ -8,7 +8,7 @@ use Rattle.log_standing.specs.NameCounts.{StandingState, name_eq, copies_at, cou
 use Rattle.log_standing.specs.NameCounts as counts
 use Rattle.log_standing.proofs.Clients.{same_name}
 use Rattle.batch_leader.specs.declared.taken.Taken.{Taken}
-use Rattle.batch_leader.specs.TakenChanges.{entries_in, name_in}
+use Rattle.batch_leader.specs.TakenChanges.{entries_taken, name_in}
 use Rattle.core_worker.specs.StandingTies.{named_in, most_names, AddsNames}
 
 -- 1 where a name is this one
@@ -27,23 +27,23 @@ named_more e es k n = sum_by-cons (λ (x : Entry). cond {A = ℕ} (name_eq (x.ke
   by false = refl
 
 -- the first entries, with one more
-pub named_step : (ts : List Taken) (i : ℕ) (k n : ℕ) → named_in (take (suc i) (entries_in ts)) k n ≡ named_in (take i (entries_in ts)) k n + counts_name (name_in ts i) k n
+pub named_step : (ts : List Taken) (i : ℕ) (k n : ℕ) → named_in (take (suc i) (entries_taken ts)) k n ≡ named_in (take i (entries_taken ts)) k n + counts_name (name_in ts i) k n
 named_step [] zero k n = refl
 named_step [] (suc i) k n = refl
 named_step (t ∷ ts) zero k n = let more = named_more t.change.entry [] k n in omega (arith, more)
 named_step (t ∷ ts) (suc i) k n =
     let rest = named_step ts i k n in
-    let one = named_more t.change.entry (take (suc i) (entries_in ts)) k n in
-    let two = named_more t.change.entry (take i (entries_in ts)) k n in
+    let one = named_more t.change.entry (take (suc i) (entries_taken ts)) k n in
+    let two = named_more t.change.entry (take i (entries_taken ts)) k n in
     omega (arith, rest, one, two)
 
 pub record AddsSoFar (ts : List Taken) (i : ℕ) (old st : StandingState) : Type 0 where
-  pub counts : (k n : ℕ) → count_of st k n ≡ count_of old k n + named_in (take i (entries_in ts)) k n
+  pub counts : (k n : ℕ) → count_of st k n ≡ count_of old k n + named_in (take i (entries_taken ts)) k n
   pub told : (k n : ℕ) → is_told st k n ≡ is_told old k n
   pub settled : st.settled ≡ old.settled
   pub room : most_names ≤ st.room + i
   pub many : length st.entries ≤ length old.entries + min i (length ts)
-  pub spots : (k n : ℕ) → named_in (take i (entries_in ts)) k n ≡ 0 → spot_of st k n ≡ spot_of old k n
+  pub spots : (k n : ℕ) → named_in (take i (entries_taken ts)) k n ≡ 0 → spot_of st k n ≡ spot_of old k n
   pub floors : st.floors ≡ old.floors
 
 pub adds_first : (ts : List Taken) (st : StandingState) → most_names ≤ st.room → AddsSoFar ts 0 st st
@@ -66,8 +66,8 @@ counts_more ts i old st new name is so one = let lt = name_within ts i name is i
   name_within (x ∷ xs) (suc j) n is = let rest = name_within xs j n is in omega (arith, rest)
 
 module _ (ts : List Taken) (i : ℕ) (old st : StandingState) (S : AddsSoFar ts i old st) where
-  taken_more : (x : Option EntryName) → name_in ts i ≡ x → (k n : ℕ) → named_in (take (i + 1) (entries_in ts)) k n ≡ named_in (take i (entries_in ts)) k n + counts_name x k n
-  taken_more x is k n = ap (λ (j : ℕ). named_in (take j (entries_in ts)) k n) (let e : i + 1 ≡ suc i = omega arith in e) ∙ named_step ts i k n ∙ ap (λ (y : Option EntryName). named_in (take i (entries_in ts)) k n + counts_name y k n) is
+  taken_more : (x : Option EntryName) → name_in ts i ≡ x → (k n : ℕ) → named_in (take (i + 1) (entries_taken ts)) k n ≡ named_in (take i (entries_taken ts)) k n + counts_name x k n
+  taken_more x is k n = ap (λ (j : ℕ). named_in (take j (entries_taken ts)) k n) (let e : i + 1 ≡ suc i = omega arith in e) ∙ named_step ts i k n ∙ ap (λ (y : Option EntryName). named_in (take i (entries_taken ts)) k n + counts_name y k n) is
 
   -- there is none any more
   pub adds_none : name_in ts i ≡ None → AddsSoFar ts (i + 1) old st
@@ -122,14 +122,14 @@ take_all [] (suc i) le = refl
 take_all (e ∷ es) zero le = absurd (omega (arith, le))
 take_all (e ∷ es) (suc i) le = ap (λ (xs : List Entry). e ∷ xs) (take_all es i (omega (arith, le)))
 
-pub adds_all : (ts : List Taken) (old st : StandingState) → length ts ≤ most_names → AddsSoFar ts 64 old st → AddsNames old st (entries_in ts)
+pub adds_all : (ts : List Taken) (old st : StandingState) → length ts ≤ most_names → AddsSoFar ts 64 old st → AddsNames old st (entries_taken ts)
 adds_all ts old st few S = record {
-  counts = λ k n. S.counts k n ∙ ap (λ (es : List Entry). count_of old k n + named_in es k n) (take_all (entries_in ts) 64 (let long = length_entries ts in omega (arith, long, few)));
+  counts = λ k n. S.counts k n ∙ ap (λ (es : List Entry). count_of old k n + named_in es k n) (take_all (entries_taken ts) 64 (let long = length_entries ts in omega (arith, long, few)));
   told = S.told;
   settled = S.settled;
-  spots = λ k n none. S.spots k n (ap (λ (es : List Entry). named_in es k n) (take_all (entries_in ts) 64 (let long = length_entries ts in omega (arith, long, few))) ∙ none);
+  spots = λ k n none. S.spots k n (ap (λ (es : List Entry). named_in es k n) (take_all (entries_taken ts) 64 (let long = length_entries ts in omega (arith, long, few))) ∙ none);
   floors = S.floors;
 } where
-  length_entries : (xs : List Taken) → length (entries_in xs) ≡ length xs
+  length_entries : (xs : List Taken) → length (entries_taken xs) ≡ length xs
   length_entries [] = refl
   length_entries (x ∷ xs) = let rest = length_entries xs in omega (arith, rest)

@@ -9,7 +9,7 @@ use Rattle.group_laws.proofs.Clients.{In-append}
 use Rattle.group_board.specs.Assurances.{LacksName}
 use Rattle.group_board.specs.Views.{IsTidyIn}
 use Rattle.batch_leader.specs.declared.taken.Taken.{Taken}
-use Rattle.batch_leader.specs.TakenChanges.{entries_in}
+use Rattle.batch_leader.specs.TakenChanges.{entries_taken}
 use Rattle.batch_leader.specs.Leading.{AreUnlogged, AreNamedApart}
 use Rattle.core_worker.specs.StandingTies.{NamesAgree}
 
@@ -35,7 +35,7 @@ lacks kept (x ∷ es) all e f has_e has_f key version = ⊎_elim
     has_f
 
 -- none of what was taken has the name of a certain entry
-pub lacks_taken : (m : ℕ) (v : View) (ts : List Taken) → AreUnlogged m v ts → AllByRecursion (LacksName v.kept) (entries_in ts)
+pub lacks_taken : (m : ℕ) (v : View) (ts : List Taken) → AreUnlogged m v ts → AllByRecursion (LacksName v.kept) (entries_taken ts)
 lacks_taken m v [] all = all
 lacks_taken m v (t ∷ ts) all = (all.0.new, lacks_taken m v ts all.1)
 

@@ -7,7 +7,7 @@ use Rattle.group_laws.specs.MemberViews.{View}
 use Rattle.core_worker.specs.declared.types.Leading.{Leading}
 use Rattle.core_worker.specs.declared.types.Leading.TheVariants as leads
 use Rattle.core_log.specs.declared.types.Room.{Room}
-use Rattle.batch_leader.specs.Rounds.{words_in}
+use Rattle.batch_leader.specs.Rounds.{words_taken}
 use Rattle.batch_leader.specs.Leading.{Suits, HasSpace}
 use Rattle.core_worker.specs.Status.{is_leading}
 use Rattle.core_worker.specs.Supplies.{room_for, HasKeptRoom}
@@ -25,7 +25,7 @@ use Rattle.core_worker.proofs.NamesStood.{names_same}
 space : (w : Worker) (st : StandingState) (winds : Bool) → (is_leading w.leading ≡ true → room_for (record w { standing = st; winds_down = winds }) ≡ room_for w) → (l : Leading) → w.leading ≡ l → HasSpaceFor w l → HasSpaceFor (record w { standing = st; winds_down = winds }) l
 space w st winds room (leads.Nothing b) e h = tt
 space w st winds room (leads.Collecting c) e h = subst (λ (r : Room). Suits r c) (sym (room (ap is_leading e))) h
-space w st winds room (leads.Batch b) e h = subst (λ (r : Room). HasSpace r b.fresh b.own_lines (words_in b.changes.taken.items)) (sym (room (ap is_leading e))) h
+space w st winds room (leads.Batch b) e h = subst (λ (r : Room). HasSpace r b.fresh b.own_lines (words_taken b.changes.taken.items)) (sym (room (ap is_leading e))) h
 space w st winds room (leads.Persisted x) e h = tt
 space w st winds room (leads.Failed x) e h = tt
 space w st winds room leads.Between e h = tt

@@ -20,8 +20,8 @@ use Rattle.lazy_alloc.specs.Written.{WroteValue}
 use Rattle.lazy_alloc.proofs.Clients.{blocks_same, free_block, lies_at, count_none}
 use Rattle.store_image.specs.Parts.{chunk_units}
 use Rattle.batch_leader.specs.declared.taken.Taken.{Taken}
-use Rattle.batch_leader.specs.TakenChanges.{entries_in, spelled}
-use Rattle.batch_leader.specs.Rounds.{words_in}
+use Rattle.batch_leader.specs.TakenChanges.{entries_taken, spelled}
+use Rattle.batch_leader.specs.Rounds.{words_taken}
 use Rattle.engine_laws.specs.FreeStock.{Stock, IsAtLeast}
 use Rattle.engine_laws.specs.StockChanges.{lines_in, one_if, is_cut_for, puts_in, Spends, lines_of, parts_of}
 use Rattle.core_log.specs.Log.{LogState, lines_left, room_of}
@@ -147,12 +147,12 @@ entry_needs l e value large is points = by e.key e.version e.body is points wher
   by k n (bodies.Embedded u) is points = let short = is.fits.2 in let lines = embedded_lines k n u (omega (arith, short)) in let needs = embedded_needs l k u large (omega (arith, short)) in omega (arith, lines, needs)
 
 -- a batch takes no more lines than its entries do, each by itself
-pub batch_few : (ts : List Taken) → lines_for (words_in ts) ≤ lines_in (entries_in ts)
+pub batch_few : (ts : List Taken) → lines_for (words_taken ts) ≤ lines_in (entries_taken ts)
 batch_few [] = omega arith
 batch_few (t ∷ ts) =
     let rest = batch_few ts in
-    let words : words_in (t ∷ ts) ≡ length (words_of t.change.entry) + words_in ts = length-append (words_of t.change.entry) (spelled ts) in
-    let lines : lines_in (entries_in (t ∷ ts)) ≡ lines_in (t.change.entry ∷ []) + lines_in (entries_in ts) = sum_by-append _ (t.change.entry ∷ []) (entries_in ts) in
+    let words : words_taken (t ∷ ts) ≡ length (words_of t.change.entry) + words_taken ts = length-append (words_of t.change.entry) (spelled ts) in
+    let lines : lines_in (entries_taken (t ∷ ts)) ≡ lines_in (t.change.entry ∷ []) + lines_in (entries_taken ts) = sum_by-append _ (t.change.entry ∷ []) (entries_taken ts) in
     let one : lines_in (t.change.entry ∷ []) ≡ lines_for (length (words_of t.change.entry)) = omega arith in
     omega (arith, rest, words, lines, one)
 

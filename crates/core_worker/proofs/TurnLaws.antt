@@ -14,7 +14,7 @@ use Rattle.group_board.specs.Seats.{SeatAt}
 use Rattle.group_board.specs.Views.{after_commit}
 use Rattle.licence.specs.Licence.{Licensed, part_at, part_end}
 use Rattle.licence.proofs.Clients.{allowed}
-use Rattle.batch_leader.specs.TakenChanges.{entries_in, taken_in}
+use Rattle.batch_leader.specs.TakenChanges.{entries_taken, taken_in}
 use Rattle.batch_leader.specs.Persisting.{StaysLicensed, WritesPart}
 use Rattle.batch_leader.proofs.Clients.{runs_then, no_steps}
 use Rattle.core_worker.specs.declared.types.Place as places
@@ -31,8 +31,7 @@ use Rattle.core_worker.specs.StandingTies.{KnowsDead, NamesAgree, most_names}
 use Rattle.core_worker.proofs.NamesKnown.{dead_added}
 use Rattle.core_worker.specs.Ties.{Leads, LeadsAt, LeadsNothing, HoldsAt, StandsAt, KeepsFlight, KeepsStanding}
 use Rattle.batch_leader.specs.declared.taken.Taken.{Taken}
-use Rattle.batch_leader.specs.TakenChanges.{entries_in}
-use Rattle.batch_leader.specs.Rounds.{is_first, words_in}
+use Rattle.batch_leader.specs.Rounds.{is_first, words_taken}
 use Rattle.batch_leader.specs.Leading.{HasSpace}
 use Rattle.core_worker.specs.Ties.{HasSpaceFor}
 use Rattle.core_worker.specs.Supplies.{room_for}
@@ -144,19 +143,19 @@ module _ (seat : SeatAt) (s t : State) (before after : Option Group) (v u : View
     agreed =
         let had = led_here seat v w.leading (leads.Batch P.batch) H.leads P.led in
         subst (λ (es : List Entry). NamesAgree seat.place seat.number (v.kept ++ es) v.present v.told v.dead) (sym had.0.flying)
-        (agrees_added seat.place seat.number v.kept (entries_in P.batch.changes.taken.items) v.present v.told v.dead O.agrees (lacks_taken seat.number v P.batch.changes.taken.items had.0.unlogged) had.0.named)
+        (agrees_added seat.place seat.number v.kept (entries_taken P.batch.changes.taken.items) v.present v.told v.dead O.agrees (lacks_taken seat.number v P.batch.changes.taken.items had.0.unlogged) had.0.named)
 
     known : w.winds_down ≡ false → KnowsDead seat.number (v.kept ++ v.flying) v.present v.told v.dead x.standing
     known on =
         let had = led_here seat v w.leading (leads.Batch P.batch) H.leads P.led in
         subst (λ (es : List Entry). KnowsDead seat.number (v.kept ++ es) v.present v.told v.dead x.standing) (sym had.0.flying)
-        (dead_added seat.number v.kept (entries_in P.batch.changes.taken.items) v.present v.told v.dead w.standing x.standing (P.names on) (O.log runs on))
+        (dead_added seat.number v.kept (entries_taken P.batch.changes.taken.items) v.present v.told v.dead w.standing x.standing (P.names on) (O.log runs on))
 
     taken : List Taken
     taken = P.batch.changes.taken.items
 
     -- what was in flight
-    flying : v.flying ≡ entries_in taken
+    flying : v.flying ≡ entries_taken taken
     flying = (led_here seat v w.leading (leads.Batch P.batch) H.leads P.led).0.flying
 
     some_taken : is_first taken ≡ false
@@ -165,7 +164,7 @@ module _ (seat : SeatAt) (s t : State) (before after : Option Group) (v u : View
       by [] some = absurd (some refl)
       by (t ∷ ts) some = refl
 
-    space_had : HasSpace (room_for w) P.batch.fresh P.batch.own_lines (words_in taken)
+    space_had : HasSpace (room_for w) P.batch.fresh P.batch.own_lines (words_taken taken)
     space_had = subst (HasSpaceFor w) P.led (H.space runs)
 
     wrote : Spends seat.place.layout v.took v.flying u.took u.flying (stock_of w) (stock_of x) None

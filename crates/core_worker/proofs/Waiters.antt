@@ -9,7 +9,7 @@ use Rattle.conflict_queue.specs.Waiting.{waiting, TakesFirst}
 use Rattle.group_laws.specs.Places.{Place, owner}
 use Rattle.group_laws.specs.MemberViews.{View}
 use Rattle.core_log.specs.declared.types.Room.{Room}
-use Rattle.batch_leader.specs.Rounds.{words_in}
+use Rattle.batch_leader.specs.Rounds.{words_taken}
 use Rattle.batch_leader.specs.Leading.{Suits, HasSpace}
 use Rattle.core_worker.specs.Status.{is_leading}
 use Rattle.core_worker.proofs.CleaningKept.{keeps_winds, led_room}
@@ -65,7 +65,7 @@ aside_other p m v w q h b works H = record {
   by : (l : Leading) → w.leading ≡ l → HasSpaceFor (record w { queue = [] }) l → HasSpaceFor (record w { queue = []; in_hand = h; winds_down = b }) l
   by (leads.Nothing x) e h = tt
   by (leads.Collecting c) e h = subst (λ (r : Room). Suits r c) (sym (led_room p m v w w.standing b works H.cleaning (ap is_leading e))) h
-  by (leads.Batch x) e h = subst (λ (r : Room). HasSpace r x.fresh x.own_lines (words_in x.changes.taken.items)) (sym (led_room p m v w w.standing b works H.cleaning (ap is_leading e))) h
+  by (leads.Batch x) e h = subst (λ (r : Room). HasSpace r x.fresh x.own_lines (words_taken x.changes.taken.items)) (sym (led_room p m v w w.standing b works H.cleaning (ap is_leading e))) h
   by (leads.Persisted x) e h = tt
   by (leads.Failed x) e h = tt
   by leads.Between e h = tt

@@ -9,7 +9,7 @@ use Rattle.core_worker.specs.declared.types.Answer.{Answer}
 use Rattle.core_worker.specs.declared.types.Leading.{Leading}
 use Rattle.core_worker.specs.declared.types.Leading.TheVariants as leads
 use Rattle.core_log.specs.declared.types.Room.{Room}
-use Rattle.batch_leader.specs.Rounds.{words_in}
+use Rattle.batch_leader.specs.Rounds.{words_taken}
 use Rattle.batch_leader.specs.Leading.{Suits, HasSpace}
 use Rattle.core_worker.specs.Supplies.{room_for}
 use Rattle.core_worker.specs.Status.{is_leading}
@@ -29,7 +29,7 @@ given_stands s p m v w a S = answered_stands s p m v w (with_answers w a) refl S
 space : (w : Worker) → (is_leading w.leading ≡ true → room_for (record w { winds_down = true }) ≡ room_for w) → (l : Leading) → w.leading ≡ l → HasSpaceFor w l → HasSpaceFor (record w { winds_down = true }) l
 space w room (leads.Nothing b) e h = tt
 space w room (leads.Collecting c) e h = subst (λ (r : Room). Suits r c) (sym (room (ap is_leading e))) h
-space w room (leads.Batch b) e h = subst (λ (r : Room). HasSpace r b.fresh b.own_lines (words_in b.changes.taken.items)) (sym (room (ap is_leading e))) h
+space w room (leads.Batch b) e h = subst (λ (r : Room). HasSpace r b.fresh b.own_lines (words_taken b.changes.taken.items)) (sym (room (ap is_leading e))) h
 space w room (leads.Persisted x) e h = tt
 space w room (leads.Failed x) e h = tt
 space w room leads.Between e h = tt

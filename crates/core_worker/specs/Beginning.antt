@@ -18,14 +18,14 @@ use Rattle.core_index.specs.Records.{last_of}
 use Rattle.lazy_alloc.specs.Sets.{Takes}
 use Rattle.group_laws.specs.MemberViews.{View}
 use Rattle.group_laws.specs.Places as places
-use Rattle.core_worker.specs.Ties.{Holds, Tie, StandsBy}
+use Rattle.core_worker.specs.Ties.{Holds, Tie, StandsBy, LeadsNothing}
 use Rattle.core_worker.specs.declared.types.Answer.{Answer}
 use Rattle.core_room.specs.declared.types.Shortage.{Shortage}
 use Rattle.core_worker.specs.declared.types.Place.{Place}
 use Rattle.core_worker.specs.declared.types.Place.TheVariants.{Free, Staged}
 use Rattle.core_worker.specs.declared.worker.Worker.{Worker}
 use Rattle.core_worker.specs.OwnPlaces.{place_at, is_free, is_busy, IsLowest, Replaces, request_by}
-use Rattle.core_worker.specs.Supplies.{supply_of, why}
+use Rattle.core_worker.specs.Supplies.{supply_of, why, HasKeptRoom}
 use Rattle.core_room.specs.RoomRule.{may_cut}
 use Rattle.core_room.specs.Lengths.{class_for, lines_needed}
 
@@ -135,6 +135,22 @@ pub record IsStaged (old new : Worker) (number : ℕ) (r : Request) : Type 0 whe
   pub asks : request_by entry.key value entry.body ≡ r
   pub block : TakesFor old new (length value) entry.body
   pub records : (k : ℕ) → known_at new.index k ≡ known_at old.index k
+
+-- A change of the key may be staged: its member's worker runs and leads nothing, none is under way, and a place is free and the room for a record is there.
+pub record TakesChange (w : Worker) (k : ℕ) : Type 0 where
+  pub held : IsAside w k
+  pub runs : w.stopped ≡ false
+  pub nothing : LeadsNothing w
+  pub idle : is_busy w.places.items k ≡ false
+  pub room : 0 < room_at w.index k
+  pub place : HasFree w.places.items
+
+-- The request was staged, and nothing else. What was tied stays tied, and the room rule holds.
+pub record StagesChange (old new : Worker) (number : ℕ) (r : Request) : Type 0 where
+  pub keeps : KeepsTies old new (key_of r)
+  pub staged : IsStaged old new number r
+  pub rule : HasKeptRoom new
+  pub rest : OnlyStages old new
 
 -- The request was answered by its cell, as far as what the region has is known, or staged where it changes something.
 abbrev pub AnswersOrStages : Type 0 → Bool → Worker → Worker → Option (List ℕ) → ℕ → Request → Type 0

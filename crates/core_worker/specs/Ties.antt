@@ -17,9 +17,9 @@ use Rattle.group_laws.specs.MemberViews.{View}
 use Rattle.licence.specs.Licence.{Licensed, grounded}
 use Rattle.group_board.specs.Seats.{SeatAt}
 use Rattle.batch_leader.specs.declared.batch_buffer.BatchBuffer.{BatchBuffer}
-use Rattle.batch_leader.specs.Rounds.{words_in}
+use Rattle.batch_leader.specs.Rounds.{words_taken}
 use Rattle.batch_leader.specs.Leading.{Collects, IsBatchOf, IsCertain, IsLost, Suits, HasSpace, taken_by}
-use Rattle.batch_leader.specs.TakenChanges.{entries_in}
+use Rattle.batch_leader.specs.TakenChanges.{entries_taken}
 use Rattle.core_worker.specs.declared.types.Leading.{Leading}
 use Rattle.core_worker.specs.declared.types.Leading.TheVariants as leads
 use Rattle.group_laws.specs.declared.types.Pending.{Pending}
@@ -57,7 +57,7 @@ abbrev pub HasSpaceFor : Worker → Leading → Type 0
 HasSpaceFor w (leads.Nothing buffer) = Unit {0}
 HasSpaceFor w (leads.Collecting c) = Suits (room_for w) c
 HasSpaceFor w (leads.Batch b) = HasSpace (room_for w) b.fresh b.own_lines
-    (words_in b.changes.taken.items)
+    (words_taken b.changes.taken.items)
 HasSpaceFor w (leads.Persisted x) = Unit {0}
 HasSpaceFor w (leads.Failed x) = Unit {0}
 HasSpaceFor w leads.Between = Unit {0}
@@ -74,8 +74,8 @@ is_lost leads.Between = false
 -- what is in flight of what the core leads: what it took and has not written
 abbrev pub in_flight : Leading → List Entry
 in_flight (leads.Nothing buffer) = []
-in_flight (leads.Collecting c) = entries_in (taken_by c)
-in_flight (leads.Batch b) = entries_in b.changes.taken.items
+in_flight (leads.Collecting c) = entries_taken (taken_by c)
+in_flight (leads.Batch b) = entries_taken b.changes.taken.items
 in_flight (leads.Persisted x) = []
 in_flight (leads.Failed x) = []
 in_flight leads.Between = []

@@ -21,7 +21,7 @@ use Rattle.log_cleaner.specs.declared.types.Victim.{Victim}
 use Rattle.group_laws.specs.MemberViews.{View}
 use Rattle.group_board.specs.Views.{after_post, after_lock, after_find, after_unlock, after_commit, after_mark, after_fail, after_send}
 use Rattle.group_board.specs.Seats.{SeatAt}
-use Rattle.batch_leader.specs.TakenChanges.{entries_in, spelled, taken_in}
+use Rattle.batch_leader.specs.TakenChanges.{entries_taken, spelled, taken_in}
 use Rattle.batch_leader.specs.Leading.{MakesAll, Went, IsReleased, IsOver, SawPassed}
 use Rattle.batch_leader.specs.Persisting.{opened_for}
 use Rattle.batch_leader.specs.declared.states.Collecting.{Collecting}
@@ -156,7 +156,7 @@ pub record Persists (m : ℕ) (a b : Moment) : Type 0 where
   pub view : b.view ≡ after_commit a.view
   -- the names stand in the log now; for the next batch there may be no memory
   pub names : a.worker.winds_down ≡ false → AddsNames a.worker.standing b.worker.standing
-      (entries_in batch.changes.taken.items)
+      (entries_taken batch.changes.taken.items)
   pub stands : length b.worker.standing.entries
       ≤ length a.worker.standing.entries + length batch.changes.taken.items
   pub winds : a.worker.winds_down ≡ true → b.worker.winds_down ≡ true

@@ -2,7 +2,6 @@
 ghost use Rattle.std.specs.Prelude.{◌≡◌, ◌≢◌, ◌⊎◌, ℕ, ◌+◌, ◌<◌, ◌≤◌, List, [], ◌∷◌, length, Option, Some, None, true, false, IfOk, IfErr, OnOk, OnErr, if◌then◌else◌};
 ghost use Rattle.pm_region.specs.State.{State, IsTelling};
 ghost use Rattle.fs_model.specs.Cells.{key_of};
-ghost use Rattle.conflict_queue.specs.Waiting.{AddsLast, held_with};
 ghost use Rattle.core_index.specs.Index.{known_at, room_at};
 ghost use Rattle.batch_leader.specs.declared.batch_buffer.BatchBuffer.{BatchBuffer};
 ghost use Rattle.core_worker.specs.declared.types.Leading.TheVariants as leads;
@@ -11,9 +10,9 @@ ghost use Rattle.core_worker.specs.IndexRoom.{HasJustRoom};
 ghost use Rattle.core_worker.specs.Plans.{may_stage};
 ghost use Rattle.core_worker.specs.Supplies.{HasKeptRoom};
 ghost use Rattle.core_worker.specs.Refusals.{HasAnswerRoom};
-ghost use Rattle.core_worker.specs.Accepting.{Admits, Prepared, HasTie, HoldsOrBeginsByEachView, StaysTied, AcceptsByEachView, AcceptMoves, IsAsBefore, wants_room};
+ghost use Rattle.core_worker.specs.Accepting.{Admits, Prepared, HasTie, StaysTied, AcceptsByEachView, AcceptMoves, IsAsBefore, wants_room};
 ghost use Rattle.core_worker.specs.Status.{has_room, is_leading};
-ghost use Rattle.core_worker.specs.Left.{left, most, waits_left, StartsFirst};
+ghost use Rattle.core_worker.specs.Left.{left, most, StartsFirst};
 
 use crate::batch_names::MOST_NAMES;
 use crate::status::WAITING;
@@ -101,52 +100,6 @@ impl Worker {
         self.admit(alloc, key, wanted)
     }
 
-    // Holds a request for a key with a change under way, and begins any other.
-    fn hold_or_begin<R: Region>(
-        &mut self,
-        alloc: Global,
-        region: &R,
-        number: u64,
-        request: Request,
-    ) -> Result<(), NotAccepted>
-        requires tied { HasTie (R.state region.now) self.old (key_of request) }
-        requires room { has_room self.old ≡ true }
-        requires free { is_leading self.old.leading ≡ false }
-        requires works { self.old.winds_down ≡ false }
-        ensures ties { StaysTied (R.state region.now) self.old self.new (key_of request) }
-        ensures accepts { OnOk result
-            (HoldsOrBeginsByEachView (R.state region.now) self.old self.new number request) }
-        ensures rule { HasKeptRoom self.old → HasKeptRoom self.new }
-        ensures given_back { IfErr result (λ back. back.request ≡ request) }
-        ensures unchanged { OnErr result (IsAsBefore self.old self.new) }
-        ensures moves { OnOk result (AcceptMoves (R.state region.now) self.old self.new
-            (key_of request) ((number, request) ∷ [])) }
-        ensures stays { OnErr result (AcceptMoves (R.state region.now) self.old self.new
-            (key_of request) []) }
-        ensures most { OnOk result (left self.new ≤ left self.old + waits_left) }
-        ensures starts { StartsFirst self.old → StartsFirst self.new }
-        ensures just { HasJustRoom self.old → HasJustRoom self.new }
-        ensures roomy { OnOk result (is_busy self.new.places.items (key_of request) ≡ false
-            → (k : ℕ) → room_at self.new.index k ≤ room_at self.old.index k) }
-        ensures works { self.new.winds_down ≡ self.old.winds_down }
-        ensures runs { self.new.stopped ≡ self.old.stopped }
-    {
-        let key = request.key();
-        let wanted = self.wants_room(&request);
-        if !self.prepare(alloc, key, wanted) {
-            return Err(NotAccepted { request });
-        }
-        if is_busy(&self.places, key) {
-            return match self.queue.hold(number, request) {
-                Ok(()) => Ok(()),
-                Err(full) => Err(NotAccepted {
-                    request: full.request,
-                }),
-            };
-        }
-        self.begin(alloc, region, number, request)
-    }
-
     /// Accepts a request. One for a key with a change under way is held; any other is begun. Where there is no memory
     /// for it the request comes back, and nothing is answered, held or staged. Of one that is answered at once nothing is
     /// kept: the index has room for changes that stand in a place and requests that wait, and for no others.
@@ -179,14 +132,17 @@ impl Worker {
         ensures works { self.new.winds_down ≡ self.old.winds_down }
         ensures runs { self.new.stopped ≡ self.old.stopped }
     {
-        match self.hold_or_begin(alloc, region, number, request) {
-            Ok(()) => {
-                self.accepted = true;
-                return Ok(());
-            }
-            Err(back) => {
-                return Err(back);
-            }
+        let key = request.key();
+        let wanted = self.wants_room(&request);
+        if !self.prepare(alloc, key, wanted) {
+            return Err(NotAccepted { request });
         }
+        if is_busy(&self.places, key) {
+            self.queue.hold(number, request)?;
+        } else {
+            self.begin(alloc, region, number, request)?;
+        }
+        self.accepted = true;
+        Ok(())
     }
 }

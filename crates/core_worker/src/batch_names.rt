@@ -1,6 +1,6 @@
 // The names of a batch's entries, which stand in the own log once it is certain.
 ghost use Rattle.std.specs.Prelude.{◌≡◌, ◌+◌, ◌≤◌, true, false, length, OnOk, OnErr};
-ghost use Rattle.batch_leader.specs.TakenChanges.{entries_in};
+ghost use Rattle.batch_leader.specs.TakenChanges.{entries_taken};
 ghost use Rattle.core_worker.specs.StandingTies.{AddsNames, SameNames, most_names};
 
 use crate::worker::Worker;
@@ -16,7 +16,7 @@ pub(crate) const MOST_NAMES: u64 = MOST_ENTRIES as u64;
 fn add_names(standing: &mut Standing, batch: &Batch)
     requires room { most_names ≤ standing.old.room }
     ensures adds { AddsNames standing.old standing.new
-        (entries_in batch.now.changes.taken.items) }
+        (entries_taken batch.now.changes.taken.items) }
     ensures count { length standing.new.entries
         ≤ length standing.old.entries + length batch.now.changes.taken.items }
 {
@@ -31,7 +31,7 @@ fn add_names(standing: &mut Standing, batch: &Batch)
 pub(crate) fn note_names(standing: &mut Standing, batch: &Batch, needed: bool)
     requires room { needed ≡ true → most_names ≤ standing.old.room }
     ensures adds { needed ≡ true → AddsNames standing.old standing.new
-        (entries_in batch.now.changes.taken.items) }
+        (entries_taken batch.now.changes.taken.items) }
     ensures count { length standing.new.entries
         ≤ length standing.old.entries + length batch.now.changes.taken.items }
 {

@@ -43,7 +43,7 @@ impl Worker {
         self.accepted && self.allocator.free_chunks() <= 1
     }
 
-    // BeginsAtMostOne the cleaning of a chunk. Where there is no memory for it, nothing is another one.
+    // Begins the cleaning of a chunk. Where there is no memory for it, nothing is another one.
     fn begin_with(&mut self, alloc: Global, begun: Begun) -> Result<(), Memory>
         ensures begins { OnOk result (BeginsWith begun self.old self.new) }
         ensures memory { OnErr result (self.new ≡ self.old) }
@@ -64,7 +64,7 @@ impl Worker {
         Ok(())
     }
 
-    // BeginsAtMostOne a cleaning of the next victim, where one may begin. Where there is no memory for it the core winds down.
+    // Begins a cleaning of the next victim, where one may begin. Where there is no memory for it the core winds down.
     pub(crate) fn begin_next<R: Region>(
         &mut self,
         alloc: Global,

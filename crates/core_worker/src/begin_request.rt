@@ -14,8 +14,7 @@ ghost use Rattle.core_worker.specs.Supplies.{HasKeptRoom};
 ghost use Rattle.core_worker.specs.Plans.{PutsBeside, PutsInBlock, Deletes, may_stage};
 ghost use Rattle.core_worker.specs.Refusals.{HasAnswerRoom};
 ghost use Rattle.core_worker.specs.Answering.{IsSaid};
-ghost use Rattle.core_worker.specs.Beginning.{answer_with, HasFree, IsAside, StandsAside, KeepsTies, ByEachView, OnlyAnswers, OnlyStages, OnlyBegins, IsStaged, Begins, UsesRoom};
-ghost use Rattle.core_worker.specs.Ties.{LeadsNothing};
+ghost use Rattle.core_worker.specs.Beginning.{answer_with, HasFree, StandsAside, KeepsTies, ByEachView, OnlyAnswers, OnlyBegins, TakesChange, StagesChange, Begins, UsesRoom};
 ghost use Rattle.core_worker.specs.Serving.{KeepsLine, LeadsNothingYet};
 ghost use Rattle.core_worker.specs.Left.{left, staged_left};
 
@@ -118,17 +117,9 @@ impl Worker {
 
     // Stages a put of a value that stands beside its key.
     fn stage_beside(&mut self, alloc: Global, number: u64, key: Key, value: Value, version: Version)
-        requires held { IsAside self.old key }
-        requires runs { self.old.stopped ≡ false }
-        requires nothing { LeadsNothing self.old }
-        requires idle { is_busy self.old.places.items key ≡ false }
-        requires room { 0 < room_at self.old.index key }
-        requires place { HasFree self.old.places.items }
+        requires may { TakesChange self.old key }
         requires planned { PutsBeside self.old key value version }
-        ensures keeps { KeepsTies self.old self.new key }
-        ensures staged { IsStaged self.old self.new number (requests.Put key value) }
-        ensures rule { HasKeptRoom self.new }
-        ensures rest { OnlyStages self.old self.new }
+        ensures { StagesChange self.old self.new number (requests.Put key value) }
     {
         let entry = Entry {
             key,
@@ -148,17 +139,9 @@ impl Worker {
         class: u32,
         may_cut: bool,
     )
-        requires held { IsAside self.old key }
-        requires runs { self.old.stopped ≡ false }
-        requires nothing { LeadsNothing self.old }
-        requires idle { is_busy self.old.places.items key ≡ false }
-        requires room { 0 < room_at self.old.index key }
-        requires place { HasFree self.old.places.items }
+        requires may { TakesChange self.old key }
         requires planned { PutsInBlock self.old key value version class may_cut }
-        ensures keeps { KeepsTies self.old self.new key }
-        ensures staged { IsStaged self.old self.new number (requests.Put key value) }
-        ensures rule { HasKeptRoom self.new }
-        ensures rest { OnlyStages self.old self.new }
+        ensures { StagesChange self.old self.new number (requests.Put key value) }
     {
         let pointer = self.allocator.take(class, may_cut).unwrap();
         let entry = Entry {
@@ -171,17 +154,9 @@ impl Worker {
 
     // Stages a delete of a key that has a value.
     fn stage_delete(&mut self, alloc: Global, number: u64, key: Key, version: Version)
-        requires held { IsAside self.old key }
-        requires runs { self.old.stopped ≡ false }
-        requires nothing { LeadsNothing self.old }
-        requires idle { is_busy self.old.places.items key ≡ false }
-        requires room { 0 < room_at self.old.index key }
-        requires place { HasFree self.old.places.items }
+        requires may { TakesChange self.old key }
         requires planned { Deletes self.old key version }
-        ensures keeps { KeepsTies self.old self.new key }
-        ensures staged { IsStaged self.old self.new number (requests.Delete key) }
-        ensures rule { HasKeptRoom self.new }
-        ensures rest { OnlyStages self.old self.new }
+        ensures { StagesChange self.old self.new number (requests.Delete key) }
     {
         let entry = Entry {
             key,
@@ -193,87 +168,6 @@ impl Worker {
 }
 
 impl Worker {
-    // Begins a request of a core that runs.
-    fn begin_running<R: Region>(
-        &mut self,
-        alloc: Global,
-        region: &R,
-        number: u64,
-        request: Request,
-    ) -> Result<(), NotAccepted>
-        requires tied { StandsAside (R.state region.now) self.old (key_of request) }
-        requires runs { self.old.stopped ≡ false }
-        requires nothing { LeadsNothing self.old }
-        requires idle { is_busy self.old.places.items (key_of request) ≡ false }
-        requires room { may_stage self.old request ≡ true
-            → 0 < room_at self.old.index (key_of request) }
-        requires place { HasFree self.old.places.items }
-        requires answers { HasAnswerRoom 1 self.old }
-        ensures keeps { OnOk result (KeepsTies self.old self.new (key_of request)) }
-        ensures begins { OnOk result (ByEachView (R.state region.now) self.old (key_of request)
-            (λ v. Begins (IsTelling (R.state region.now)) self.old self.new
-            (v.cell (key_of request)) number request)) }
-        ensures room { OnOk result ((n : ℕ) → HasAnswerRoom (n + 1) self.old
-            → HasAnswerRoom n self.new) }
-        ensures rule { HasKeptRoom self.old → HasKeptRoom self.new }
-        ensures rest { OnlyBegins self.old self.new }
-        ensures uses { OnOk result (UsesRoom self.old self.new (key_of request)) }
-        ensures places { OnOk result ((self.new.places ≡ self.old.places)
-            ⊎ (is_busy self.new.places.items (key_of request) ≡ true)) }
-        ensures busy { OnOk result ((k : ℕ) → is_busy self.old.places.items k ≡ true
-            → is_busy self.new.places.items k ≡ true) }
-        ensures line { OnOk result (KeepsLine self.old self.new (key_of request)) }
-        ensures most { OnOk result (left self.new ≤ left self.old + staged_left) }
-        ensures given_back { IfErr result (λ back. back.request ≡ request) }
-        ensures unchanged { OnErr result (self.new ≡ self.old) }
-        ensures gets { OnErr result (may_stage self.old request ≡ false) }
-    {
-        let asked = request.key();
-        let plan = match self.plan(request) {
-            Ok(plan) => plan,
-            Err(shortage) => {
-                self.answer_at_once(number, asked, reply_for(&shortage), Some(shortage));
-                return Ok(());
-            }
-        };
-        match plan {
-            Plan::Get { key } => {
-                let Ok(reply) = self.found(alloc, region, key) else {
-                    let request = Request::Get { key };
-                    return Err(NotAccepted { request });
-                };
-                self.answer_at_once(number, asked, reply, None);
-                return Ok(());
-            }
-            Plan::Absent => {
-                self.answer_at_once(number, asked, Reply::Absent, None);
-                return Ok(());
-            }
-            Plan::PutBeside {
-                key,
-                value,
-                version,
-            } => {
-                self.stage_beside(alloc, number, key, value, version);
-                return Ok(());
-            }
-            Plan::PutInBlock {
-                key,
-                value,
-                version,
-                class,
-                may_cut,
-            } => {
-                self.stage_block(number, key, value, version, class, may_cut);
-                return Ok(());
-            }
-            Plan::Delete { key, version } => {
-                self.stage_delete(alloc, number, key, version);
-                return Ok(());
-            }
-        }
-    }
-
     // Begins a request whose key has no change under way. Where there is no memory for the answer to a get, the request
     // comes back and nothing changed.
     pub(crate) fn begin<R: Region>(
@@ -309,11 +203,45 @@ impl Worker {
         ensures unchanged { OnErr result (self.new ≡ self.old) }
         ensures gets { OnErr result (may_stage self.old request ≡ false) }
     {
+        let asked = request.key();
         if self.stopped {
-            let key = request.key();
-            self.answer_at_once(number, key, Reply::Stopped, None);
+            self.answer_at_once(number, asked, Reply::Stopped, None);
             return Ok(());
         }
-        self.begin_running(alloc, region, number, request)
+        let plan = match self.plan(request) {
+            Ok(plan) => plan,
+            Err(shortage) => {
+                self.answer_at_once(number, asked, reply_for(&shortage), Some(shortage));
+                return Ok(());
+            }
+        };
+        match plan {
+            Plan::Get { key } => {
+                let Ok(reply) = self.found(alloc, region, key) else {
+                    let request = Request::Get { key };
+                    return Err(NotAccepted { request });
+                };
+                self.answer_at_once(number, asked, reply, None);
+            }
+            Plan::Absent => self.answer_at_once(number, asked, Reply::Absent, None),
+            Plan::PutBeside {
+                key,
+                value,
+                version,
+            } => {
+                self.stage_beside(alloc, number, key, value, version);
+            }
+            Plan::PutInBlock {
+                key,
+                value,
+                version,
+                class,
+                may_cut,
+            } => {
+                self.stage_block(number, key, value, version, class, may_cut);
+            }
+            Plan::Delete { key, version } => self.stage_delete(alloc, number, key, version),
+        }
+        Ok(())
     }
 }

@@ -13,8 +13,8 @@
 //! | any other turn: an own change that came back is finished | `search_places`, `finish_item` | `find_back`, `take_back` |
 //! | and what waited for its key is begun | `begin_waiting` | `serve` |
 //! | else a staged change is posted, or, by a stopped core, answered | `choose_item`, `post_item`, `stopped_items` | `choose`, `post_staged`, `post_block`, `drop_staged` |
-//! | else a mailbox is emptied | `mail_items` | `receive_first` |
-//! | else what waits for another member is sent | `send_turn`, `send_items` | `send_first`, `send_to`, `send_ready` |
+//! | else, by a core that neither stopped nor winds down, a mailbox is emptied | `mail_items` | `receive_first` |
+//! | else, by such a core, what waits for another member is sent | `send_turn`, `send_items` | `send_first`, `send_to`, `send_ready` |
 //! | else a cleaning goes on: copies, then names that are doomed, then its end | `clean_items`, `copy_items` | `serve_cleaning`, `copy`, `doom`, `end_clean` |
 //! | else one begins | `begin_items` | `begin_next` |
 //! | else the lock is tried, where an own change is posted; and else the turn is idle | `turn_items`, `lead_items` | `serve_lock`, `try_lead` |

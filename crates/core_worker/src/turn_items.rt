@@ -160,8 +160,8 @@ impl Worker {
         Turn::Idle
     }
 
-    // Posts the lowest staged change, or looks at its mail, goes on with a cleaning and tries the lock. A stopped core
-    // answers the change instead.
+    // Posts the lowest staged change, or does what comes behind: mail, what waits to be sent, a cleaning, the lock. A stopped
+    // core answers the change instead.
     fn serve_staged<R: Region, B: Board, G: Gate>(
         &mut self,
         alloc: Global,

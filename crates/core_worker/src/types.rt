@@ -1,5 +1,8 @@
 // What a worker is made of, and what it answers.
+ghost use Rattle.std.specs.Prelude.{◌≡◌};
+
 use batch_leader::{Batch, BatchBuffer, Collecting, FailedBatch, Persisted};
+use conflict_queue::NoNode;
 use core_room::Shortage;
 use fs_model::{Key, Reply, Request, Value, Version};
 pub use log_cleaner::Victim;
@@ -97,6 +100,16 @@ pub struct Answer {
 pub struct NotAccepted {
     /// As it was given, to be tried again or left.
     pub request: Request,
+}
+
+impl From<NoNode> for NotAccepted {
+    ghost from_gives = { λ full back. back.request ≡ full.request };
+
+    fn from(full: NoNode) -> NotAccepted {
+        NotAccepted {
+            request: full.request,
+        }
+    }
 }
 
 /// Whether a turn found something to do.

@@ -18,7 +18,7 @@ use Rattle.licence.specs.Writes.{Begins}
 use Rattle.batch_leader.specs.declared.states.Batch.{Batch}
 use Rattle.batch_leader.specs.Leading.{IsBatchAt}
 use Rattle.batch_leader.specs.Persisting.{HasRoom}
-use Rattle.batch_leader.specs.Rounds.{words_in}
+use Rattle.batch_leader.specs.Rounds.{words_taken}
 
 -- a put of the byte 97 under a key
 abbrev pub put_of : ℕ → Change
@@ -38,7 +38,7 @@ pub record IsUnwritten (v : View) : Type 0 where
 
 -- the batch fits in a fresh chunk
 abbrev pub FitsFresh : Batch → Type 0
-FitsFresh b = lines_for (words_in b.changes.taken.items) ≤ 60
+FitsFresh b = lines_for (words_taken b.changes.taken.items) ≤ 60
 
 -- what members other than m have stays
 abbrev pub KeepsOthers : Group → Group → ℕ → Type 0
@@ -85,7 +85,7 @@ pub record MayWrite (p : Place) (m : ℕ) (v : View) (s : State) (log : LogState
     (b : Batch) : Type 0 where
   pub batch : IsBatchAt p m v b
   pub begins : Begins s p m v log
-  pub room : HasRoom s log (words_in b.changes.taken.items) (Some 2)
+  pub room : HasRoom s log (words_taken b.changes.taken.items) (Some 2)
 
 -- It wrote nothing else, and left what the others have.
 pub record Wrote (w u : Group) (m : ℕ) (s t : State) : Type 0 where

@@ -7,7 +7,7 @@ ghost use Rattle.group_board.specs.Conditions.{MayPost, MayLock};
 ghost use Rattle.licence.specs.Writes.{Begins};
 ghost use Rattle.batch_leader.specs.Leading.{IsBatchOf};
 ghost use Rattle.batch_leader.specs.Persisting.{HasRoom};
-ghost use Rattle.batch_leader.specs.Rounds.{words_in};
+ghost use Rattle.batch_leader.specs.Rounds.{words_taken};
 
 use crate::leader_tests::{gather, open_small, put};
 use crate::no_region::NoRegion;
@@ -52,7 +52,7 @@ fn give_up<B: Board>(
     requires begins { Begins (mem_state region.old) (B.seat board.old).place
         (B.seat board.old).number (B.view board.old) log.old }
     requires room { HasRoom (mem_state region.old) log.old
-        (words_in batch.changes.taken.items) (Option.Some chunk) }
+        (words_taken batch.changes.taken.items) (Option.Some chunk) }
     ensures { B.seat board.new ≡ B.seat board.old }
 {
     let Err(mut lost) = batch.persist(region, log, board, Some(chunk)) else {

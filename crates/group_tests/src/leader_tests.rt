@@ -9,7 +9,7 @@ ghost use Rattle.group_board.specs.Conditions.{MayPost, MayLock};
 ghost use Rattle.group_tests.specs.BoardTrials.{small_words, fresh};
 ghost use Rattle.batch_leader.specs.Leading.{IsBatchOf, IsCertain};
 ghost use Rattle.batch_leader.specs.Persisting.{HasRoom, WritesPart};
-ghost use Rattle.batch_leader.specs.Rounds.{words_in};
+ghost use Rattle.batch_leader.specs.Rounds.{words_taken};
 ghost use Rattle.group_tests.specs.LeadTrials.{put_of, empty_room, IsUnwritten, LeavesOthers, FitsFresh};
 
 use crate::no_region::NoRegion;
@@ -111,7 +111,7 @@ pub(crate) fn write_back<B: Board>(
     requires begins { Begins (steady_state region.old) (B.seat board.old).place
         (B.seat board.old).number (B.view board.old) log.old }
     requires room { HasRoom (steady_state region.old) log.old
-        (words_in batch.changes.taken.items) (Option.Some chunk) }
+        (words_taken batch.changes.taken.items) (Option.Some chunk) }
     ensures seat { B.seat board.new ≡ B.seat board.old }
     ensures outside { WritesPart (steady_state region.old) (steady_state region.new)
         (B.seat board.old) }

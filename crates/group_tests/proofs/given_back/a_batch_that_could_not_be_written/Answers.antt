@@ -5,7 +5,7 @@ use Rattle.core_log.specs.Log.{tail_of}
 use Rattle.group_laws.specs.State.{Group}
 use Rattle.group_board.specs.Journals.{state}
 use Rattle.group_board.specs.Seats.{SeatAt}
-use Rattle.batch_leader.specs.Rounds.{words_in}
+use Rattle.batch_leader.specs.Rounds.{words_taken}
 use Rattle.group_tests.proofs.LeadTrialLaws.{layout_small, small, begins_small, room_small, unwritten_by, may_post}
 use Rattle.group_tests.proofs.given_back.a_batch_that_could_not_be_written.Goals as goal
 
@@ -24,5 +24,5 @@ give_up-requires-clause-begins g c =
 pub give_up-requires-clause-room : goal.give_up-requires-clause-room
 give_up-requires-clause-room g c =
     let at = c.in_ok-create.ensures.ok in
-    room_small (mem_state c.create.new.self) c.in_ok-log.log (words_in c.in-Some.batch.changes.taken.items) at.first at.words at.certainly
+    room_small (mem_state c.create.new.self) c.in_ok-log.log (words_taken c.in-Some.batch.changes.taken.items) at.first at.words at.certainly
     (c.in_ok-log.ensures.layout ∙ layout_small c.in_ok-layout.layout c.in_ok-layout.ensures) c.in_ok-log.ensures.part c.in-Some.ensures.fits

@@ -5,7 +5,7 @@ use Rattle.core_log.specs.Log.{tail_of}
 use Rattle.group_laws.specs.State.{Group}
 use Rattle.group_board.specs.Journals.{state}
 use Rattle.group_board.specs.Seats.{SeatAt}
-use Rattle.batch_leader.specs.Rounds.{words_in}
+use Rattle.batch_leader.specs.Rounds.{words_taken}
 use Rattle.group_tests.proofs.LeadTrialLaws.{layout_small, small, begins_small, room_small, unwritten_by, may_post}
 use Rattle.group_tests.proofs.leader_tests.a_batch_of_one_change.Goals as goal
 
@@ -24,5 +24,5 @@ persist-requires-clause-begins g c =
 pub persist-requires-clause-room : goal.persist-requires-clause-room
 persist-requires-clause-room g c =
     let at = c.in_ok-create.ensures.ok in
-    room_small (steady_state c.create.new.self) c.in_ok-log.log (words_in c.in-Some.batch.changes.taken.items) at.first at.words at.certainly
+    room_small (steady_state c.create.new.self) c.in_ok-log.log (words_taken c.in-Some.batch.changes.taken.items) at.first at.words at.certainly
     (c.in_ok-log.ensures.layout ∙ layout_small c.in_ok-layout.layout c.in_ok-layout.ensures) c.in_ok-log.ensures.part c.in-Some.ensures.fits

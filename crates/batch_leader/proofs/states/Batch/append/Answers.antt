@@ -18,14 +18,14 @@ use Rattle.licence.specs.Writes.{IsSpelled}
 use Rattle.licence.proofs.Clients.{batch_licensed, batch_committed, append_outside}
 use Rattle.batch_leader.specs.declared.states.Batch.{Batch}
 use Rattle.batch_leader.specs.declared.taken.Taken.{Taken}
-use Rattle.batch_leader.specs.TakenChanges.{entries_in}
-use Rattle.batch_leader.specs.Rounds.{words_in}
+use Rattle.batch_leader.specs.TakenChanges.{entries_taken}
+use Rattle.batch_leader.specs.Rounds.{words_taken}
 use Rattle.batch_leader.specs.Leading.{IsBatchOf, IsCertain, IsLost}
 use Rattle.batch_leader.proofs.TakenLaws.{batch_of, all_flying, all_committed}
 use Rattle.batch_leader.proofs.states.Batch.append.Goals as goal
 
 -- the words of a batch spell what is in flight
-spells : (seat : SeatAt) (v : View) (b : Batch) (log : LogState) → IsBatchOf seat v b → lines_for (words_in b.changes.taken.items) ≤ room_of log → IsSpelled log v.flying b.changes.words.words
+spells : (seat : SeatAt) (v : View) (b : Batch) (log : LogState) → IsBatchOf seat v b → lines_for (words_taken b.changes.taken.items) ≤ room_of log → IsSpelled log v.flying b.changes.words.words
 spells seat v b log is room = record {
   words = b.changes.written ∙ ap (λ es. flat_map words_of es) (sym is.flying);
   batch = subst IsBatch (sym is.flying) (batch_of seat.place b.changes.taken.items is.out.each b.some);
@@ -36,7 +36,7 @@ commits : (v u : View) → u ≡ after_commit v → Commits v u
 commits v u is = subst (λ (x : View). Commits v x) (sym is) (record { kept = refl; flying = refl; doomed = λ k n e. e; blocks = λ q b e. e })
 
 holds : (seat : SeatAt) (v : View) (b : Batch) → IsBatchOf seat v b → HoldsEntries b.changes.words.words
-holds seat v b is = record { entries = entries_in b.changes.taken.items; words = b.changes.written; batch = batch_of seat.place b.changes.taken.items is.out.each b.some }
+holds seat v b is = record { entries = entries_taken b.changes.taken.items; words = b.changes.written; batch = batch_of seat.place b.changes.taken.items is.out.each b.some }
 
 pub append_batch-requires-clause-some : goal.append_batch-requires-clause-some
 append_batch-requires-clause-some g c = holds_some c.args.self.changes.words.words (holds (g.B.Board.seat c.args.board.now) (g.B.Board.view c.args.board.now) c.args.self c.requires.batch)

@@ -16,7 +16,7 @@ use Rattle.licence.specs.Writes.{Opens}
 use Rattle.licence.proofs.Clients.{open_licensed, open_outside}
 use Rattle.batch_leader.specs.Leading.{IsLost}
 use Rattle.batch_leader.specs.Persisting.{HasRoom, opened_for, WritesOpenChunk}
-use Rattle.batch_leader.specs.Rounds.{words_in}
+use Rattle.batch_leader.specs.Rounds.{words_taken}
 use Rattle.batch_leader.specs.TakenChanges.{spelled}
 use Rattle.batch_leader.proofs.TakenLaws.{all_flying}
 use Rattle.batch_leader.proofs.states.Batch.persist.Goals as goal
@@ -56,13 +56,13 @@ append-requires-in-Ok-clause-begins g c =
       stands = c.in-Ok.ensures.ok.stands;
       licensed = λ telling. at_exit s mid (Licensed seat.place seat.number v)
           (open_licensed s mid seat.place seat.number v c.args.log.now b c.in-Some.chunk
-          (opening s mid c.args.log.now (words_in c.args.self.changes.taken.items) c.args.fresh c.in-Some.chunk c.in-Some.is c.requires.room c.open_chunk.ensures.moments c.open_chunk.ensures.outside)) telling;
+          (opening s mid c.args.log.now (words_taken c.args.self.changes.taken.items) c.args.fresh c.in-Some.chunk c.in-Some.is c.requires.room c.open_chunk.ensures.moments c.open_chunk.ensures.outside)) telling;
     }
 
 pub append-requires-in-Ok-clause-room : goal.append-requires-in-Ok-clause-room
 append-requires-in-Ok-clause-room g c =
     let s = g.R.Region.state c.args.region.now in
-    let r : HasRoom s c.args.log.now (words_in c.args.self.changes.taken.items) (Some c.in-Some.chunk) = subst (HasRoom s c.args.log.now (words_in c.args.self.changes.taken.items)) c.in-Some.is c.requires.room in
+    let r : HasRoom s c.args.log.now (words_taken c.args.self.changes.taken.items) (Some c.in-Some.chunk) = subst (HasRoom s c.args.log.now (words_taken c.args.self.changes.taken.items)) c.in-Some.is c.requires.room in
     rw c.in-Ok.ensures.ok.room r.0
 
 pub returns-in-Ok-clause-moments : goal.returns-in-Ok-clause-moments
@@ -73,7 +73,7 @@ returns-in-Ok-clause-moments g c =
     let mid = g.R.Region.state c.open_chunk.new.region in
     then_on s mid (g.R.Region.state c.append-in-Ok.new.region) (Licensed seat.place seat.number v)
     (open_licensed s mid seat.place seat.number v c.args.log.now c.requires.begins c.in-Some.chunk
-    (opening s mid c.args.log.now (words_in c.args.self.changes.taken.items) c.args.fresh c.in-Some.chunk c.in-Some.is c.requires.room c.open_chunk.ensures.moments c.open_chunk.ensures.outside))
+    (opening s mid c.args.log.now (words_taken c.args.self.changes.taken.items) c.args.fresh c.in-Some.chunk c.in-Some.is c.requires.room c.open_chunk.ensures.moments c.open_chunk.ensures.outside))
     c.append-in-Ok.ensures.moments
 
 pub returns-in-Ok-clause-outside : goal.returns-in-Ok-clause-outside
@@ -84,7 +84,7 @@ returns-in-Ok-clause-outside g c =
     let mid = g.R.Region.state c.open_chunk.new.region in
     kept_on s mid (g.R.Region.state c.append-in-Ok.new.region) (part_at seat.place seat.number) (part_end seat.place seat.number)
     (open_outside s mid seat.place seat.number v c.args.log.now c.requires.begins c.in-Some.chunk
-    (opening s mid c.args.log.now (words_in c.args.self.changes.taken.items) c.args.fresh c.in-Some.chunk c.in-Some.is c.requires.room c.open_chunk.ensures.moments c.open_chunk.ensures.outside))
+    (opening s mid c.args.log.now (words_taken c.args.self.changes.taken.items) c.args.fresh c.in-Some.chunk c.in-Some.is c.requires.room c.open_chunk.ensures.moments c.open_chunk.ensures.outside))
     c.append-in-Ok.ensures.outside
 
 pub returns-in-Ok-clause-chunk : goal.returns-in-Ok-clause-chunk
@@ -118,7 +118,7 @@ returns-in-Err-clause-moments g c =
     let s = g.R.Region.state c.args.region.now in
     let mid = g.R.Region.state c.open_chunk.new.region in
     open_licensed s mid seat.place seat.number v c.args.log.now c.requires.begins c.in-Some.chunk
-    (opening s mid c.args.log.now (words_in c.args.self.changes.taken.items) c.args.fresh c.in-Some.chunk c.in-Some.is c.requires.room c.open_chunk.ensures.moments c.open_chunk.ensures.outside)
+    (opening s mid c.args.log.now (words_taken c.args.self.changes.taken.items) c.args.fresh c.in-Some.chunk c.in-Some.is c.requires.room c.open_chunk.ensures.moments c.open_chunk.ensures.outside)
 
 pub returns-in-Err-clause-exit : goal.returns-in-Err-clause-exit
 returns-in-Err-clause-exit g c telling =
@@ -135,7 +135,7 @@ returns-in-Err-clause-outside g c =
     let s = g.R.Region.state c.args.region.now in
     let mid = g.R.Region.state c.open_chunk.new.region in
     open_outside s mid seat.place seat.number v c.args.log.now c.requires.begins c.in-Some.chunk
-    (opening s mid c.args.log.now (words_in c.args.self.changes.taken.items) c.args.fresh c.in-Some.chunk c.in-Some.is c.requires.room c.open_chunk.ensures.moments c.open_chunk.ensures.outside)
+    (opening s mid c.args.log.now (words_taken c.args.self.changes.taken.items) c.args.fresh c.in-Some.chunk c.in-Some.is c.requires.room c.open_chunk.ensures.moments c.open_chunk.ensures.outside)
 
 pub returns-in-Err-clause-chunk : goal.returns-in-Err-clause-chunk
 returns-in-Err-clause-chunk g c =

@@ -3,7 +3,7 @@ use Rattle.pm_region.specs.Words.{lines_for}
 use Rattle.log_entry.specs.Spelling.{words_of}
 use Rattle.group_laws.specs.Places.{members}
 use Rattle.batch_leader.specs.declared.taken.Taken.{Taken}
-use Rattle.batch_leader.specs.Rounds.{goes_fresh, words_in, member_at, slot_at, fits}
+use Rattle.batch_leader.specs.Rounds.{goes_fresh, words_taken, member_at, slot_at, fits}
 use Rattle.batch_leader.specs.TakenChanges.{spelled}
 use Rattle.batch_leader.specs.Leading.{HasSpace}
 use Rattle.batch_leader.proofs.CollectLaws.{spelled_more, collects_more, fits_suits, more_own, own_none, member_low}
@@ -22,15 +22,15 @@ pub returns-clause-suits : goal.returns-clause-suits
 returns-clause-suits g c some =
     let long : length (words_of c.take-change.result.entry) ≡ c.args.count = c.take-change.ensures.words c.args.count c.requires.seen in
     let ts = c.args.self.now.changes.taken.items in
-    let total : words_in c.add.new.self.taken.items ≡ words_in ts + c.args.count =
-    ap words_in c.add.ensures ∙ ap length (spelled_more ts (record { member = c.args.member; slot = c.args.slot; change = c.take-change.result })) ∙ length-append (spelled ts) (words_of c.take-change.result.entry) ∙ ap (λ (n : ℕ). words_in ts + n) long in
+    let total : words_taken c.add.new.self.taken.items ≡ words_taken ts + c.args.count =
+    ap words_taken c.add.ensures ∙ ap length (spelled_more ts (record { member = c.args.member; slot = c.args.slot; change = c.take-change.result })) ∙ length-append (spelled ts) (words_of c.take-change.result.entry) ∙ ap (λ (n : ℕ). words_taken ts + n) long in
     let fresh = c.goes_fresh-fresh.ensures in
     let none : ts ≡ [] → c.args.self.now.own_lines ≡ 0 = λ e. c.requires.collects.own ∙ own_none (g.B.Board.seat c.args.board.now).number ts e in
     let fit = fits_suits c.args.room.now c.args.self.now.own_lines ts c.args.self.now.fresh (c.args.member == c.args.own) c.args.count c.requires.room c.requires.short none c.requires.suits c.requires.fits in
     let lines : c.args.self.now.own_lines + c.own_share-lines.result ≡ c.args.self.now.own_lines + more_own (c.args.member == c.args.own) c.args.count = ap (λ (n : ℕ). c.args.self.now.own_lines + n) c.own_share-lines.ensures.share in
-    subst (λ (n : ℕ). HasSpace c.args.room.now c.goes_fresh-fresh.result n (words_in c.add.new.self.taken.items)) (sym lines)
+    subst (λ (n : ℕ). HasSpace c.args.room.now c.goes_fresh-fresh.result n (words_taken c.add.new.self.taken.items)) (sym lines)
     (subst (HasSpace c.args.room.now c.goes_fresh-fresh.result (c.args.self.now.own_lines + more_own (c.args.member == c.args.own) c.args.count)) (sym total)
-    (subst (λ (b : Bool). HasSpace c.args.room.now b (c.args.self.now.own_lines + more_own (c.args.member == c.args.own) c.args.count) (words_in ts + c.args.count)) (sym fresh) fit))
+    (subst (λ (b : Bool). HasSpace c.args.room.now b (c.args.self.now.own_lines + more_own (c.args.member == c.args.own) c.args.count) (words_taken ts + c.args.count)) (sym fresh) fit))
 
 pub returns-clause-takes : goal.returns-clause-takes
 returns-clause-takes g c =

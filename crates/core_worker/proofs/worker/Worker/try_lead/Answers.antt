@@ -3,7 +3,7 @@ use Rattle.group_laws.specs.declared.types.Seen.TheVariants as loads
 use Rattle.group_laws.specs.MemberViews.{View}
 use Rattle.core_worker.specs.declared.types.Leading.TheVariants as leads
 use Rattle.core_worker.specs.Ties.{KeepsFlight, in_flight, is_lost}
-use Rattle.batch_leader.specs.TakenChanges.{entries_in}
+use Rattle.batch_leader.specs.TakenChanges.{entries_taken}
 use Rattle.core_worker.proofs.Flight.{led_on}
 use Rattle.core_worker.proofs.LeadTies.{led_here, leads_of}
 use Rattle.core_worker.proofs.Led.{holds_by, stands_by}
@@ -21,7 +21,7 @@ returns-in-Ok-clause-holds g c =
     let had = led_here seat v c.args.self.now.leading (leads.Nothing c.in-Nothing.buffer) c.requires.holds.leads (sym c.in-Nothing.ensures.value) in
     holds_by p m v (g.B.Board.view c.lead.new.board) c.args.self.now v.flying v.taken true [] v.took (leads.Collecting c.in-Ok.collecting) c.in-Ok.ensures.view c.requires.holds (leads_of seat (g.B.Board.view c.lead.new.board) (leads.Collecting c.in-Ok.collecting) c.in-Ok.ensures.collects)
     (inl c.requires.clean) (λ runs some. absurd (some c.in-Ok.ensures.starts.0)) (λ e. absurd (cc e))
-    (subst (λ (x : View). KeepsFlight x.flying x.broken (leads.Collecting c.in-Ok.collecting) w.lost_batch w.stopped) (sym c.in-Ok.ensures.view) (led_on v.flying v.broken w.leading w.lost_batch w.stopped c.requires.holds.flight (leads.Collecting c.in-Ok.collecting) (ap entries_in c.in-Ok.ensures.starts.0 ∙ ap in_flight c.in-Nothing.ensures.value) (ap is_lost (sym c.in-Nothing.ensures.value))))
+    (subst (λ (x : View). KeepsFlight x.flying x.broken (leads.Collecting c.in-Ok.collecting) w.lost_batch w.stopped) (sym c.in-Ok.ensures.view) (led_on v.flying v.broken w.leading w.lost_batch w.stopped c.requires.holds.flight (leads.Collecting c.in-Ok.collecting) (ap entries_taken c.in-Ok.ensures.starts.0 ∙ ap in_flight c.in-Nothing.ensures.value) (ap is_lost (sym c.in-Nothing.ensures.value))))
 
 pub returns-in-Ok-clause-stands : goal.returns-in-Ok-clause-stands
 returns-in-Ok-clause-stands g c s S =

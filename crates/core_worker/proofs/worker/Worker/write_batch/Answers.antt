@@ -16,8 +16,8 @@ use Rattle.batch_leader.specs.Persisting.{opened_for}
 use Rattle.core_log.specs.Log.{HoldsEntries}
 use Rattle.core_log.proofs.Clients.{open_has, room_opens}
 use Rattle.group_laws.specs.MemberViews.{View}
-use Rattle.batch_leader.specs.TakenChanges.{entries_in, spelled, taken_in}
-use Rattle.batch_leader.specs.Rounds.{words_in}
+use Rattle.batch_leader.specs.TakenChanges.{entries_taken, spelled, taken_in}
+use Rattle.batch_leader.specs.Rounds.{words_taken}
 use Rattle.batch_leader.specs.Persisting.{HasRoom}
 use Rattle.batch_leader.proofs.Clients.{batch_of}
 use Rattle.core_worker.specs.declared.types.Leading.TheVariants as leads
@@ -49,7 +49,7 @@ persist-requires-clause-room g c =
     let w = c.args.self.now in
     let H = c.requires.holds in
     let b = c.in-Batch.batch in
-    room_ready (g.R.Region.state c.args.region.now) p m v w c.requires.stands H.sets (H.allocator_layout ∙ sym H.log_layout) c.requires.runs b.fresh b.own_lines (words_in b.changes.taken.items) c.chunk_for-fresh.new.allocator c.chunk_for-fresh.result
+    room_ready (g.R.Region.state c.args.region.now) p m v w c.requires.stands H.sets (H.allocator_layout ∙ sym H.log_layout) c.requires.runs b.fresh b.own_lines (words_taken b.changes.taken.items) c.chunk_for-fresh.new.allocator c.chunk_for-fresh.result
     (subst (HasSpaceFor w) (sym c.in-Batch.ensures.value) (H.space c.requires.runs)) (subst (λ (f : Bool). TakesChunkIf f w.allocator c.chunk_for-fresh.new.allocator c.chunk_for-fresh.result) c.needs_chunk.ensures c.chunk_for-fresh.ensures.takes)
 
 pub returns-in-Ok-clause-holds : goal.returns-in-Ok-clause-holds
@@ -70,9 +70,9 @@ returns-in-Ok-clause-holds g c =
     let own : c.member-own.result ≡ m = c.member-own.ensures ∙ ap (λ (x : SeatAt). x.number) c.persist.ensures.seat in
     let s = g.R.Region.state c.args.region.now in
     let o = c.chunk_for-fresh.result in
-    let room = room_ready s p m v w c.requires.stands H.sets (H.allocator_layout ∙ sym H.log_layout) c.requires.runs b.fresh b.own_lines (words_in ts) c.chunk_for-fresh.new.allocator o (subst (HasSpaceFor w) (sym c.in-Batch.ensures.value) (H.space c.requires.runs)) takes in
-    let entries : HoldsEntries (spelled ts) = record { entries = entries_in ts; words = refl; batch = batch_of p ts had.0.out.each b.some } in
-    let opened : o ≡ None → is_some w.log.opened ≡ true = λ none. room_opens w.log (spelled ts) entries (subst (λ (x : Option ℕ). HasRoom s w.log (words_in ts) x) none room) in
+    let room = room_ready s p m v w c.requires.stands H.sets (H.allocator_layout ∙ sym H.log_layout) c.requires.runs b.fresh b.own_lines (words_taken ts) c.chunk_for-fresh.new.allocator o (subst (HasSpaceFor w) (sym c.in-Batch.ensures.value) (H.space c.requires.runs)) takes in
+    let entries : HoldsEntries (spelled ts) = record { entries = entries_taken ts; words = refl; batch = batch_of p ts had.0.out.each b.some } in
+    let opened : o ≡ None → is_some w.log.opened ≡ true = λ none. room_opens w.log (spelled ts) entries (subst (λ (x : Option ℕ). HasRoom s w.log (words_taken ts) x) none room) in
     let wrote = holds_wrote p m v u w c.chunk_for-fresh.new.allocator c.persist.new.log (leads.Persisted c.in-Ok.done) w.stopped w.lost_batch (v.kept ++ v.flying) [] v.taken v.holds [] v.took view (λ x i. In-append_left x v.kept v.flying i) H
     (takes_same b.fresh w.allocator c.chunk_for-fresh.new.allocator c.chunk_for-fresh.result takes) c.chunk_for-fresh.ensures.sets c.in-Ok.ensures.log.layout c.in-Ok.ensures.log.part
     (leads_of seat u (leads.Persisted c.in-Ok.done) (gives.1, ap (λ (x : View). x.holds) view ∙ had.1, (λ whole. ap (λ (x : View). x.flying) view), (λ none. b.some (sym gives.0 ∙ none))))
@@ -98,13 +98,13 @@ returns-in-Ok-clause-stands g c =
     let seat = g.B.Board.seat c.args.board.now in
     let had = led_here seat v c.args.self.now.leading (leads.Batch b) c.requires.holds.leads (sym c.in-Batch.ensures.value) in
     let takes = subst (λ (f : Bool). TakesChunkIf f w.allocator a o) c.needs_chunk.ensures c.chunk_for-fresh.ensures.takes in
-    let room = room_ready s p m v w c.requires.stands H.sets (H.allocator_layout ∙ sym H.log_layout) c.requires.runs b.fresh b.own_lines (words_in b.changes.taken.items) a o (subst (HasSpaceFor w) (sym c.in-Batch.ensures.value) (H.space c.requires.runs)) takes in
-    let entries : HoldsEntries (spelled b.changes.taken.items) = record { entries = entries_in b.changes.taken.items; words = refl; batch = batch_of p b.changes.taken.items had.0.out.each b.some } in
+    let room = room_ready s p m v w c.requires.stands H.sets (H.allocator_layout ∙ sym H.log_layout) c.requires.runs b.fresh b.own_lines (words_taken b.changes.taken.items) a o (subst (HasSpaceFor w) (sym c.in-Batch.ensures.value) (H.space c.requires.runs)) takes in
+    let entries : HoldsEntries (spelled b.changes.taken.items) = record { entries = entries_taken b.changes.taken.items; words = refl; batch = batch_of p b.changes.taken.items had.0.out.each b.some } in
     let ts = b.changes.taken.items in
     let t = g.R.Region.state c.persist.new.region in
     let chunk = subst (λ (l : Geometry). During s t (KeepsOutside (cell_now s) (open_first (opened_for w.log o)) (open_first (opened_for w.log o) + chunk_words l))) (opened_layout w.log o) c.persist.ensures.chunk in
-    let opened : o ≡ None → is_some w.log.opened ≡ true = λ none. room_opens w.log (spelled ts) entries (subst (λ (x : Option ℕ). HasRoom s w.log (words_in ts) x) none room) in
-    let names = batch_stood s t p m v w a c.persist.new.log b.fresh o (entries_in ts) H c.requires.stands c.requires.runs takes chunk c.in-Ok.ensures.wrote opened c.note_names.new.standing entries.batch had.0.flying (lacks_taken m v ts had.0.unlogged) had.0.named (leads_none p m v w H.cleaning (ap is_leading (sym c.in-Batch.ensures.value))) (λ on. c.note_names.ensures.adds (ap not on)) in
+    let opened : o ≡ None → is_some w.log.opened ≡ true = λ none. room_opens w.log (spelled ts) entries (subst (λ (x : Option ℕ). HasRoom s w.log (words_taken ts) x) none room) in
+    let names = batch_stood s t p m v w a c.persist.new.log b.fresh o (entries_taken ts) H c.requires.stands c.requires.runs takes chunk c.in-Ok.ensures.wrote opened c.note_names.new.standing entries.batch had.0.flying (lacks_taken m v ts had.0.unlogged) had.0.named (leads_none p m v w H.cleaning (ap is_leading (sym c.in-Batch.ensures.value))) (λ on. c.note_names.ensures.adds (ap not on)) in
     stands_lowered t p m u (record w { log = c.persist.new.log; allocator = a; leading = leads.Persisted c.in-Ok.done; standing = c.note_names.new.standing }) c.unpledge.new.places
     (stands_wrote s t p m v w a c.persist.new.log b.fresh o (spelled ts) H c.requires.stands c.requires.runs takes chunk c.in-Ok.ensures.wrote opened
     u c.in-Ok.done c.note_names.new.standing names c.in-Ok.ensures.view c.persist.ensures.exit)
@@ -154,14 +154,14 @@ returns-in-Ok-clause-rule g c runs rule =
     let gives = c.in-Ok.ensures.gives in
     let takes = subst (λ (f : Bool). TakesChunkIf f w.allocator a o) c.needs_chunk.ensures c.chunk_for-fresh.ensures.takes in
     let space = subst (HasSpaceFor w) (sym c.in-Batch.ensures.value) (H.space c.requires.runs) in
-    let room = room_ready s p m v w c.requires.stands H.sets (H.allocator_layout ∙ sym H.log_layout) c.requires.runs b.fresh b.own_lines (words_in ts) a o space takes in
-    let entries : HoldsEntries (spelled ts) = record { entries = entries_in ts; words = refl; batch = batch_of p ts had.0.out.each b.some } in
+    let room = room_ready s p m v w c.requires.stands H.sets (H.allocator_layout ∙ sym H.log_layout) c.requires.runs b.fresh b.own_lines (words_taken ts) a o space takes in
+    let entries : HoldsEntries (spelled ts) = record { entries = entries_taken ts; words = refl; batch = batch_of p ts had.0.out.each b.some } in
     let own : c.member-own.result ≡ m = c.member-own.ensures ∙ ap (λ (x : SeatAt). x.number) c.persist.ensures.seat in
     let each : (s : ℕ) → s < 8 → place_at c.unpledge.new.places.items s ≡ unpledged_if (is_some (taken_in ts m s)) (place_at w.places.items s) = λ s lt. c.unpledge.ensures.each s lt ∙ (λ i. unpledged_if (is_some (taken_in (gives.0 i) (own i) s)) (place_at w.places.items s)) in
     let less = less_own m ts c.unpledge.new.places.items w.places.items (c.unpledge.ensures.count ∙ sym H.eight) had.0.out.apart (pledged_by p m v w H ts had.0.unlogged) (each_place ts m w.places.items c.unpledge.new.places.items H.eight c.unpledge.ensures.count each) in
     let none = leads_none p m v w H.cleaning (ap is_leading (sym c.in-Batch.ensures.value)) in
     room_wrote p m v w (record w { log = c.persist.new.log; allocator = a; standing = c.note_names.new.standing; places = c.unpledge.new.places; leading = leads.Persisted c.in-Ok.done }) H b.fresh o b.own_lines (spelled ts) space takes
-    (λ none. room_opens w.log (spelled ts) entries (subst (λ (x : Option ℕ). HasRoom s w.log (words_in ts) x) none room))
+    (λ none. room_opens w.log (spelled ts) entries (subst (λ (x : Option ℕ). HasRoom s w.log (words_taken ts) x) none room))
     c.in-Ok.ensures.wrote.log_is (ap (λ (n : ℕ). own_lines_of c.unpledge.new.places.items + n) had.0.own ∙ less) (none_standing w c.note_names.new.standing none ∙ sym none) none rule
 
 pub returns-in-Ok-clause-persists : goal.returns-in-Ok-clause-persists
