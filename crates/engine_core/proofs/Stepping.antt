@@ -11,7 +11,7 @@ use Rattle.engine_laws.specs.WorkerMoves.{Hands}
 use Rattle.core_worker.specs.declared.types.Answer.{Answer}
 use Rattle.core_worker.specs.declared.types.Turn.{Turn}
 use Rattle.core_worker.specs.declared.types.Turn.TheVariants.{Moved}
-use Rattle.engine_core.specs.Calls.{AreOwn, Accepts, BeginsByEachView, Turns, Steps, TakesTurn, Does, has_moved, is_idle, is_open, next_of}
+use Rattle.engine_core.specs.Calls.{AreOwn, AcceptsForAny, BeginsByEachView, Turns, Steps, TakesTurn, Does, has_moved, is_idle, is_open, next_of}
 
 module _ {W : Type 0} (hands : View → W → Hands) (answers : W → List Answer) (stands : Place → ℕ → State → View → W → Type 0) (fair : Group → ℕ → W → Type 0) (room leads : W → Bool) (p : Place) (m : ℕ) where
   of_turn : (s t : State) (a b : Group) (v u : View) (w x : W) (queue : List (ℕ × Request)) (idle down : Bool) → (is_open room leads w ≡ true → queue ≡ [])
@@ -32,7 +32,7 @@ module _ {W : Type 0} (hands : View → W → Hands) (answers : W → List Answe
   }
 
   of_accept : (s : State) (a : Group) (v : View) (w x : W) (queue accepted rest : List (ℕ × Request)) (down : Bool) → queue ≡ accepted ++ rest → fair a m w → stands p m s v w → AreOwn p m accepted
-      → Accepts hands answers stands fair s w x accepted → Steps hands answers stands fair p m s s a a v v w x queue accepted rest false down
+      → AcceptsForAny hands answers stands fair s w x accepted → Steps hands answers stands fair p m s s a a v v w x queue accepted rest false down
   of_accept s a v w x queue accepted rest down split fairly tied own A = record {
     fixed = (A.moves p m v tied own).fixed;
     split = split;
@@ -55,7 +55,7 @@ module _ {W : Type 0} (hands : View → W → Hands) (answers : W → List Answe
       × (now ≡ rest) × OnOk r (accepted ≡ next_of (is_open room leads w) queue)
 
   pub taken_in : (s : State) (a : Group) (v : View) (w x : W) (queue popped now : List (ℕ × Request)) (y : ℕ × Request) (down : Bool) (r : Result Turn Memory) → queue ≡ y ∷ popped → is_open room leads w ≡ true → fair a m w → stands p m s v w → AreOwn p m queue
-      → IfOk r (λ b. (b ≡ Moved) × Accepts hands answers stands fair s w x (y ∷ [])) → OnErr r (Accepts hands answers stands fair s w x []) → OnOk r (now ≡ popped) → OnErr r (now ≡ y ∷ popped) → Stepped s s a a v v w x queue now down r
+      → IfOk r (λ b. (b ≡ Moved) × AcceptsForAny hands answers stands fair s w x (y ∷ [])) → OnErr r (AcceptsForAny hands answers stands fair s w x []) → OnOk r (now ≡ popped) → OnErr r (now ≡ y ∷ popped) → Stepped s s a a v v w x queue now down r
   taken_in s a v w x queue popped now y down (Ok b) split ready fairly tied own ok err taken back = (
     y ∷ [],
     popped,

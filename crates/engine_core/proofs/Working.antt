@@ -30,7 +30,7 @@ use Rattle.core_worker.specs.Turning.{TurnMoves, Turned, TurnedTo}
 use Rattle.core_worker.specs.Turns.{Moment}
 use Rattle.core_worker.specs.WorkerMoves.{hands_of}
 use Rattle.core_worker.proofs.Clients.{own_of, room_wound}
-use Rattle.engine_core.specs.Calls.{AreOwn, Accepts, BeginsByEachView, Turns, WindsDown, has_moved, is_idle, is_open}
+use Rattle.engine_core.specs.Calls.{AreOwn, AcceptsForAny, BeginsByEachView, Turns, WindsDown, has_moved, is_idle, is_open}
 use Rattle.engine_core.specs.Working.{IsMember, BeginsRequest, may_take, leads, turn_of}
 
 -- the answers alone are other ones
@@ -70,14 +70,14 @@ own_too p q m n v u w k H own J =
 
 -- a request was accepted, or given back
 module _ (s : State) (w x : Worker) (k : ℕ) (stays_tied : StaysTied s w x k) (rule : HasKeptRoom w → HasKeptRoom x) (stopped : x.stopped ≡ w.stopped) (starts : StartsFirst w → StartsFirst x) where
-  takes : (accepted : List (ℕ × Request)) → ((p : Place) (m : ℕ) (v : View) → IsMember p m s v w → AreOwn p m accepted → owner p k ≡ m) → AcceptMoves s w x k accepted → Accepts hands_of answers_of IsMember fair s w x accepted
+  takes : (accepted : List (ℕ × Request)) → ((p : Place) (m : ℕ) (v : View) → IsMember p m s v w → AreOwn p m accepted → owner p k ≡ m) → AcceptMoves s w x k accepted → AcceptsForAny hands_of answers_of IsMember fair s w x accepted
   takes accepted own moves = record {
     tied = λ p m v M is. (let T = stays_tied (record { place = p; number = m; view = v }) (tie_of p m s v w k M (own p m v M is)) in record { holds = T.holds; stands = T.stands; order = T.order; rule = λ runs. rule (M.rule (sym stopped ∙ runs)) });
     moves = λ p m v M is. (let A = moves (record { place = p; number = m; view = v }) (tie_of p m s v w k M (own p m v M is)) in record { fixed = A.fixed; adds = A.answers; moves = A.moves });
     fairly = λ a m even. starts even;
   }
 
-  pub ok_takes : {X Y : Type 0} (r : Result X Y) (n : ℕ) (q : Request) → key_of q ≡ k → OnOk r (AcceptMoves s w x k ((n, q) ∷ [])) → OnOk r (Accepts hands_of answers_of IsMember fair s w x ((n, q) ∷ []))
+  pub ok_takes : {X Y : Type 0} (r : Result X Y) (n : ℕ) (q : Request) → key_of q ≡ k → OnOk r (AcceptMoves s w x k ((n, q) ∷ [])) → OnOk r (AcceptsForAny hands_of answers_of IsMember fair s w x ((n, q) ∷ []))
   ok_takes (Ok y) n q at moves = takes ((n, q) ∷ []) (λ p m v M own. ap (owner p) (sym at) ∙ own.0) moves
   ok_takes (Err y) n q at moves = moves
 
@@ -86,7 +86,7 @@ module _ (s : State) (w x : Worker) (k : ℕ) (stays_tied : StaysTied s w x k) (
   ok_begins (Ok y) n q begun = λ p m v M own. begun (record { place = p; number = m; view = v }) (tie_of p m s v w (key_of q) M own)
   ok_begins (Err y) n q begun = begun
 
-  pub err_takes : {X : Type 0} (r : Result X NotAccepted) (q : Request) → HasTie s w k → IfErr r (λ back. back.request ≡ q) → OnErr r (AcceptMoves s w x k []) → IfErr r (λ back. (back.request ≡ q) × Accepts hands_of answers_of IsMember fair s w x [])
+  pub err_takes : {X : Type 0} (r : Result X NotAccepted) (q : Request) → HasTie s w k → IfErr r (λ back. back.request ≡ q) → OnErr r (AcceptMoves s w x k []) → IfErr r (λ back. (back.request ≡ q) × AcceptsForAny hands_of answers_of IsMember fair s w x [])
   err_takes (Ok y) q tied back moves = tt
   err_takes (Err y) q tied back moves = (back, takes [] (λ p m v M own. own_too tied.0.place p tied.0.number m tied.0.view v w k tied.1.holds tied.1.own M.holds) moves)
 

@@ -61,7 +61,7 @@ pub record AcceptsAs {W : Type 0} (hands : View → W → Hands) (answers : W �
       (hands v x) accepted fixed
 
 -- The same whatever member it is.
-pub record Accepts {W : Type 0} (hands : View → W → Hands) (answers : W → List Answer)
+pub record AcceptsForAny {W : Type 0} (hands : View → W → Hands) (answers : W → List Answer)
     (stands : Place → ℕ → State → View → W → Type 0) (fair : Group → ℕ → W → Type 0) (s : State)
     (w x : W) (accepted : List (ℕ × Request)) : Type 0 where
   pub tied : (p : Place) (m : ℕ) (v : View) → stands p m s v w → AreOwn p m accepted

@@ -5,7 +5,7 @@ ghost use Rattle.fs_model.specs.Cells.{key_of};
 ghost use Rattle.group_laws.specs.Places.{Place, owner};
 ghost use Rattle.group_laws.specs.MemberViews.{View};
 ghost use Rattle.core_worker.specs.declared.types.Turn.TheVariants.{Moved};
-ghost use Rattle.engine_core.specs.Calls.{Accepts, BeginsByEachView, is_open};
+ghost use Rattle.engine_core.specs.Calls.{AcceptsForAny, BeginsByEachView, is_open};
 
 use crate::worker_calls::CoreWorker;
 use core_worker::Turn;
@@ -69,11 +69,11 @@ pub fn hand_to<W: CoreWorker, R: Region>(
         × W.stands p m (R.state region.now) v worker.old × (owner p (key_of request) ≡ m) }
     requires room { deque_len backlog.old < deque_capacity backlog.old }
     ensures moved { IfOk result (λ turn. (turn ≡ Moved)
-        × Accepts W.hands W.answers W.stands W.fair (R.state region.now) worker.old worker.new
+        × AcceptsForAny W.hands W.answers W.stands W.fair (R.state region.now) worker.old worker.new
         ((number, request) ∷ [])) }
     ensures begins { OnOk result (BeginsByEachView W.stands W.begins (R.state region.now)
         worker.old worker.new number request) }
-    ensures failed { OnErr result (Accepts W.hands W.answers W.stands W.fair
+    ensures failed { OnErr result (AcceptsForAny W.hands W.answers W.stands W.fair
         (R.state region.now) worker.old worker.new []) }
     ensures taken { OnOk result (backlog.new.items ≡ backlog.old.items) }
     ensures back { OnErr result (backlog.new.items ≡ (number, request) ∷ backlog.old.items) }

@@ -12,7 +12,7 @@ ghost use Rattle.group_board.specs.Seats.{SeatAt};
 ghost use Rattle.engine_laws.specs.WorkerMoves.{Hands};
 ghost use Rattle.core_worker.specs.declared.types.Answer as answers;
 ghost use Rattle.core_worker.specs.declared.types.Turn.TheVariants.{Moved, Idle};
-ghost use Rattle.engine_core.specs.Calls.{Accepts, BeginsByEachView, Turns, KeepsPart, WindsDown, has_moved, is_open, is_idle, steps_of};
+ghost use Rattle.engine_core.specs.Calls.{AcceptsForAny, BeginsByEachView, Turns, KeepsPart, WindsDown, has_moved, is_open, is_idle, steps_of};
 
 use core_worker::{Answer, NotAccepted, Turn};
 use fs_model::{Memory, Request};
@@ -95,12 +95,12 @@ pub trait CoreWorker {
         requires open { is_open room leads self.old ≡ true }
         requires stands { (p : Place) × (m : ℕ) × (v : View)
             × stands p m (R.state region.now) v self.old × (owner p (key_of request) ≡ m) }
-        ensures accepted { OnOk result (Accepts hands answers stands fair (R.state region.now)
+        ensures accepted { OnOk result (AcceptsForAny hands answers stands fair (R.state region.now)
             self.old self.new ((number, request) ∷ [])) }
         ensures begins { OnOk result (BeginsByEachView stands begins (R.state region.now)
             self.old self.new number request) }
         ensures refused { IfErr result (λ back. (back.request ≡ request)
-            × Accepts hands answers stands fair (R.state region.now) self.old self.new []) }
+            × AcceptsForAny hands answers stands fair (R.state region.now) self.old self.new []) }
         ensures winds { OnOk result (winds self.new ≡ winds self.old) }
         ensures less { OnOk result (left self.new ≤ left self.old + most) };
 

@@ -13,14 +13,14 @@ use Rattle.core_worker.specs.Left.{fair}
 use Rattle.core_worker.specs.WorkerMoves.{hands_of}
 use Rattle.engine_core.specs.Calls as calls
 use Rattle.engine_core.specs.Working.{IsMember, BeginsRequest}
-use Rattle.thread_engine.specs.WorkStates.{WorkState, IsAtWork, Accepts, takes, with_next}
+use Rattle.thread_engine.specs.WorkStates.{WorkState, IsAtWork, TakesNext, takes, with_next}
 
 module _ (seat : SeatAt) (a : WorkState) (x : Worker) (now : List (ℕ × Request)) (y : ℕ × Request) (own : owner seat.place (key_of y.1) ≡ seat.number) (free : takes a.worker ≡ true) (at : IsAtWork seat a) where
   abbrev b : WorkState
   b = record a { worker = x; queue = now }
 
   abbrev Took : List (ℕ × Request) → Type 0
-  Took accepted = calls.Accepts hands_of answers_of IsMember fair a.region a.worker x accepted
+  Took accepted = calls.AcceptsForAny hands_of answers_of IsMember fair a.region a.worker x accepted
 
   pub handed_work : (r : Result Turn Memory) → IfOk r (λ turn. (turn ≡ Moved) × Took (y ∷ [])) → OnOk r (calls.BeginsByEachView IsMember BeginsRequest a.region a.worker x y.0 y.1) → OnErr r (Took []) → OnOk r (now ≡ a.queue) → OnErr r (now ≡ y ∷ a.queue) → IsAtWork seat b
   handed_work (Ok turn) moved begins failed taken back = record {
@@ -32,7 +32,7 @@ module _ (seat : SeatAt) (a : WorkState) (x : Worker) (now : List (ℕ × Reques
     own = subst (calls.AreOwn seat.place seat.number) (sym back) (own, at.own);
   }
 
-  pub handed_accepts : (r : Result Turn Memory) → IfOk r (λ turn. (turn ≡ Moved) × Took (y ∷ [])) → OnOk r (calls.BeginsByEachView IsMember BeginsRequest a.region a.worker x y.0 y.1) → OnErr r (Took []) → OnOk r (now ≡ a.queue) → OnErr r (now ≡ y ∷ a.queue) → Accepts seat (with_next y a) b
+  pub handed_accepts : (r : Result Turn Memory) → IfOk r (λ turn. (turn ≡ Moved) × Took (y ∷ [])) → OnOk r (calls.BeginsByEachView IsMember BeginsRequest a.region a.worker x y.0 y.1) → OnErr r (Took []) → OnOk r (now ≡ a.queue) → OnErr r (now ≡ y ∷ a.queue) → TakesNext seat (with_next y a) b
   handed_accepts (Ok turn) moved begins failed taken back = record {
     next = y;
     rest = a.queue;

@@ -35,7 +35,7 @@ use Rattle.engine_laws.specs.Spending.{lines_in, SpendsRoom}
 use Rattle.engine_laws.specs.Rooms.{out_lines, HasRoom}
 use Rattle.engine_laws.proofs.Clients.{raised_by_up, raised_append, causes_up, causes_append, lacks_less, at_least_same, of_member, of_core, all_in, all_append, filter_in, OwnLines, OwnMoves, fresh, own_room, own_posted, not_ample, not_scarce, core_spends, Changes, lawful_changes}
 use Rattle.core_worker.specs.declared.types.Answer.{Answer as Answered}
-use Rattle.thread_engine.specs.WorkStates.{WorkState, Accepts, Move, wound_down, with_more, with_answers, Leads, joined_by, joined_along}
+use Rattle.thread_engine.specs.WorkStates.{WorkState, TakesNext, Move, wound_down, with_more, with_answers, Leads, joined_by, joined_along}
 use Rattle.thread_engine.specs.WorkStates.Move.{accepts, turns, winds_down, joins, hands_over}
 use Rattle.thread_engine.specs.WorkLaws.{hands_at}
 use Rattle.thread_engine.specs.CoreRuns.{fixed_by, fixed_along}
@@ -195,7 +195,7 @@ module _ (o : Origin) (layout : IsLayout (layout_of o.found)) (given : List Requ
     }
 
   -- what joins later counts as waiting already
-  reckons_accept : (later : List (ℕ × Request)) (a b : WorkState) (fs : List Fixed) → Reckons o given c (with_more later a) fs → (A : Accepts seat a b) → Reckons o given c (with_more later b) (fs ++ A.call.fixed)
+  reckons_accept : (later : List (ℕ × Request)) (a b : WorkState) (fs : List Fixed) → Reckons o given c (with_more later a) fs → (A : TakesNext seat a b) → Reckons o given c (with_more later b) (fs ++ A.call.fixed)
   reckons_accept later a b fs R A = subst (λ (z : WorkState). Reckons o given c (with_more later z) (fs ++ A.call.fixed)) here
       (reckons_call (with_more later a) (with_more later mid) fs R None None A.accepted A.call.fixed (ap (λ q. q ++ later) split ∙ append_assoc A.accepted b.queue later) (A.call.moves None) (omega arith)) where
         mid : WorkState

@@ -25,7 +25,7 @@ use Rattle.core_worker.specs.Turning.{Did, TurnedTo, at_entry}
 use Rattle.core_worker.proofs.Clients.{passes_is}
 use Rattle.core_worker.specs.Turning.Did.{begins, goes_round, withdraws, writes, marks, fails, finishes, posts, loses_block, drops, receives, sends, winds, locks, dooms, copies, loses_copies, clears, loses_clearing}
 use Rattle.core_worker.specs.Turns.{PersistsOrLoses}
-use Rattle.thread_engine.specs.WorkStates.{WorkState, IsAtWork, Accepts, MakesTurn, Move, Leads, Works, HasEnded}
+use Rattle.thread_engine.specs.WorkStates.{WorkState, IsAtWork, TakesNext, MakesTurn, Move, Leads, Works, HasEnded}
 use Rattle.thread_engine.specs.WorkStates.Move.{accepts, turns, winds_down, joins, hands_over}
 use Rattle.thread_engine.specs.WorkLaws.{in_doubt, HasRested}
 use Rattle.thread_engine.proofs.Doubts.{none_some, clash, doubt_stops, slot_is, neq}
@@ -195,7 +195,7 @@ module _ (seat : SeatAt) (refused : Bool) where
     by true now = was a.worker.stopped refl now
     by false now = inr (λ q. absurd (clash b.worker.stopped q now))
 
-  accept_because : (a b : WorkState) → IsAtWork seat a → Rested a → Accepts seat a b → Because a b
+  accept_because : (a b : WorkState) → IsAtWork seat a → Rested a → TakesNext seat a b → Because a b
   accept_because a b at R A = by b.worker.stopped refl where
     view_of_b : Rested a → a.worker.stopped ≡ true → HasDoubt seat.place seat.number b.view × (b.view.flying ≡ [])
     view_of_b R stop = subst (λ (v : View). HasDoubt seat.place seat.number v × (v.flying ≡ [])) (sym A.view) (R stop)

@@ -35,7 +35,7 @@ use Rattle.core_worker.specs.Beginning.{answers_of}
 use Rattle.core_worker.specs.KeyTies.{Offers}
 use Rattle.core_worker.specs.WorkerMoves.{hands_of}
 use Rattle.core_worker.proofs.Clients.{adds_none}
-use Rattle.thread_engine.specs.WorkStates.{WorkState, IsAtWork, Accepts, MakesTurn, Move, wound_down, with_more, with_answers, Leads, joined_by, given_by, joined_along, given_along}
+use Rattle.thread_engine.specs.WorkStates.{WorkState, IsAtWork, TakesNext, MakesTurn, Move, wound_down, with_more, with_answers, Leads, joined_by, given_by, joined_along, given_along}
 use Rattle.thread_engine.specs.WorkStates.Move.{accepts, turns, winds_down, joins, hands_over}
 use Rattle.thread_engine.specs.WorkLaws.{in_doubt, HasBlock, KeepsDoubts, hands_at, WorksOff}
 use Rattle.thread_engine.specs.CoreRuns.{fixed_by, fixed_along}
@@ -189,7 +189,7 @@ module _ (key_goes : KeyGoes) (seat : SeatAt) where
       refl,
     )
 
-  accept_works_off : (a b : WorkState) → KeepsDoubts seat a.view → (A : Accepts seat a b) → Off a b A.call.fixed [] []
+  accept_works_off : (a b : WorkState) → KeepsDoubts seat a.view → (A : TakesNext seat a b) → Off a b A.call.fixed [] []
   accept_works_off a b D A = subst (λ z. Off a z A.call.fixed [] []) here (
     call_works_off a.region a.region a.view a.view a.trail a.trail a.worker b.worker a.queue b.queue None None A.accepted A.call.fixed split A.call.adds (A.call.moves None) (λ k d own was now. refl),
     refl,

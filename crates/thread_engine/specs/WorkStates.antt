@@ -63,7 +63,7 @@ abbrev pub takes : Worker → Bool
 takes w = is_open may_take leads w
 
 -- The worker is handed the next request, and accepts it or gives it back for want of memory. It makes no step.
-pub record Accepts (seat : SeatAt) (a b : WorkState) : Type 0 where
+pub record TakesNext (seat : SeatAt) (a b : WorkState) : Type 0 where
   pub next : ℕ × Request
   pub rest : List (ℕ × Request)
   pub accepted : List (ℕ × Request)
@@ -107,7 +107,7 @@ with_answers xs a = record a { worker = record a.worker { answers = xs } }
 
 -- One move of the core. `refused` says whether its gate may hold it back. Between its worker's own moves requests join those that wait, and its answers are handed over.
 pub data Move (seat : SeatAt) (refused : Bool) (a b : WorkState) : Type 0 where
-  accepts : Accepts seat a b → Move seat refused a b
+  accepts : TakesNext seat a b → Move seat refused a b
   turns : MakesTurn seat refused a b → Move seat refused a b
   winds_down : b ≡ wound_down a → Move seat refused a b
   joins : (xs : List (ℕ × Request)) → b ≡ with_more xs a → Move seat refused a b

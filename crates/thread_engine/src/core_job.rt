@@ -6,7 +6,7 @@ ghost use Rattle.group_laws.specs.Places.{owner};
 ghost use Rattle.thread_engine.specs.declared.core_job.CoreJob as data_of;
 ghost use Rattle.answer_cores.specs.Handing.{HandsOver};
 ghost use Rattle.thread_engine.specs.WindowJobs.{IsReady, MayHandOver, HandedOver, WorksWindow};
-ghost use Rattle.thread_engine.specs.WorkStates.{IsAtWork, Accepts, MakesTurn, OwnMove, WorksOn, GoesOn, HasEnded, takes, sight_by, stands_at, with_next};
+ghost use Rattle.thread_engine.specs.WorkStates.{IsAtWork, TakesNext, MakesTurn, OwnMove, WorksOn, GoesOn, HasEnded, takes, sight_by, stands_at, with_next};
 
 use crate::core_side::CoreSide;
 use crate::group_leads::AllLeads;
@@ -54,7 +54,7 @@ impl<B: Board, P: Region> CoreJob<B, P> {
         ensures pass { self.new.pass ≡ self.old.pass }
         ensures work { IsAtWork (B.seat self.old.seat)
             (stands_at (sight_by B.view B.trail B.at) P.state self.new) }
-        ensures accepts { Accepts (B.seat self.old.seat)
+        ensures accepts { TakesNext (B.seat self.old.seat)
             (with_next (number, request) (stands_at (sight_by B.view B.trail B.at) P.state self.old))
             (stands_at (sight_by B.view B.trail B.at) P.state self.new) }
     {

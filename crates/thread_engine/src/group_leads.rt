@@ -9,7 +9,8 @@ use std::sync::Wait;
 use std::sync::atomic::{AtomicU64, Ordering};
 use std::time::{Clock, Duration};
 
-// Of so many leads the first few are made together and the next ones apart, whatever is usual, so that both times stay known.
+// Of so many leads the first few are made together and the next ones apart, whatever is usual, so that both times stay known;
+// but none is made together where both are below the shortest.
 const ROUND: u64 = 512;
 
 const TOGETHER: u64 = 4;

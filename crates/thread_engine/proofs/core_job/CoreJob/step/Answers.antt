@@ -1,6 +1,6 @@
 -- A step is a move of the worker.
 use Rattle.std.proofs.Common.{refl, sym, ◌∙◌, subst}
-use Rattle.thread_engine.specs.WorkStates.{Accepts, MakesTurn, stands_at, sight_by}
+use Rattle.thread_engine.specs.WorkStates.{TakesNext, MakesTurn, stands_at, sight_by}
 use Rattle.thread_engine.specs.WorkStates.Move.{accepts, turns}
 use Rattle.thread_engine.proofs.core_job.CoreJob.step.Goals as goal
 
@@ -9,7 +9,7 @@ returns-in-Some-clause-moves g c =
     let stands = stands_at (sight_by g.B.Board.view g.B.Board.trail g.B.Board.at) g.P.Region.state in
     let a = stands c.args.self.now in
     record {
-      move = accepts (subst (λ q. Accepts (g.B.Board.seat c.args.self.now.seat) (record a { queue = q }) (stands c.accept.new.self)) (sym c.in-Some.ensures.rest) c.accept.ensures.accepts);
+      move = accepts (subst (λ q. TakesNext (g.B.Board.seat c.args.self.now.seat) (record a { queue = q }) (stands c.accept.new.self)) (sym c.in-Some.ensures.rest) c.accept.ensures.accepts);
       joins = refl;
       gives = refl;
     }
