@@ -24,6 +24,8 @@ use Rattle.core_worker.specs.Order.{InOrder}
 use Rattle.core_worker.specs.Supplies.{HasKeptRoom}
 use Rattle.core_worker.specs.Ties.{Holds, Stands}
 use Rattle.core_worker.specs.Openings.{IsNew, IsCertainAt, ByEachImage, opened_view}
+use Rattle.core_worker.proofs.Clients.{starts_nothing}
+use Rattle.engine_core.specs.Working.{IsMember}
 use Rattle.engine_tests.specs.WorkerTrials.{IsSeated, IsAtBoard}
 use Rattle.engine_tests.proofs.WorkerTrials.{seated}
 
@@ -65,7 +67,7 @@ module _ (s : State) (r : Recovered) (d start : CoreStart) (w : Worker) (first :
       subst IsFifth four (seated s r 5 d start w first words certain made found stand eight low is N refl holds stands order)
 
   pub at_board : HasKeptRoom w → (g : Group) → g ≡ opened (place_at l 1) (lasts s) → IsAtBoard s g w
-  at_board rule g opens = subst (λ (x : Group). IsAtBoard s x w) (sym opens) (record { seated = fifth; rule = rule })
+  at_board rule g opens = subst (λ (x : Group). IsAtBoard s x w) (sym opens) (record { seated = fifth; rule = rule; starts = starts_nothing w N.leading })
 
 -- so it may accept a request for one of its keys
 tied_at : (s : State) (p : Place) (m : ℕ) (v : View) (w : Worker) → IsSeated s p m v w → (k : ℕ) → k % 8 ≡ 5 → IsTied s w k (record { place = p; number = m; view = v })
@@ -93,3 +95,7 @@ seated_on s t a b u v y w x seated same holds stands order h st o = subst (λ (z
   order = o a.place a.number v order;
   own = seated.own;
 })
+
+-- so an engine may give it a turn
+pub is_member : (s : State) (g : Group) (w : Worker) → IsAtBoard s g w → IsMember g.place 1 s (view_of g 1) w
+is_member s g w at = record { holds = at.seated.holds; stands = at.seated.stands; order = at.seated.order; rule = λ _. at.rule }

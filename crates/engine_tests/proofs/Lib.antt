@@ -1,3 +1,5 @@
 mod WorkerTrials
 mod ReachedWords
 mod GateTrials
+mod EngineTrials
+mod CountedWorkers

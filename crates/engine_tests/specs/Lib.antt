@@ -1,1 +1,2 @@
 pub mod WorkerTrials
+pub mod EngineTrials

@@ -6,6 +6,7 @@ use Rattle.group_laws.specs.State.{Group}
 use Rattle.group_laws.specs.MemberViews.{View, view_of}
 use Rattle.core_worker.specs.declared.worker.Worker.{Worker}
 use Rattle.core_worker.specs.Accepting.{HasTie}
+use Rattle.core_worker.specs.Left.{StartsFirst}
 use Rattle.core_worker.specs.Order.{InOrder}
 use Rattle.core_worker.specs.Status.{has_room, is_leading}
 use Rattle.core_worker.specs.Supplies.{HasKeptRoom}
@@ -29,3 +30,4 @@ pub record IsSeated (s : State) (p : Place) (m : ℕ) (v : View) (w : Worker) : 
 pub record IsAtBoard (s : State) (g : Group) (w : Worker) : Type 0 where
   pub seated : IsSeated s g.place 1 (view_of g 1) w
   pub rule : HasKeptRoom w
+  pub starts : StartsFirst w

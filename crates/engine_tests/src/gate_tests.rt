@@ -230,7 +230,7 @@ fn post_turn<B: Board>(
 }
 
 /// Whether request 7 was stored.
-fn is_stored(answer: &Option<Answer>) -> bool {
+pub fn is_stored(answer: &Option<Answer>) -> bool {
     matches!(
         answer,
         Some(Answer {

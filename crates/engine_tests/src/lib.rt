@@ -3,6 +3,10 @@
 #![tactic(auto)]
 
 #[cfg(test)]
+mod counted_cores_tests;
+#[cfg(test)]
+mod counted_worker_tests;
+#[cfg(test)]
 mod crew_tests;
 #[cfg(test)]
 mod forgotten_tests;

@@ -1,6 +1,7 @@
 // A worker over what recovery finds, in the second of two groups. Expected values are those of the format's rules.
 ghost use Rattle.std.specs.Prelude.{◌≡◌, ℕ, ◌%◌, length, IfOk, IfSome};
 ghost use Rattle.pm_region.specs.State.{IsTelling};
+ghost use Rattle.pm_region.specs.Split.{words_in};
 ghost use Rattle.region_memory.specs.Steady.{steady_state};
 ghost use Rattle.recover.specs.Regions.{IsCertain};
 ghost use Rattle.engine_tests.specs.WorkerTrials.{MayAccept};
@@ -67,6 +68,8 @@ fn bytes_of(alloc: Global, writes: &[(usize, u64)]) -> Result<Vec<u8>, Memory> {
 /// A region with these words, attached.
 pub(crate) fn attached(alloc: Global) -> Result<SteadyRegion, Fail>
     ensures first { IfOk result (λ r. (steady_state r).frame.first ≡ 0) }
+    ensures words { IfOk result (λ r. (steady_state r).frame.words
+        ≡ words_in (steady_state r).frame.bytes) }
     ensures tells { IfOk result (λ r. IsTelling (steady_state r)) }
     ensures certain { IfOk result (λ r. IsCertain (steady_state r)) }
 {
