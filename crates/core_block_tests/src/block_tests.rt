@@ -6,6 +6,7 @@ ghost use Rattle.pm_region.specs.Cell.{certain};
 ghost use Rattle.chunk_map.specs.Layouts.{IsLayout, is_class};
 ghost use Rattle.lazy_alloc.specs.Sets.{AreSets, chunk_class};
 ghost use Rattle.lazy_alloc.specs.Written.{PartLies};
+ghost use Rattle.core_block_tests.specs.SmallParts.{small};
 
 use crate::plain_allocator::Plain;
 use chunk_map::{Head, Layout};
@@ -20,7 +21,7 @@ use std::test::Fail;
 fn free_part(alloc: Global) -> Result<Allocator, Fail>
     ensures sets { IfOk result (λ a. AreSets a) }
     ensures layout { IfOk result
-        (λ a. a.layout ≡ record { cores = 1; group = 1; chunks = 4; chunk_bytes = 4096 }) }
+        (λ a. a.layout ≡ small) }
     ensures part { IfOk result (λ a. a.part ≡ 0) }
     ensures uncut { IfOk result (λ a. (j : ℕ) → chunk_class a j ≡ None) }
 {
@@ -33,42 +34,18 @@ fn take(a: &mut Allocator, class: u32, may_cut: bool) -> Option<u64>
     requires low { 1 ≤ class }
     requires high { class ≤ 2 }
     requires sets { AreSets a.old }
-    requires layout { a.old.layout ≡ record {
-      cores = 1;
-      group = 1;
-      chunks = 4;
-      chunk_bytes =
-          4096;
-    } }
+    requires layout { a.old.layout ≡ small }
     ensures sets { AreSets a.new }
-    ensures layout { a.new.layout ≡ record {
-      cores = 1;
-      group = 1;
-      chunks = 4;
-      chunk_bytes =
-          4096;
-    } }
+    ensures layout { a.new.layout ≡ small }
 {
     a.take(class, may_cut)
 }
 
 fn put_back(a: &mut Allocator, pointer: u64)
     requires sets { AreSets a.old }
-    requires layout { a.old.layout ≡ record {
-      cores = 1;
-      group = 1;
-      chunks = 4;
-      chunk_bytes =
-          4096;
-    } }
+    requires layout { a.old.layout ≡ small }
     ensures sets { AreSets a.new }
-    ensures layout { a.new.layout ≡ record {
-      cores = 1;
-      group = 1;
-      chunks = 4;
-      chunk_bytes =
-          4096;
-    } }
+    ensures layout { a.new.layout ≡ small }
 {
     if a.is_allocated(pointer) {
         a.put_back(pointer);
@@ -106,21 +83,9 @@ fn take_both(a: &mut Allocator, plain: &mut Plain, class: u32, may_cut: bool) ->
     requires low { 1 ≤ class }
     requires high { class ≤ 2 }
     requires sets { AreSets a.old }
-    requires layout { a.old.layout ≡ record {
-      cores = 1;
-      group = 1;
-      chunks = 4;
-      chunk_bytes =
-          4096;
-    } }
+    requires layout { a.old.layout ≡ small }
     ensures sets { AreSets a.new }
-    ensures layout { a.new.layout ≡ record {
-      cores = 1;
-      group = 1;
-      chunks = 4;
-      chunk_bytes =
-          4096;
-    } }
+    ensures layout { a.new.layout ≡ small }
 {
     take(a, class, may_cut) == plain.take(class, may_cut)
 }
@@ -128,21 +93,9 @@ fn take_both(a: &mut Allocator, plain: &mut Plain, class: u32, may_cut: bool) ->
 // Whether the block with this pointer is allocated in both forms or in none. It is put back.
 fn put_back_both(a: &mut Allocator, plain: &mut Plain, pointer: u64) -> bool
     requires sets { AreSets a.old }
-    requires layout { a.old.layout ≡ record {
-      cores = 1;
-      group = 1;
-      chunks = 4;
-      chunk_bytes =
-          4096;
-    } }
+    requires layout { a.old.layout ≡ small }
     ensures sets { AreSets a.new }
-    ensures layout { a.new.layout ≡ record {
-      cores = 1;
-      group = 1;
-      chunks = 4;
-      chunk_bytes =
-          4096;
-    } }
+    ensures layout { a.new.layout ≡ small }
 {
     let same = a.is_allocated(pointer) == plain.is_allocated(pointer);
     put_back(a, pointer);
@@ -153,21 +106,9 @@ fn put_back_both(a: &mut Allocator, plain: &mut Plain, pointer: u64) -> bool
 // Whether the two forms lend the same chunk to the log. It comes back.
 fn lend_both(a: &mut Allocator, plain: &mut Plain) -> bool
     requires sets { AreSets a.old }
-    requires layout { a.old.layout ≡ record {
-      cores = 1;
-      group = 1;
-      chunks = 4;
-      chunk_bytes =
-          4096;
-    } }
+    requires layout { a.old.layout ≡ small }
     ensures sets { AreSets a.new }
-    ensures layout { a.new.layout ≡ record {
-      cores = 1;
-      group = 1;
-      chunks = 4;
-      chunk_bytes =
-          4096;
-    } }
+    ensures layout { a.new.layout ≡ small }
 {
     let lent = plain.take_chunk();
     let Some(chunk) = a.take_chunk() else {
@@ -182,21 +123,9 @@ fn lend_both(a: &mut Allocator, plain: &mut Plain) -> bool
 // One change of both forms, picked by a random number: whether they answer the same.
 fn change_both(a: &mut Allocator, plain: &mut Plain, random: u64) -> bool
     requires sets { AreSets a.old }
-    requires layout { a.old.layout ≡ record {
-      cores = 1;
-      group = 1;
-      chunks = 4;
-      chunk_bytes =
-          4096;
-    } }
+    requires layout { a.old.layout ≡ small }
     ensures sets { AreSets a.new }
-    ensures layout { a.new.layout ≡ record {
-      cores = 1;
-      group = 1;
-      chunks = 4;
-      chunk_bytes =
-          4096;
-    } }
+    ensures layout { a.new.layout ≡ small }
 {
     match random % 16 {
         0 => take_both(a, plain, 1, true),
@@ -211,13 +140,7 @@ fn change_both(a: &mut Allocator, plain: &mut Plain, random: u64) -> bool
 
 // Whether all counts are the same in both forms.
 fn same_counts(a: &Allocator, plain: &Plain) -> bool
-    requires layout { a.now.layout ≡ record {
-      cores = 1;
-      group = 1;
-      chunks = 4;
-      chunk_bytes =
-          4096;
-    } }
+    requires layout { a.now.layout ≡ small }
 {
     a.free_chunks() == plain.free_chunks()
         && a.free_blocks(1) == plain.free_blocks(1)
@@ -227,21 +150,9 @@ fn same_counts(a: &Allocator, plain: &Plain) -> bool
 // One change of both forms: whether they answer the same and count the same behind it.
 fn step(a: &mut Allocator, plain: &mut Plain, random: u64) -> bool
     requires sets { AreSets a.old }
-    requires layout { a.old.layout ≡ record {
-      cores = 1;
-      group = 1;
-      chunks = 4;
-      chunk_bytes =
-          4096;
-    } }
+    requires layout { a.old.layout ≡ small }
     ensures sets { AreSets a.new }
-    ensures layout { a.new.layout ≡ record {
-      cores = 1;
-      group = 1;
-      chunks = 4;
-      chunk_bytes =
-          4096;
-    } }
+    ensures layout { a.new.layout ≡ small }
 {
     let same_answer = change_both(a, plain, random);
     same_answer && same_counts(a, plain)

@@ -5,4 +5,4 @@ mod tallying;
 #[cfg(test)]
 mod tallying_tests;
 
-pub use tallying::{add_pairs, add_replies, add_reply, nothing};
+pub use tallying::{add_pairs, add_reply, nothing};

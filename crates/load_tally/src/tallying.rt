@@ -1,5 +1,5 @@
 // A tally that grows.
-ghost use Rattle.std.specs.Prelude.{◌≡◌, ◌+◌, ◌^◌, ◌<◌, List, [], ◌∷◌, ◌++◌, length};
+ghost use Rattle.std.specs.Prelude.{◌≡◌, ◌+◌, ◌^◌, ◌<◌, List, [], ◌∷◌, ◌++◌};
 ghost use Rattle.fs_model.specs.declared.model.Reply as replies_of;
 ghost use Rattle.load_tally.specs.Tallied.{IsWithin, tally_of, bytes_of};
 
@@ -39,20 +39,6 @@ pub fn add_reply(tally: &mut LoadTally, reply: &Reply)
         Reply::Absent => tally.absent += 1,
         Reply::Deleted => tally.deleted += 1,
         Reply::Full | Reply::VersionsSpent | Reply::TooLong | Reply::Stopped => tally.refused += 1,
-    }
-}
-
-/// Counts the next replies, behind those that were counted.
-pub fn add_replies(tally: &mut LoadTally, replies: &[Reply])
-    requires within { IsWithin tally.old }
-    requires room { tally.old.requests + length replies.now < 2 ^ 64 }
-    ensures counts { (rs : List replies_of.Reply) → tally.old ≡ tally_of rs []
-        → tally.new ≡ tally_of (rs ++ replies.now) [] }
-    ensures within { IsWithin tally.new }
-    ensures requests { tally.new.requests ≡ tally.old.requests + length replies.now }
-{
-    for reply in replies {
-        add_reply(tally, reply);
     }
 }
 

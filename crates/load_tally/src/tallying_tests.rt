@@ -1,10 +1,25 @@
-ghost use Rattle.std.specs.Prelude.{◌≡◌, ◌+◌, ◌^◌, ◌<◌, ◌++◌, length};
-ghost use Rattle.load_tally.specs.Tallied.{tally_of};
+ghost use Rattle.std.specs.Prelude.{◌≡◌, ◌+◌, ◌^◌, ◌<◌, List, [], ◌++◌, length};
+ghost use Rattle.fs_model.specs.declared.model.Reply as replies_of;
+ghost use Rattle.load_tally.specs.Tallied.{IsWithin, tally_of};
 
 use super::*;
 use fs_model::{Pair, Reply, Value};
 use fs_text::LoadTally;
 use std::test::*;
+
+// Counts the next replies, behind those that were counted.
+fn add_replies(tally: &mut LoadTally, replies: &[Reply])
+    requires within { IsWithin tally.old }
+    requires room { tally.old.requests + length replies.now < 2 ^ 64 }
+    ensures counts { (rs : List replies_of.Reply) → tally.old ≡ tally_of rs []
+        → tally.new ≡ tally_of (rs ++ replies.now) [] }
+    ensures within { IsWithin tally.new }
+    ensures requests { tally.new.requests ≡ tally.old.requests + length replies.now }
+{
+    for reply in replies {
+        add_reply(tally, reply);
+    }
+}
 
 // The tally of replies that come in two parts, and of the pairs behind them.
 fn tallied(front: &[Reply], back: &[Reply], pairs: &[Pair]) -> LoadTally

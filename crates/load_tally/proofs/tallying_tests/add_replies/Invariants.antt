@@ -1,7 +1,7 @@
 use Rattle.std.proofs.Common.{◌≡◌, ◌+◌, List, [], ◌++◌, take}
 use Rattle.fs_model.specs.declared.model.Reply.{Reply}
 use Rattle.load_tally.specs.Tallied.{IsWithin, tally_of}
-use Rattle.load_tally.proofs.tallying.add_replies.Given as goal
+use Rattle.load_tally.proofs.tallying_tests.add_replies.Given as goal
 
 abbrev pub invariant-loop-reply : goal.invariant-loop-reply
 invariant-loop-reply l = record {

@@ -1,7 +1,7 @@
 use Rattle.std.proofs.Common.{◌+◌, ◌∷◌, [], ◌++◌, take, sym, ap, ◌∙◌, append_assoc, arith}
 use Rattle.std.proofs.lemmas.List.{take_more, take_all}
 use Rattle.load_tally.specs.Tallied.{tally_of}
-use Rattle.load_tally.proofs.tallying.add_replies.Goals as goal
+use Rattle.load_tally.proofs.tallying_tests.add_replies.Goals as goal
 
 pub loop-reply-preserved : goal.loop-reply-preserved
 loop-reply-preserved c =
