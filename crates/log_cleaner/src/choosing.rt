@@ -6,7 +6,7 @@ ghost use Rattle.log_standing.specs.ChunkCounts.{IsStandingOf};
 ghost use Rattle.log_cleaner.specs.Choosing.{IsChosen, IsCandidate, IsFirstIn, IsPast, IsVictim};
 ghost use Rattle.log_cleaner.specs.Floors.{HasFloors, Searches};
 
-use crate::fitting::{copy_lines, has_room};
+use crate::copy_room::{copy_lines, has_room};
 use crate::reading_start::tail_of;
 use crate::searching::search_chunk;
 use crate::types::Victim;

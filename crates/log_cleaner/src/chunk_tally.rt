@@ -17,8 +17,10 @@ use std::alloc::Global;
 // Notes an entry, where there is room for its name.
 fn note(tally: &mut Tally, found: Peek)
     requires size { found.place ≤ found.next }
-    requires entries { entries_held (amount_at tally.old found.name.key found.name.version) ≤ found.place }
-    requires words { words_held (amount_at tally.old found.name.key found.name.version) ≤ found.place }
+    requires entries { entries_held (amount_at tally.old found.name.key found.name.version)
+        ≤ found.place }
+    requires words { words_held (amount_at tally.old found.name.key found.name.version)
+        ≤ found.place }
     requires more { found.place + 1 < 2 ^ 64 }
     ensures { NotesIf tally.old tally.new found }
 {

@@ -7,8 +7,8 @@ ghost use Rattle.log_cleaner.specs.Choosing.{IsCandidate, IsChosen};
 ghost use Rattle.log_cleaner.specs.Floors.{HasFloors, Searches};
 ghost use Rattle.log_cleaner.specs.Searching.{Forgets, Looks, IsRead};
 
+use crate::copy_room::{copy_lines, has_room};
 use crate::counting::with_entry;
-use crate::fitting::{copy_lines, has_room};
 use crate::types::Victim;
 use core_log::{CoreLog, Peek, Room};
 use log_entry::{EntryName, LONGEST_ENTRY};
