@@ -4,7 +4,7 @@ ghost use Rattle.std.specs.Prelude.{◌≡◌, ℕ, [], ◌∷◌, IfOk, OnOk, O
 ghost use Rattle.region_file.specs.Calls.{refused};
 
 use crate::calls::Calls;
-use crate::system::{self, FilePlace};
+use crate::system::{self, FileId, FilePlace};
 use pm_region::RegionFault;
 use std::fs::File;
 use std::os::unix::fs::FileExt;
@@ -40,6 +40,8 @@ const FAILED: u64 = 12;
 #[derive(Drop)]
 pub struct Device {
     file: File,
+    // Which file it is: an open file stays that one.
+    id: FileId,
     writable: bool,
     /// Since it was opened. Only clauses read it.
     pub calls: Calls,
@@ -79,11 +81,12 @@ impl Device {
         ensures err { OnErr result (tried.new.made ≡ refused ∷ tried.old.made) }
     {
         match system::locked_at_best(rt, path) {
-            Ok((file, writable)) => {
+            Ok((file, id, writable)) => {
                 let mut calls = Calls::none();
                 calls.note(&[OPENED, 0], path.as_bytes());
                 Ok(Device {
                     file,
+                    id,
                     writable,
                     calls,
                 })
@@ -106,11 +109,12 @@ impl Device {
         ensures err { OnErr result (tried.new.made ≡ refused ∷ tried.old.made) }
     {
         match place.begin(rt, path) {
-            Ok(file) => {
+            Ok((file, id)) => {
                 let mut calls = Calls::none();
                 calls.note(&[EMPTIED, 0], path.as_bytes());
                 Ok(Device {
                     file,
+                    id,
                     writable: true,
                     calls,
                 })
@@ -139,6 +143,7 @@ impl Device {
                 calls.note(&[OPENED, 0], path.as_bytes());
                 Ok(Device {
                     file,
+                    id: self.id,
                     writable: self.writable,
                     calls,
                 })
@@ -152,7 +157,7 @@ impl Device {
 
     fn reopened<R: Files<File = File>>(&self, rt: &R, path: &str) -> Result<File, RegionFault> {
         let file = system::open_regular(rt, path, self.writable)?;
-        if system::is_named(rt, path, &self.file)? && system::is_named(rt, path, &file)? {
+        if system::id_of(&file)? == self.id && system::is_named(rt, path, self.id)? {
             Ok(file)
         } else {
             Err(RegionFault)
@@ -191,17 +196,22 @@ impl Device {
         }
     }
 
-    /// Asks whether the name still leads to the file.
-    pub fn stand<R: Files<File = File>>(&mut self, rt: &R, path: &str) -> Result<(), RegionFault>
-        ensures ok { OnOk result (self.new.calls.made ≡ stood path.now ∷ self.old.calls.made) }
+    /// Asks whether the name still leads to the file, and how many bytes it has: the system tells both of a name at once.
+    pub fn find<R: Files<File = File>>(&mut self, rt: &R, path: &str) -> Result<u64, RegionFault>
+        ensures ok { IfOk result (λ n. self.new.calls.made
+            ≡ measured n ∷ stood path.now ∷ self.old.calls.made) }
         ensures err { OnErr result (self.new.calls.made ≡ refused ∷ self.old.calls.made) }
     {
-        if matches!(system::is_named(rt, path, &self.file), Ok(true)) {
-            self.calls.note(&[STOOD, 0], path.as_bytes());
-            Ok(())
-        } else {
-            self.calls.note(&[REFUSED, 0], &[]);
-            Err(RegionFault)
+        match system::length_at(rt, path, self.id) {
+            Ok(size) => {
+                self.calls.note(&[STOOD, 0], path.as_bytes());
+                self.calls.note(&[MEASURED, size], &[]);
+                Ok(size)
+            }
+            Err(_) => {
+                self.calls.note(&[REFUSED, 0], &[]);
+                Err(RegionFault)
+            }
         }
     }
 
@@ -259,7 +269,7 @@ impl Device {
         ensures ok { OnOk result (self.new.calls.made ≡ placed path.now ∷ self.old.calls.made) }
         ensures err { OnErr result (self.new.calls.made ≡ failed ∷ self.old.calls.made) }
     {
-        if place.give(rt, own, path, &self.file).is_ok() {
+        if place.give(rt, own, path, self.id).is_ok() {
             self.calls.note(&[PLACED, 0], path.as_bytes());
             Ok(())
         } else {

@@ -164,9 +164,8 @@ fn fence_device<R: Files<File = File>>(
     ensures err_calls { OnErr result (IsNotFenced words.new 0 device.old.calls.made
         (looked path.now words.old.size device.old.calls.made) device.new.calls.made) }
 {
-    device.stand(rt, path)?;
-    let size = words.size;
-    fence_sized(words, device, 0, size)
+    look(rt, path, words.size, device)?;
+    words.write_flushed(device, 0)
 }
 
 /// A fence of words that begin at the byte `start` of an open file. It is a fault where the file hasn't so many bytes.
@@ -212,8 +211,11 @@ fn look<R: Files<File = File>>(
     ensures ok { OnOk result (device.new.calls.made ≡ looked path.now size device.old.calls.made) }
     ensures err { OnErr result (OnlyReads device.old.calls.made device.new.calls.made) }
 {
-    device.stand(rt, path)?;
-    check_size(device, size)
+    if device.find(rt, path)? == size {
+        Ok(())
+    } else {
+        Err(RegionFault)
+    }
 }
 
 /// Asks whether the file still has so many bytes.

@@ -1,6 +1,6 @@
 // The calls of the system by which a file is opened, locked, named and made certain. With `device` it is the trusted
 // edge: what these calls do is only read, and tried on real files.
-use std::fs::{File, OpenOptions};
+use std::fs::{File, Metadata, OpenOptions};
 use std::io::{self, ErrorKind};
 use std::os::fd::AsRawFd;
 use std::os::unix::fs::{MetadataExt, fchown};
@@ -9,11 +9,18 @@ use std::rt::Files;
 /// The last descriptor of the standard streams: input, output and errors.
 const LAST_STREAM: i32 = 2;
 
+/// Which file of the system it is: its file system's number, and its own there. While a file is open no other has both.
+#[derive(Clone, Copy, PartialEq, Eq)]
+pub struct FileId {
+    system: u64,
+    number: u64,
+}
+
 /// The old file of a name, locked, if there is one, and the open folder in which it lies.
 #[derive(Drop)]
 pub struct FilePlace {
     folder: File,
-    old: Option<File>,
+    old: Option<(File, FileId)>,
 }
 
 impl FilePlace {
@@ -31,7 +38,7 @@ impl FilePlace {
 
     /// A file of this name, empty and locked, with the owner and the rights of the old one. What lies there is what a
     /// format left that was cut off.
-    pub fn begin<R: Files<File = File>>(&self, rt: &R, path: &str) -> io::Result<File> {
+    pub fn begin<R: Files<File = File>>(&self, rt: &R, path: &str) -> io::Result<(File, FileId)> {
         if rt
             .symlink_metadata(path)
             .is_ok_and(|found| !found.is_file())
@@ -40,9 +47,9 @@ impl FilePlace {
         }
         let mut options = OpenOptions::new();
         let file = above_streams(options.read(true).write(true).create(true).open(rt, path)?)?;
-        lock(rt, path, &file, true)?;
+        let id = lock(rt, path, &file, true)?;
         match self.clear(&file) {
-            Ok(()) => Ok(file),
+            Ok(()) => Ok((file, id)),
             Err(e) => {
                 let _ = rt.remove_file(path);
                 Err(e)
@@ -52,7 +59,7 @@ impl FilePlace {
 
     fn clear(&self, file: &File) -> io::Result<()> {
         file.set_len(0)?;
-        let Some(old) = &self.old else {
+        let Some((old, _)) = &self.old else {
             return Ok(());
         };
         let (own, wanted) = (file.metadata()?, old.metadata()?);
@@ -72,15 +79,15 @@ impl FilePlace {
         rt: &R,
         from: &str,
         to: &str,
-        file: &File,
+        id: FileId,
     ) -> io::Result<()> {
         let is_free = match &self.old {
-            Some(old) => is_named(rt, to, old)?,
+            Some((_, old)) => is_named(rt, to, *old)?,
             None => rt
                 .symlink_metadata(to)
                 .is_err_and(|e| e.kind() == ErrorKind::NotFound),
         };
-        if is_free && is_named(rt, from, file)? {
+        if is_free && is_named(rt, from, id)? {
             rt.rename(from, to)
         } else {
             Err(refusal())
@@ -93,35 +100,41 @@ impl FilePlace {
     }
 }
 
-/// The file of this name with its lock, and whether it can be written. It is opened for reading alone, and its lock
+/// The file of this name with its lock, which one it is, and whether it can be written. It is opened for reading alone, and its lock
 /// shared, where the right to write is missing or its file system can only be read.
-pub fn locked_at_best<R: Files<File = File>>(rt: &R, path: &str) -> io::Result<(File, bool)> {
+pub fn locked_at_best<R: Files<File = File>>(
+    rt: &R,
+    path: &str,
+) -> io::Result<(File, FileId, bool)> {
     match locked(rt, path, true) {
-        Err(e) if e.kind() == ErrorKind::PermissionDenied => Ok((locked(rt, path, false)?, false)),
-        Err(e) if e.kind() == ErrorKind::ReadOnlyFilesystem => Ok((
-            locked(rt, path, false)?,
-            false,
-        )),
+        Err(e) if e.kind() == ErrorKind::PermissionDenied => read_locked(rt, path),
+        Err(e) if e.kind() == ErrorKind::ReadOnlyFilesystem => read_locked(rt, path),
         Err(e) => Err(e),
-        Ok(file) => Ok((file, true)),
+        Ok((file, id)) => Ok((file, id, true)),
     }
 }
 
-fn locked<R: Files<File = File>>(rt: &R, path: &str, writable: bool) -> io::Result<File> {
+fn read_locked<R: Files<File = File>>(rt: &R, path: &str) -> io::Result<(File, FileId, bool)> {
+    let (file, id) = locked(rt, path, false)?;
+    Ok((file, id, false))
+}
+
+fn locked<R: Files<File = File>>(rt: &R, path: &str, writable: bool) -> io::Result<(File, FileId)> {
     let file = open_regular(rt, path, writable)?;
-    lock(rt, path, &file, writable)?;
-    Ok(file)
+    let id = lock(rt, path, &file, writable)?;
+    Ok((file, id))
 }
 
 // Takes the lock at once or not at all. The file may have lost its name before it was locked.
-fn lock<R: Files<File = File>>(rt: &R, path: &str, file: &File, alone: bool) -> io::Result<()> {
+fn lock<R: Files<File = File>>(rt: &R, path: &str, file: &File, alone: bool) -> io::Result<FileId> {
     let locks = if alone {
         file.try_lock()
     } else {
         file.try_lock_shared()
     };
-    if locks.is_ok() && is_named(rt, path, file)? {
-        Ok(())
+    let id = id_of(file)?;
+    if locks.is_ok() && is_named(rt, path, id)? {
+        Ok(id)
     } else {
         Err(refusal())
     }
@@ -136,11 +149,32 @@ pub fn open_regular<R: Files<File = File>>(rt: &R, path: &str, write: bool) -> i
     above_streams(options.read(true).write(write).open(rt, path)?)
 }
 
-/// Whether the name leads to this file.
-pub fn is_named<R: Files<File = File>>(rt: &R, path: &str, file: &File) -> io::Result<bool> {
+/// Which file an open one is.
+pub fn id_of(file: &File) -> io::Result<FileId> {
     let own = file.metadata()?;
+    Ok(FileId {
+        system: own.dev(),
+        number: own.ino(),
+    })
+}
+
+fn is_of(found: &Metadata, id: FileId) -> bool {
+    found.is_file() && found.dev() == id.system && found.ino() == id.number
+}
+
+/// Whether the name leads to this file.
+pub fn is_named<R: Files<File = File>>(rt: &R, path: &str, id: FileId) -> io::Result<bool> {
+    Ok(is_of(&rt.metadata(path)?, id))
+}
+
+/// How many bytes the file has to which the name leads. Another one than this is refused.
+pub fn length_at<R: Files<File = File>>(rt: &R, path: &str, id: FileId) -> io::Result<u64> {
     let found = rt.metadata(path)?;
-    Ok(found.is_file() && found.dev() == own.dev() && found.ino() == own.ino())
+    if is_of(&found, id) {
+        Ok(found.len())
+    } else {
+        Err(refusal())
+    }
 }
 
 /// Makes certain what the file has, and its name. A folder that can't be opened is left as it is.

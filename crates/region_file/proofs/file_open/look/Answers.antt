@@ -1,18 +1,12 @@
-use Rattle.std.proofs.Common.{List, [], ◌∷◌, subst}
-use Rattle.region_file.specs.Calls.{Call, stood, refused, OnlyReads}
-use Rattle.region_file.proofs.Noting.{one_before}
-use Rattle.pm_region.proofs.Clients.{on_err, err_so}
+use Rattle.std.proofs.Common.{[], ◌∷◌}
+use Rattle.region_file.specs.Calls.{measured, stood, refused, OnlyReads}
+use Rattle.pm_region.proofs.Clients.{on_err}
 use Rattle.region_file.proofs.file_open.look.Goals as goal
 
-pub returns-in_err-stand-clause-err : goal.returns-in_err-stand-clause-err
-returns-in_err-stand-clause-err g c =
-    let made = c.args.device.now.calls.made in
-    on_err _ (OnlyReads made c.stand.new.self.calls.made) (refused ∷ [], c.in_err-stand.ensures.err, tt)
+pub returns-in_err-find-clause-err : goal.returns-in_err-find-clause-err
+returns-in_err-find-clause-err g c =
+    on_err _ (OnlyReads c.args.device.now.calls.made c.find.new.self.calls.made) (refused ∷ [], c.in_err-find.ensures.err, tt)
 
-pub returns-clause-err : goal.returns-clause-err
-returns-clause-err g c =
-    let made = c.args.device.now.calls.made in
-    let after = c.check_size.new.device.calls.made in
-    err_so c.check_size.result
-    (λ only. one_before (stood c.args.path.now) made after tt (subst (λ (l : List Call). OnlyReads l after) c.in_ok-stand.ensures.ok only))
-    c.check_size.ensures.err
+pub returns-else-branch-size-clause-err : goal.returns-else-branch-size-clause-err
+returns-else-branch-size-clause-err g c =
+    (measured c.in_ok-find.field-0 ∷ stood c.args.path.now ∷ [], c.in_ok-find.ensures.ok, tt)
