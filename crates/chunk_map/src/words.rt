@@ -56,6 +56,27 @@ pub fn flush_lines<R: Region>(region: &mut R, line: u64, count: u64)
     }
 }
 
+/// Fills a list with so many words of the region, from a word on, as a load gives each of them. What the list had is
+/// taken out first and its room stays, so one list serves many fillings and has room for the longest.
+pub fn fill_words<R: Region>(
+    region: &R,
+    first: u64,
+    count: u64,
+    words: &mut Vec<u64>,
+) -> Result<(), Memory>
+    requires { WordsLie (R.state region.now).frame first count }
+    ensures long { OnOk result (length words.new.items ≡ count) }
+    ensures words { OnOk result (IsTelling (R.state region.now) → (k : ℕ) → k < count
+        → slice_index words.new.items k ≡ lasts (R.state region.now) (first + k)) }
+{
+    words.clear();
+    words.reserve(count as usize)?;
+    for i in 0..count {
+        words.push(region.load(first + i))?;
+    }
+    Ok(())
+}
+
 /// So many words of the region, from a word on, as a load gives each of them.
 pub fn load_words<R: Region>(
     alloc: Global,
@@ -69,8 +90,6 @@ pub fn load_words<R: Region>(
         → slice_index words.items k ≡ lasts (R.state region.now) (first + k)) }
 {
     let mut words = Vec::with_capacity(alloc, count as usize)?;
-    for i in 0..count {
-        words.push(region.load(first + i))?;
-    }
+    fill_words(region, first, count, &mut words)?;
     Ok(words)
 }
