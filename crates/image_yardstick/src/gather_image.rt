@@ -9,7 +9,6 @@ use crate::chunks::read_chunk;
 use chunk_map::layouts::Geometry;
 use fs_model::Memory;
 use std::alloc::Global;
-use store_image::placing::place_entries;
 use store_image::{Fault, PlacedEntry};
 
 /// Appends a chunk's entries, and says what it breaks of rules 4 to 7.
@@ -30,9 +29,7 @@ fn gather_chunk(
     ensures entries { IfOk result (λ _. entries.new.items
         ≡ entries.old.items ++ chunk_entries layout.now (image_of words.now) part chunk) }
 {
-    let (rule, scanned) = read_chunk(alloc, layout, words, part, chunk)?;
-    place_entries(part, chunk, scanned.entries, entries)?;
-    match rule {
+    match read_chunk(alloc, layout, words, part, chunk, entries)? {
         Some(rule) => Ok(Some(Fault::Damaged { part, chunk, rule })),
         None => Ok(None),
     }

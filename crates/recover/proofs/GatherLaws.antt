@@ -1,7 +1,7 @@
 -- Loops that end at the first fault.
-use Rattle.std.proofs.Common.{◌≡◌, ℕ, ◌+◌, ◌-◌, ◌<◌, ◌≤◌, List, [], ◌∷◌, ◌++◌, length, take, get_or, map, subst, arith, refl, sym, ◌∙◌, ap, append_assoc, append-nil, Option, Some, None, true, false}
+use Rattle.std.proofs.Common.{◌≡◌, ℕ, ◌+◌, ◌-◌, ◌<◌, ◌≤◌, List, [], ◌∷◌, ◌++◌, length, take, get_or, map, refl, sym, ◌∙◌, ap, append_assoc, append-nil, Option, Some, None, true, false}
 use Rattle.std.specs.List.{flat_map}
-use Rattle.std.proofs.lemmas.List.{map-append, length-map, get_or-map, take_more}
+use Rattle.std.proofs.lemmas.List.{map-append, take_more}
 use Rattle.std.specs.Prelude.{is_some}
 use Rattle.std.specs.Option.{option_or}
 use Rattle.chunk_map.specs.Layouts.{numbers, chunk_first}
@@ -10,7 +10,7 @@ use Rattle.store_image.proofs.Clients.{first_next, first_end, list_next, list_en
 use Rattle.log_entry.specs.declared.entry.Entry.{Entry}
 use Rattle.chunk_map.specs.declared.layouts.Geometry.{Geometry}
 use Rattle.store_image.specs.declared.scanning.AtPlace.{AtPlace}
-use Rattle.store_image.specs.Scanned.{entries_by_place}
+use Rattle.store_image.specs.Scanned.{name_at}
 use Rattle.store_image.specs.Parts.{placed_in_chunk}
 use Rattle.store_image.specs.declared.types.Fault.{Fault}
 use Rattle.recover.specs.declared.found_entries.Found.{Found}
@@ -48,27 +48,19 @@ module _ {X Y : Type 0} (f : X → Y) (h : ℕ → List X) (i n : ℕ) where
   found_end old le = sym (append-nil old) ∙ ap (λ l. old ++ map f l) (list_end h i n [] le)
 
 -- what is found of a payload's entries
-pub place_lies : (n : ℕ) (es : List AtPlace) → LieBelow n (entries_by_place es) → (i : ℕ) (x : AtPlace) → i < length es → x ≡ get_or es i x → x.place < n
-place_lies n es all i x lt is =
-    let d : ℕ × Entry = (x.place, x.entry) in
-    let shows : AtPlace → ℕ × Entry = λ y. (y.place, y.entry) in
-    let here : get_or (entries_by_place es) i d ≡ (x.place, x.entry) = get_or-map shows es i x d lt ∙ ap shows (sym is) in
-    let long = length-map es shows in
-    subst (λ (y : ℕ × Entry). y.0 < n) here (all_at (λ (y : ℕ × Entry). y.0 < n) (entries_by_place es) i d all (omega (arith, lt, long)))
+module _ (es : List AtPlace) (i : ℕ) (d : AtPlace) (lt : i < length es) where
+  pub place_lies : (n : ℕ) → LieBelow n es → (get_or es i d).place < n
+  place_lies n all = all_at (λ (y : AtPlace). y.place < n) es i d all lt
 
-pub more_noted : (first : ℕ) (old now new : List Found) (es : List AtPlace) (i : ℕ) (x : AtPlace) → i < length es → x ≡ get_or es i x → now ≡ old ++ map (found_in first) (entries_by_place (take i es))
-    → new ≡ now ++ found_in first (x.place, x.entry) ∷ [] → new ≡ old ++ map (found_in first) (entries_by_place (take (i + 1) es))
-more_noted first old now new es i x lt is so_far push =
-    let shows : AtPlace → ℕ × Entry = λ y. (y.place, y.entry) in
-    let f : AtPlace → Found = λ y. found_in first (shows y) in
-    push ∙ ap (λ l. l ++ f x ∷ []) so_far ∙ append_assoc old (map (found_in first) (entries_by_place (take i es))) (f x ∷ [])
-    ∙ ap (λ l. old ++ l) (sym (map-append (found_in first) (entries_by_place (take i es)) (shows x ∷ [])))
-    ∙ ap (λ l. old ++ map (found_in first) l) (sym (map-append shows (take i es) (x ∷ [])))
-    ∙ ap (λ ys. old ++ map (found_in first) (entries_by_place ys)) (pushed es i x lt is)
-  where
-    pushed : (es : List AtPlace) (i : ℕ) (x : AtPlace) → i < length es → x ≡ get_or es i x → take i es ++ x ∷ [] ≡ take (i + 1) es
-    pushed es i x lt is = ap (λ y. take i es ++ y ∷ []) is ∙ sym (take_more es i x lt)
+  pub more_noted : (first : ℕ) (old now new : List Found) → now ≡ old ++ map (found_in first) (take i es) → new ≡ now ++ found_in first (get_or es i d) ∷ []
+      → new ≡ old ++ map (found_in first) (take (i + 1) es)
+  more_noted first old now new so_far push =
+      let f : AtPlace → Found = found_in first in
+      let x = get_or es i d in
+      push ∙ ap (λ l. l ++ f x ∷ []) so_far ∙ append_assoc old (map f (take i es)) (f x ∷ [])
+      ∙ ap (λ l. old ++ l) (sym (map-append f (take i es) (x ∷ [])))
+      ∙ ap (λ ys. old ++ map f ys) (sym (take_more es i d lt))
 
-pub placed_found : (l : Geometry) (c j first : ℕ) (xs : List (ℕ × Entry)) → first ≡ chunk_first l c j + 32 → map (found_in first) xs ≡ map (found_of l) (placed_in_chunk c j xs)
+pub placed_found : (l : Geometry) (c j first : ℕ) (xs : List (ℕ × Entry)) → first ≡ chunk_first l c j + 32 → map (found_in first) (map name_at xs) ≡ map (found_of l) (placed_in_chunk c j xs)
 placed_found l c j first [] is = refl
 placed_found l c j first (x ∷ xs) is = (λ i. record { key = x.1.key; version = x.1.version; at = is i + x.0 } ∷ placed_found l c j first xs is i)

@@ -1,55 +1,31 @@
 -- What a scan finds.
-use Rattle.std.proofs.Common.{◌≡◌, ℕ, zero, suc, ◌+◌, ◌-◌, ◌%◌, ◌≤◌, ◌==◌, ◌&&◌, not, List, [], ◌∷◌, length, Bool, true, false, cond, refl, sym, ◌∙◌, ap, subst, arith}
+use Rattle.std.proofs.Common.{◌≡◌, ℕ, ◌<◌, ◌≤◌, List, [], ◌∷◌, length, map, Bool, true, false, cond, refl, sym, ◌∙◌, ap, subst, arith}
 use Rattle.std.specs.Prelude.{Option, Some, None, Result, Ok, option_map}
-use Rattle.std.specs.List.{list_all}
+use Rattle.std.specs.List.{list_all, AllByRecursion}
 use Rattle.chunk_map.specs.declared.layouts.Geometry.{Geometry}
 use Rattle.chunk_map.specs.declared.heads.Head.{Head}
 use Rattle.chunk_map.specs.declared.heads.Head.TheVariants.{Log}
 use Rattle.chunk_map.specs.Layouts.{chunk_first, head_at, is_of_group}
-use Rattle.store_image.specs.declared.scanning.Scanned.{Scanned}
-use Rattle.store_image.specs.Scanned.{IsScan, entries_by_place}
+use Rattle.store_image.specs.declared.scanning.AtPlace.{AtPlace}
+use Rattle.store_image.specs.Scanned.{name_at}
+use Rattle.store_image.proofs.Clients.{places_lie}
 use Rattle.store_image.specs.Soundness.{rule_of, damaged}
 use Rattle.core_log.specs.Log as log
 use Rattle.recover.specs.Logs.{tail_behind}
 use Rattle.log_entry.specs.declared.entry.Entry.{Entry}
-use Rattle.log_entry.specs.declared.entry.Read.{Read}
-use Rattle.log_entry.specs.declared.entry.Read.TheVariants as reads
-use Rattle.log_entry.specs.Reading.{read}
-use Rattle.log_entry.specs.Batches.{Scan, broken, with_entry, scan, scan_of}
+use Rattle.log_entry.specs.Batches.{Scan, scan_of}
 use Rattle.store_image.specs.Parts.{payload}
 use Rattle.recover.specs.FoundEntries.{LieBelow}
 
--- each entry that a scan finds begins in the words that are left
-abbrev LiesIn : ℕ → Scan → Type 0
-LiesIn n s = LieBelow n s.entries
+-- each name that a scan finds begins in the words
+named_below : (n : ℕ) (xs : List (ℕ × Entry)) → AllByRecursion (λ (x : ℕ × Entry). x.0 < n) xs → LieBelow n (map name_at xs)
+named_below n [] all = tt
+named_below n (x ∷ xs) all = (all.0, named_below n xs all.1)
 
-scan_lies : (ws : List ℕ) (p n left : ℕ) (padded : Bool) → p + length ws ≤ n → LiesIn n (scan p left padded ws)
-scan_lies [] p n left padded le = tt
-scan_lies (w ∷ ws) p n (suc left) padded le = scan_lies ws (p + 1) n left padded (omega (arith, le))
-scan_lies (w ∷ ws) p n zero padded le = here (λ left padded. scan_lies ws (p + 1) n left padded (omega (arith, le))) where
-  by_read : ((left : ℕ) (padded : Bool) → LiesIn n (scan (p + 1) left padded ws)) → (r : Read) → LiesIn n (elim r as (λ x. Scan) [
-    | reads.Entry e n ↦ with_entry p e (scan (p + 1) (n - 1) false ws)
-    | reads.Padding ↦ cond (p % 8 == 0) broken (scan (p + 1) 0 true ws)
-    | reads.BadEntry rule ↦ broken
-  ])
-  by_read again (reads.Entry e m) = (omega (arith, le), again (m - 1) false)
-  by_read again reads.Padding = elim (p % 8 == 0) as (λ b. LiesIn n (cond b broken (scan (p + 1) 0 true ws))) [ true ↦ tt | false ↦ again 0 true ]
-  by_read again (reads.BadEntry rule) = tt
+pub names_lie : (ws : List ℕ) (names : List AtPlace) → names ≡ map name_at (scan_of ws).entries → LieBelow (length ws) names
+names_lie ws names is = subst (LieBelow (length ws)) (sym is) (named_below (length ws) (scan_of ws).entries (places_lie ws))
 
-  here : ((left : ℕ) (padded : Bool) → LiesIn n (scan (p + 1) left padded ws)) → LiesIn n (scan p zero padded (w ∷ ws))
-  here again = elim (padded && not (p % 8 == 0)) as (λ b. LiesIn n (cond b (cond (w == 0) (scan (p + 1) 0 true ws) broken) (elim (read (w ∷ ws)) as (λ x. Scan) [
-    | reads.Entry e n ↦ with_entry p e (scan (p + 1) (n - 1) false ws)
-    | reads.Padding ↦ cond (p % 8 == 0) broken (scan (p + 1) 0 true ws)
-    | reads.BadEntry rule ↦ broken
-  ]))) [
-    | true ↦ elim (w == 0) as (λ b. LiesIn n (cond b (scan (p + 1) 0 true ws) broken)) [ true ↦ again 0 true | false ↦ tt ]
-    | false ↦ by_read again (read (w ∷ ws))
-  ]
-
-pub places_lie : (ws : List ℕ) (xs : List (ℕ × Entry)) → xs ≡ (scan_of ws).entries → LieBelow (length ws) xs
-places_lie ws xs is = subst (LieBelow (length ws)) (sym is) (scan_lies ws 0 (length ws) 0 false (omega arith))
-
-pub lie_lower : (m n : ℕ) (xs : List (ℕ × Entry)) → m ≤ n → LieBelow m xs → LieBelow n xs
+pub lie_lower : (m n : ℕ) (xs : List AtPlace) → m ≤ n → LieBelow m xs → LieBelow n xs
 lie_lower m n [] le all = tt
 lie_lower m n (x ∷ xs) le all = (let l = all.0 in omega (arith, l, le), lie_lower m n xs le all.1)
 
@@ -59,8 +35,8 @@ rule_none true true e = refl
 rule_none true false e = absurd (cc e)
 rule_none false whole e = absurd (cc e)
 
-pub whole_of : (l : Geometry) (part : ℕ) (s : Scanned) (rule : Option ℕ) → ((found : Scan) → IsScan s found → rule ≡ rule_of l part found) → rule ≡ None → s.whole ≡ true
-whole_of l part s rule is none = rule_none (list_all (λ x. is_of_group l part x.1.key) (entries_by_place s.entries.items)) s.whole (sym (is (record { entries = entries_by_place s.entries.items; whole = s.whole }) (refl, refl)) ∙ none)
+pub whole_of : (l : Geometry) (part : ℕ) (found : Scan) (rule : Option ℕ) → rule ≡ rule_of l part found → rule ≡ None → found.whole ≡ true
+whole_of l part found rule is none = rule_none (list_all (λ x. is_of_group l part x.1.key) found.entries) found.whole (sym is ∙ none)
 
 -- and its words are batches
 pub log_spelled : (l : Geometry) (image : ℕ → ℕ) (c j at t tail : ℕ) (ws : List ℕ) → at ≡ chunk_first l c j → head_at l image at ≡ Ok (Log t) → head_at l image (chunk_first l c j) ≡ Ok (Log tail) → ws ≡ payload image at t → log.Spelled ws

@@ -54,8 +54,8 @@ module _ (l : Geometry) (image : ℕ → ℕ) (f : Found) (stands : Stands l ima
   pub stands_read : (ws : List ℕ) → ws ≡ words_from image f.at (size_of (image f.at)) → read (drop 0 ws) ≡ reads.Entry (entry_at image f) (length (words_of (entry_at image f)))
   stands_read ws is = ap read (is ∙ words_there image f.at (entry_at image f) stands.spelling stands.words) ∙ alone (entry_at image f) stands.spelling
 
-  pub not_out : HasWords image (total_bytes l / 8) f.at None → ⊥
-  not_out out = let size = size_there image f.at (entry_at image f) stands.spelling stands.words in let low = stands.within in omega (arith, out, size, low)
+  pub not_out : (ws : List ℕ) → HasWords image (total_bytes l / 8) f.at false ws → ⊥
+  not_out ws out = let size = size_there image f.at (entry_at image f) stands.spelling stands.words in let low = stands.within in omega (arith, out, size, low)
 
   pub body_found : (r : Read) → r ≡ reads.Entry (entry_at image f) (length (words_of (entry_at image f))) → body_named r f ≡ Some (body_at image f.at)
   body_found r is = ap (λ r. body_named r f) is ∙ rw (eq-eqb f.key f.key refl, eq-eqb f.version f.version refl) refl

@@ -18,9 +18,9 @@ use Rattle.core_log.proofs.Clients.{placed_items, items_of, items_placed, first_
 use Rattle.recover.specs.declared.found_entries.Found.{Found}
 use Rattle.recover.specs.Logs.{SpellsLog}
 use Rattle.recover.specs.Gathering.{AllSpell}
-use Rattle.recover.specs.FoundEntries.{found_of, LieBelow, RiseByWord}
+use Rattle.recover.specs.FoundEntries.{found_of, RiseByWord}
 use Rattle.recover.proofs.ReadBackLaws.{all_implies, all_append, tail_fits}
-use Rattle.recover.proofs.SpellLaws.{places_lie}
+use Rattle.store_image.proofs.Clients.{places_lie}
 
 -- by places
 abbrev PlacesRise : List (ℕ × Entry) → Type 0
@@ -100,7 +100,7 @@ module _ (l : Geometry) (layout : IsLayout l) (image : ℕ → ℕ) where
     placed_low [] = tt
     placed_low (x ∷ xs) = (omega arith, placed_low xs)
 
-    placed_high : (tail : ℕ) → tail + 32 ≤ chunk_words l → (xs : List (ℕ × Entry)) → LieBelow tail xs → AllByRecursion (λ (x : PlacedEntry). word_of l x < chunk_first l c (suc j)) (placed_in_chunk c j xs)
+    placed_high : (tail : ℕ) → tail + 32 ≤ chunk_words l → (xs : List (ℕ × Entry)) → AllByRecursion (λ (y : ℕ × Entry). y.0 < tail) xs → AllByRecursion (λ (x : PlacedEntry). word_of l x < chunk_first l c (suc j)) (placed_in_chunk c j xs)
     placed_high tail fits [] lie = tt
     placed_high tail fits (x ∷ xs) lie = (let low = lie.0 in let e = bound_up c j in omega (arith, low, fits, e), placed_high tail fits xs lie.1)
 
@@ -126,7 +126,7 @@ module _ (l : Geometry) (layout : IsLayout l) (image : ℕ → ℕ) where
           let long : length ws ≡ tail = length-words image (chunk_first l c j + 32) tail in
           record {
             low = placed_low (scan_of ws).entries;
-            high = placed_high (length ws) (omega (arith, long, fits, size)) (scan_of ws).entries (places_lie ws (scan_of ws).entries refl);
+            high = placed_high (length ws) (omega (arith, long, fits, size)) (scan_of ws).entries (places_lie ws);
             rise = placed_rise (scan_of ws).entries (scan_rises ws (spells tail is));
           }
       by_head (Ok (Data class)) is = nothing

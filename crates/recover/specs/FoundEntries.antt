@@ -1,5 +1,5 @@
 -- Entries by their names and the words at which they begin.
-use Rattle.std.specs.Prelude.{◌≡◌, ℕ, ◌+◌, ◌-◌, ◌/◌, ◌%◌, ◌<◌, ◌≤◌, ◌==◌, ◌&&◌, Bool, List, [], ◌∷◌, map, filter, length, slice_index_or, Option, Some, None, Result, Ok, Err, Vec, if◌then◌else◌}
+use Rattle.std.specs.Prelude.{◌≡◌, ℕ, ◌+◌, ◌-◌, ◌/◌, ◌%◌, ◌<◌, ◌≤◌, ◌==◌, ◌&&◌, Bool, true, false, List, [], ◌∷◌, map, filter, length, slice_index_or, Option, Some, None, Result, Ok, Err, Vec, if◌then◌else◌}
 use Rattle.std.specs.Global.{Global}
 use Rattle.std.specs.List.{AllByRecursion}
 use Rattle.std.specs.List.Sorted.{IsSortedByKey}
@@ -13,6 +13,7 @@ use Rattle.log_entry.specs.Reading.{size_of, body_of}
 use Rattle.chunk_map.specs.declared.layout_sizes.TheConstants.{HEAD_WORDS, SUPERBLOCK_WORDS}
 use Rattle.chunk_map.specs.declared.layouts.Geometry.{Geometry}
 use Rattle.chunk_map.specs.Layouts.{chunk_words, chunk_first, total_words}
+use Rattle.store_image.specs.declared.scanning.AtPlace.{AtPlace}
 use Rattle.store_image.specs.declared.types.PlacedEntry.{PlacedEntry}
 use Rattle.recover.specs.declared.found_entries.Found.{Found}
 use Rattle.recover.specs.declared.types.RecoverError.{RecoverError}
@@ -86,12 +87,12 @@ WordsKeep fs = (i j : ℕ) (d : Found) → i ≤ j → j < length fs
     → (slice_index_or fs i d).at ≤ (slice_index_or fs j d).at
 
 -- each begins in front of this place
-abbrev pub LieBelow : ℕ → List (ℕ × Entry) → Type 0
-LieBelow n xs = AllByRecursion (λ x. x.0 < n) xs
+abbrev pub LieBelow : ℕ → List AtPlace → Type 0
+LieBelow n xs = AllByRecursion (λ x. x.place < n) xs
 
 -- how an entry is found that stands at a place of a payload, which begins at this word
-abbrev pub found_in : ℕ → ℕ × Entry → Found
-found_in first x = record { key = x.1.key; version = x.1.version; at = first + x.0 }
+abbrev pub found_in : ℕ → AtPlace → Found
+found_in first x = record { key = x.name.key; version = x.name.version; at = first + x.place }
 
 -- how an entry of the image is found
 abbrev pub found_of : Geometry → PlacedEntry → Found
@@ -101,10 +102,10 @@ found_of l x = record {
   at = chunk_first l x.core x.chunk + HEAD_WORDS + x.place;
 }
 
--- the words of the entry that begins there, where they lie in a region of so many words
-abbrev pub HasWords : (ℕ → ℕ) → ℕ → ℕ → Option (Vec ℕ Global) → Type 0
-HasWords image n at None = n < at + size_of (image at)
-HasWords image n at (Some words) = words.items ≡ words_from image at (size_of (image at))
+-- The words are those of the entry that begins there, where these lie in a region of so many words.
+abbrev pub HasWords : (ℕ → ℕ) → ℕ → ℕ → Bool → List ℕ → Type 0
+HasWords image n at false ws = n < at + size_of (image at)
+HasWords image n at true ws = ws ≡ words_from image at (size_of (image at))
 
 -- the body that was read, where an entry of this name was
 abbrev pub body_named : Read → Found → Option Body

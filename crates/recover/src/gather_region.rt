@@ -1,11 +1,11 @@
 // The entries of a region, chunk by chunk, by their names alone.
-ghost use Rattle.std.specs.Prelude.{◌≡◌, ℕ, ◌+◌, ◌-◌, ◌/◌, ◌<◌, ◌≤◌, ◌%◌, ◌^◌, ◌++◌, length, map, true, None, option_map, IfOk};
+ghost use Rattle.std.specs.Prelude.{◌≡◌, ℕ, ◌+◌, ◌-◌, ◌/◌, ◌<◌, ◌≤◌, ◌%◌, ◌^◌, ◌++◌, length, map, true, None, option_map, IfOk, OnOk};
 ghost use Rattle.pm_region.specs.State.{IsTelling};
 ghost use Rattle.pm_region.specs.Words.{lasts};
 ghost use Rattle.log_entry.specs.Batches.{scan_of};
 ghost use Rattle.chunk_map.specs.Layouts.{chunk_first, payload_words};
 ghost use Rattle.store_image.specs.Parts.{scan_at, chunk_entries};
-ghost use Rattle.store_image.specs.Scanned.{IsScan, entries_by_place};
+ghost use Rattle.store_image.specs.Scanned.{IsScan};
 ghost use Rattle.store_image.specs.Soundness.{damaged, chunk_rule};
 ghost use Rattle.core_log.specs.Log.{Spelled};
 ghost use Rattle.recover.specs.Regions.{Covers};
@@ -17,71 +17,79 @@ ghost use Rattle.recover.specs.Gathering.{GathersPart, Gathers};
 use crate::found_entries::Found;
 use crate::types::RecoverError;
 use chunk_map::layout_sizes::HEAD_WORDS;
-use chunk_map::words::load_words;
+use chunk_map::words::fill_words;
 use chunk_map::{Head, Layout, read_head};
 use fs_model::Memory;
 use pm_region::Region;
 use std::alloc::Global;
 use store_image::Fault;
 use store_image::log_rules::log_rule;
-use store_image::scanning::{AtPlace, Scanned, scan};
+use store_image::scanning::{AtPlace, Scanned};
 
-/// What stands in the words of a log.
-fn scan_log(alloc: Global, words: &[u64]) -> Result<Scanned, Memory>
-    ensures scan { IfOk result (λ s. IsScan s (scan_of words.now)) }
-    ensures places { IfOk result (λ s. LieBelow (length words.now)
-        (entries_by_place s.entries.items)) }
-    ensures batches { IfOk result (λ s. s.whole ≡ true → length words.now % 8 ≡ 0
-        → Spelled words.now) }
-{
-    let scanned = scan(alloc, words)?;
-    Ok(scanned)
+/// What was read of a chunk. One serves all chunks, so neither their words nor their entries take memory anew.
+#[derive(Drop)]
+struct ChunkReading {
+    /// The words of the log up to its tail.
+    words: Vec<u64>,
+    /// The entries that they spell.
+    scanned: Scanned,
 }
 
-/// The first rule of 4 to 7 that a chunk breaks, and its entries. The payload is read up to the tail, of a
-/// log alone.
+/// Scans the words of a log.
+fn scan_log(words: &[u64], scanned: &mut Scanned) -> Result<(), Memory>
+    ensures scan { OnOk result (IsScan scanned.new (scan_of words.now)) }
+    ensures places { OnOk result (LieBelow (length words.now) scanned.new.entries.items) }
+    ensures batches { OnOk result (scanned.new.whole ≡ true → length words.now % 8 ≡ 0
+        → Spelled words.now) }
+{
+    scanned.scan(words)?;
+    Ok(())
+}
+
+/// The first rule of 4 to 7 that a chunk breaks. Its entries are scanned. The payload is read up to the tail, of a log
+/// alone.
 fn read_chunk<R: Region>(
-    alloc: Global,
     region: &R,
     layout: &Layout,
     part: u32,
     chunk: u32,
-) -> Result<(Option<u32>, Scanned), Memory>
+    reading: &mut ChunkReading,
+) -> Result<Option<u32>, Memory>
     requires covers { Covers (R.state region.now).frame layout.now }
     requires part { part < layout.now.cores }
     requires chunk { chunk < layout.now.chunks }
-    ensures told { IfOk result (λ r. IsTelling (R.state region.now)
-        → (r.0 ≡ chunk_rule layout.now (lasts (R.state region.now)) part chunk)
-        × IsScan r.1 (scan_at layout.now (lasts (R.state region.now))
+    ensures told { IfOk result (λ rule. IsTelling (R.state region.now)
+        → (rule ≡ chunk_rule layout.now (lasts (R.state region.now)) part chunk)
+        × IsScan reading.new.scanned (scan_at layout.now (lasts (R.state region.now))
         (chunk_first layout.now part chunk))) }
-    ensures places { IfOk result (λ r. LieBelow (payload_words layout.now)
-        (entries_by_place r.1.entries.items)) }
-    ensures batches { IfOk result (λ r. IsTelling (R.state region.now) → r.0 ≡ None
+    ensures places { OnOk result (LieBelow (payload_words layout.now)
+        reading.new.scanned.entries.items) }
+    ensures batches { IfOk result (λ rule. IsTelling (R.state region.now) → rule ≡ None
         → SpellsLog layout.now (lasts (R.state region.now)) part chunk) }
 {
+    reading.scanned.clear();
     let at = layout.chunk_first(part, chunk);
     match read_head(region, layout, at) {
-        Err(bad) => Ok((Some(bad.rule), Scanned::nothing(alloc))),
+        Err(bad) => Ok(Some(bad.rule)),
         Ok(Head::Log { tail }) => {
-            let words = load_words(alloc, region, at + HEAD_WORDS, tail)?;
-            let scanned = scan_log(alloc, &words)?;
-            let rule = log_rule(&layout.geometry(), part, &scanned);
-            Ok((rule, scanned))
+            fill_words(region, at + HEAD_WORDS, tail, &mut reading.words)?;
+            scan_log(&reading.words, &mut reading.scanned)?;
+            Ok(log_rule(&layout.geometry(), part, &reading.scanned))
         }
-        Ok(_) => Ok((None, Scanned::nothing(alloc))),
+        Ok(_) => Ok(None),
     }
 }
 
 /// Appends the names of a payload's entries with their first words. The payload begins at word `first`.
 fn note_entries(first: u64, entries: &[AtPlace], found: &mut Vec<Found>) -> Result<(), Memory>
-    requires { LieBelow (2 ^ 32 - first) (entries_by_place entries.now) }
-    ensures { IfOk result (λ _. found.new.items ≡ found.old.items ++ map (found_in first)
-        (entries_by_place entries.now)) }
+    requires { LieBelow (2 ^ 32 - first) entries.now }
+    ensures { IfOk result (λ _. found.new.items ≡ found.old.items
+        ++ map (found_in first) entries.now) }
 {
     for x in entries {
         found.push(Found {
-            key: x.entry.key,
-            version: x.entry.version,
+            key: x.name.key,
+            version: x.name.version,
             at: (first + x.place) as u32,
         })?;
     }
@@ -90,11 +98,11 @@ fn note_entries(first: u64, entries: &[AtPlace], found: &mut Vec<Found>) -> Resu
 
 /// Appends what is found of a chunk's entries, or answers what it breaks of rules 4 to 7.
 fn gather_chunk<R: Region>(
-    alloc: Global,
     region: &R,
     layout: &Layout,
     part: u32,
     chunk: u32,
+    reading: &mut ChunkReading,
     found: &mut Vec<Found>,
 ) -> Result<(), RecoverError>
     requires covers { Covers (R.state region.now).frame layout.now }
@@ -109,13 +117,12 @@ fn gather_chunk<R: Region>(
     ensures batches { IfOk result (λ _. IsTelling (R.state region.now)
         → SpellsLog layout.now (lasts (R.state region.now)) part chunk) }
 {
-    let (rule, scanned) = read_chunk(alloc, region, layout, part, chunk)?;
-    if let Some(rule) = rule {
+    if let Some(rule) = read_chunk(region, layout, part, chunk, reading)? {
         return Err(RecoverError::Fault(Fault::Damaged { part, chunk, rule }));
     }
     note_entries(
         layout.chunk_first(part, chunk) + HEAD_WORDS,
-        &scanned.entries,
+        &reading.scanned.entries,
         found,
     )?;
     Ok(())
@@ -123,10 +130,10 @@ fn gather_chunk<R: Region>(
 
 /// Appends what is found of a part's entries, or answers the fault of its first chunk that breaks one of rules 4 to 7.
 fn gather_part<R: Region>(
-    alloc: Global,
     region: &R,
     layout: &Layout,
     part: u32,
+    reading: &mut ChunkReading,
     found: &mut Vec<Found>,
 ) -> Result<(), RecoverError>
     requires covers { Covers (R.state region.now).frame layout.now }
@@ -136,7 +143,7 @@ fn gather_part<R: Region>(
         found.new.items result }
 {
     for chunk in 0..layout.chunks() {
-        gather_chunk(alloc, region, layout, part, chunk, found)?;
+        gather_chunk(region, layout, part, chunk, reading, found)?;
     }
     Ok(())
 }
@@ -153,8 +160,12 @@ pub fn gather<R: Region>(
         → Gathers layout.now (lasts (R.state region.now)) result }
 {
     let mut found = Vec::new(alloc);
+    let mut reading = ChunkReading {
+        words: Vec::new(alloc),
+        scanned: Scanned::nothing(alloc),
+    };
     for part in 0..layout.cores() {
-        gather_part(alloc, region, layout, part, &mut found)?;
+        gather_part(region, layout, part, &mut reading, &mut found)?;
     }
     Ok(found)
 }

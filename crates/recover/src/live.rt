@@ -50,12 +50,14 @@ fn value_left<R: Region>(
 }
 
 /// Appends the pair of a winner, where it leaves a value. A winner that stands there no more is answered as damage.
+/// `words` is scratch.
 fn push_left<R: Region>(
     alloc: Global,
     region: &R,
     layout: &Layout,
     pairs: &mut Vec<Pair>,
     winner: &Found,
+    words: &mut Vec<u64>,
 ) -> Result<(), RecoverError>
     requires covers { Covers (R.state region.now).frame layout.now }
     ensures appends { OnOk result (IsTelling (R.state region.now)
@@ -66,7 +68,7 @@ fn push_left<R: Region>(
         → Stands layout.now (lasts (R.state region.now)) winner.now
         → IsOkUnless result RecoverError.Memory }
 {
-    let Some(body) = read_at(alloc, region, layout, winner)? else {
+    let Some(body) = read_at(alloc, region, layout, winner, words)? else {
         return Err(gone_fault(layout, winner).into());
     };
     let part = owner(&layout.geometry(), winner.key);
@@ -91,6 +93,7 @@ fn pairs_left<R: Region>(
         (entries_at layout.now (lasts (R.state region.now)) sorted.now) result }
 {
     let mut pairs = Vec::new(alloc);
+    let mut words = Vec::new(alloc);
     let mut taken = BTreeSet::new(alloc);
     let mut at = 0;
     let mut looked = 0;
@@ -99,7 +102,7 @@ fn pairs_left<R: Region>(
         let run = key_run(sorted, at);
         let winner = &sorted[run.winner];
         judge_winner(alloc, region, layout, &mut taken, winner)?;
-        push_left(alloc, region, layout, &mut pairs, winner)?;
+        push_left(alloc, region, layout, &mut pairs, winner, &mut words)?;
         at = run.end;
     }
     Ok(pairs)

@@ -1,5 +1,5 @@
 // Entries that were found are read from the region.
-ghost use Rattle.std.specs.Prelude.{◌≡◌, ℕ, ◌/◌, ◌<◌, map, length, Some, IfOk, IfSome};
+ghost use Rattle.std.specs.Prelude.{◌≡◌, ℕ, ◌/◌, ◌<◌, map, length, true, Some, IfOk, IfSome};
 ghost use Rattle.pm_region.specs.State.{IsTelling};
 ghost use Rattle.pm_region.specs.Words.{lasts};
 ghost use Rattle.log_entry.specs.Spelling.{HasSpelling};
@@ -14,7 +14,7 @@ ghost use Rattle.recover.specs.FoundEntries.{body_at, core_at, chunk_there, plac
 use crate::found_entries::{Found, chunk_of, core_of, place_of};
 use crate::types::RecoverError;
 use chunk_map::Layout;
-use chunk_map::words::load_words;
+use chunk_map::words::fill_words;
 use fs_model::Memory;
 use log_entry::entry_limits::SHORTEST_ENTRY;
 use log_entry::{Body, Entry, Read, read_entry, size_of};
@@ -22,29 +22,29 @@ use pm_region::{Region, WORD_BYTES};
 use std::alloc::Global;
 use store_image::{Fault, PlacedEntry};
 
-/// The words of the entry that begins at a word, where they lie in the region.
+/// Fills a list with the words of the entry that begins at a word, and says whether they lie in the region.
 fn words_there<R: Region>(
-    alloc: Global,
     region: &R,
     layout: &Layout,
     at: u32,
-) -> Result<Option<Vec<u64>>, Memory>
+    words: &mut Vec<u64>,
+) -> Result<bool, Memory>
     requires covers { Covers (R.state region.now).frame layout.now }
-    ensures told { IfOk result (λ r. IsTelling (R.state region.now)
-        → HasWords (lasts (R.state region.now)) (total_words layout.now) at r) }
-    ensures some { IfOk result (λ r. IfSome r (λ words. 0 < length words.items)) }
+    ensures told { IfOk result (λ there. IsTelling (R.state region.now)
+        → HasWords (lasts (R.state region.now)) (total_words layout.now) at there words.new.items) }
+    ensures some { IfOk result (λ there. there ≡ true → 0 < length words.new.items) }
 {
     let at = at as u64;
-    let words = layout.total_bytes() / WORD_BYTES;
-    if at >= words {
-        return Ok(None);
+    let end = layout.total_bytes() / WORD_BYTES;
+    if at >= end {
+        return Ok(false);
     }
     let size = size_of(region.load(at));
-    if size > words - at {
-        return Ok(None);
+    if size > end - at {
+        return Ok(false);
     }
-    let words = load_words(alloc, region, at, size)?;
-    Ok(Some(words))
+    fill_words(region, at, size, words)?;
+    Ok(true)
 }
 
 /// The body of an entry that was read, where it has this name.
@@ -63,12 +63,13 @@ fn body_named(read: Read, found: &Found) -> Option<Body>
     }
 }
 
-/// The body of an entry that was found; none where no entry of its name stands there now.
+/// The body of an entry that was found; none where no entry of its name stands there now. `words` is scratch.
 pub fn read_at<R: Region>(
     alloc: Global,
     region: &R,
     layout: &Layout,
     found: &Found,
+    words: &mut Vec<u64>,
 ) -> Result<Option<Body>, Memory>
     requires covers { Covers (R.state region.now).frame layout.now }
     ensures told { IfOk result (λ b. IsTelling (R.state region.now)
@@ -77,13 +78,11 @@ pub fn read_at<R: Region>(
     ensures spelled { IfOk result (λ b. IfSome b (λ body. HasSpelling
         (record { key = found.now.key; version = found.now.version; body = body }))) }
 {
-    match words_there(alloc, region, layout, found.at)? {
-        None => Ok(None),
-        Some(words) => {
-            let read = read_entry(alloc, &words, 0)?;
-            Ok(body_named(read, found))
-        }
+    if !words_there(region, layout, found.at, words)? {
+        return Ok(None);
     }
+    let read = read_entry(alloc, words.as_slice(), 0)?;
+    Ok(body_named(read, found))
 }
 
 /// The block that a body points to.
@@ -136,12 +135,13 @@ pub fn gone_fault(layout: &Layout, found: &Found) -> Fault
     }
 }
 
-/// An entry that was found, with its body; none where no entry of its name stands there now.
+/// An entry that was found, with its body; none where no entry of its name stands there now. `words` is scratch.
 pub fn read_placed<R: Region>(
     alloc: Global,
     region: &R,
     layout: &Layout,
     found: &Found,
+    words: &mut Vec<u64>,
 ) -> Result<Option<PlacedEntry>, Memory>
     requires covers { Covers (R.state region.now).frame layout.now }
     ensures told { IfOk result (λ x. IsTelling (R.state region.now)
@@ -150,7 +150,7 @@ pub fn read_placed<R: Region>(
     ensures name { IfOk result (λ x. IfSome x (λ x. name_of x ≡ name_found found.now)) }
     ensures spelled { IfOk result (λ x. IfSome x (λ x. HasSpelling x.entry)) }
 {
-    match read_at(alloc, region, layout, found)? {
+    match read_at(alloc, region, layout, found, words)? {
         None => Ok(None),
         Some(body) => Ok(Some(PlacedEntry {
             core: core_of(layout, found.at),
@@ -181,8 +181,9 @@ pub fn read_entries<R: Region>(
     ensures spelled { IfOk result (λ es. AreSpelled es.items) }
 {
     let mut entries = Vec::with_capacity(alloc, found.len())?;
+    let mut words = Vec::new(alloc);
     for x in found {
-        match read_placed(alloc, region, layout, x)? {
+        match read_placed(alloc, region, layout, x, &mut words)? {
             Some(entry) => entries.push(entry)?,
             None => return Err(gone_fault(layout, x).into()),
         }

@@ -38,6 +38,15 @@ pub struct Share {
     pub index: CoreIndex,
 }
 
+/// Lists that serve all keys, so that no key takes memory anew for them.
+#[derive(Drop)]
+struct Scratch {
+    /// The words of a winner.
+    words: Vec<u64>,
+    /// The entries of its key that stand.
+    standing: Vec<Standee>,
+}
+
 /// Enters what is known of a winner's key, and appends its pointer where it has one.
 fn enter(
     alloc: Global,
@@ -81,7 +90,7 @@ fn give(
 }
 
 /// Gives the winner of some entries of one key to the core that owns the key, with all of them. A winner that stands
-/// there no more is answered as damage. `standing` is scratch.
+/// there no more is answered as damage.
 fn give_key<R: Region>(
     alloc: Global,
     region: &R,
@@ -89,7 +98,7 @@ fn give_key<R: Region>(
     shares: &mut Vec<Share>,
     winner: &Found,
     run: &[Found],
-    standing: &mut Vec<Standee>,
+    scratch: &mut Scratch,
 ) -> Result<(), RecoverError>
     requires covers { Covers (R.state region.now).frame layout.now }
     requires count { length shares.old.items ≡ layout.now.cores }
@@ -106,11 +115,11 @@ fn give_key<R: Region>(
         → Stands layout.now (lasts (R.state region.now)) winner.now
         → IsOkUnless result RecoverError.Memory }
 {
-    let Some(body) = read_at(alloc, region, layout, winner)? else {
+    let Some(body) = read_at(alloc, region, layout, winner, &mut scratch.words)? else {
         return Err(gone_fault(layout, winner).into());
     };
-    list_standees(layout, run, standing)?;
-    give(alloc, layout, shares, winner, &body, standing)?;
+    list_standees(layout, run, &mut scratch.standing)?;
+    give(alloc, layout, shares, winner, &body, &scratch.standing)?;
     Ok(())
 }
 
@@ -147,7 +156,10 @@ pub fn shares<R: Region>(
         (entries_at layout.now (lasts (R.state region.now)) sorted.now) result }
 {
     let mut shares = no_shares(alloc, layout)?;
-    let mut standing = Vec::new(alloc);
+    let mut scratch = Scratch {
+        words: Vec::new(alloc),
+        standing: Vec::new(alloc),
+    };
     let mut taken = BTreeSet::new(alloc);
     let mut at = 0;
     let mut looked = 0;
@@ -164,7 +176,7 @@ pub fn shares<R: Region>(
             &mut shares,
             winner,
             entries,
-            &mut standing,
+            &mut scratch,
         )?;
         at = run.end;
     }

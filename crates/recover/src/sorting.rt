@@ -46,10 +46,11 @@ fn is_contradiction<R: Region>(
     if x.key != y.key || x.version != y.version {
         return Ok(false);
     }
-    let Some(one) = read_placed(alloc, region, layout, x)? else {
+    let mut words = Vec::new(alloc);
+    let Some(one) = read_placed(alloc, region, layout, x, &mut words)? else {
         return Ok(true);
     };
-    let Some(other) = read_placed(alloc, region, layout, y)? else {
+    let Some(other) = read_placed(alloc, region, layout, y, &mut words)? else {
         return Ok(true);
     };
     Ok(contradicts(&one, &other))

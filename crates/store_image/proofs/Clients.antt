@@ -9,3 +9,4 @@ pub use Rattle.store_image.proofs.Agree.{cells_agree, entries_agree, fault_agree
 pub use Rattle.store_image.proofs.Loops.{blocks_decide, chunks_decide, clash_decides, first_at, first_end, first_next, judged, list_end, list_next, not_a_region}
 pub use Rattle.store_image.proofs.Listings.{cell_at, lists_cells, lists_pairs, pair_added, pairs_listed, pairs_of, rising_keys}
 pub use Rattle.store_image.proofs.ReadLaws.{log_read}
+pub use Rattle.store_image.proofs.ScanReads.{places_lie}

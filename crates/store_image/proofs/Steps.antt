@@ -48,3 +48,6 @@ module _ (ws : List ℕ) (p left : ℕ) (padded : Bool) (within : p < length ws)
 
   pub pads : reads.Padding ≡ read (drop p ws) → p % 8 ≢ 0 → scan p left padded (drop p ws) ≡ scan (p + 1) 0 true (drop (p + 1) ws)
   pads is line = ap (λ k. scan p k padded (drop p ws)) is_zero ∙ pad_at ws p within padded outside (sym is) line
+
+  pub ends_line : reads.Padding ≡ read (drop p ws) → p % 8 ≡ 0 → scan p left padded (drop p ws) ≡ broken
+  ends_line is line = ap (λ k. scan p k padded (drop p ws)) is_zero ∙ line_at ws p within padded outside (sym is) line

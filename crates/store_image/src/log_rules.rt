@@ -3,7 +3,7 @@ ghost use Rattle.std.specs.Prelude.{◌≡◌, ◌≤◌};
 ghost use Rattle.std.specs.List.{list_all};
 ghost use Rattle.log_entry.specs.Batches.{Scan};
 ghost use Rattle.chunk_map.specs.Layouts.{is_of_group};
-ghost use Rattle.store_image.specs.Scanned.{IsScan, entries_by_place};
+ghost use Rattle.store_image.specs.Scanned.{IsScan};
 ghost use Rattle.store_image.specs.Soundness.{rule_of};
 
 use crate::geometry::is_of_group;
@@ -13,11 +13,10 @@ use chunk_map::layouts::Geometry;
 fn in_group(layout: &Geometry, part: u32, entries: &[AtPlace]) -> bool
     requires cores { 1 ≤ layout.now.cores }
     requires group { 1 ≤ layout.now.group }
-    ensures { result ≡ list_all (λ x. is_of_group layout.now part x.1.key)
-        (entries_by_place entries.now) }
+    ensures { result ≡ list_all (λ x. is_of_group layout.now part x.name.key) entries.now }
 {
     for x in entries {
-        if !is_of_group(layout, part, x.entry.key) {
+        if !is_of_group(layout, part, x.name.key) {
             return false;
         }
     }

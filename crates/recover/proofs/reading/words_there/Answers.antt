@@ -8,5 +8,5 @@ use Rattle.recover.proofs.reading.words_there.Goals as goal
 pub returns-clause-told : goal.returns-clause-told
 returns-clause-told g c = λ telling.
     let image = lasts (g.R.Region.state c.args.region.now) in
-    words_loaded image c.args.at c.size_of-size.result c.in_ok-words.words.items c.in_ok-words.ensures.long (c.in_ok-words.ensures.words telling)
+    words_loaded image c.args.at c.size_of-size.result c.fill_words.new.words.items c.in_ok-fill_words.ensures.long (c.in_ok-fill_words.ensures.words telling)
     ∙ ap (words_from image c.args.at) (c.size_of-size.ensures.value ∙ ap size_of (c.load.ensures telling))
