@@ -13,10 +13,16 @@ use log_entry::EntryName;
 use std::alloc::Global;
 use std::marker::Model;
 
-/// The names that stood at the start, by rising rank, each once. One that is gone keeps its place.
+// So many places from the last one on are looked at before all are searched.
+const NEAR: usize = 8;
+
+/// The names that stood at the start, by rising rank, each once. One that is gone keeps its place. Names are often asked
+/// for by rising rank: so each is looked for first at the place of the last one that was written, and behind it.
 #[derive(Drop)]
 pub struct NameTable {
     items: Vec<NameItem>,
+    // A place that lies elsewhere costs time alone.
+    near: usize,
 }
 
 impl Model for NameTable {
@@ -32,8 +38,25 @@ impl Model for NameTable {
     ghost invariant = { λ a. Rises a.items.items };
 }
 
-// Where a name is.
-fn place_of(items: &[NameItem], name: EntryName) -> Option<usize>
+// Where a name is, if it is at this place or shortly behind it.
+fn place_near(items: &[NameItem], near: usize, name: EntryName) -> Option<usize>
+    ensures { IfSome result (IsPlace items.now name.key name.version) }
+{
+    let end = items.len().min(near.saturating_add(NEAR));
+    for at in near..end {
+        let item = items[at];
+        if item.key > name.key {
+            return None;
+        }
+        if item.key == name.key && item.version == name.version {
+            return Some(at);
+        }
+    }
+    None
+}
+
+// Where a name is among all.
+fn place_among(items: &[NameItem], name: EntryName) -> Option<usize>
     requires { Rises items.now }
     ensures found { IfSome result (IsPlace items.now name.key name.version) }
     ensures absent { IfNone result (IsAbsent items.now name.key name.version) }
@@ -48,6 +71,18 @@ fn place_of(items: &[NameItem], name: EntryName) -> Option<usize>
         return None;
     }
     Some(at)
+}
+
+// Where a name is, which is looked for near this place first.
+fn place_of(items: &[NameItem], near: usize, name: EntryName) -> Option<usize>
+    requires { Rises items.now }
+    ensures found { IfSome result (IsPlace items.now name.key name.version) }
+    ensures absent { IfNone result (IsAbsent items.now name.key name.version) }
+{
+    match place_near(items, near, name) {
+        Some(place) => Some(place),
+        None => place_among(items, name),
+    }
 }
 
 // Tells the items dead of whose names a test says so.
@@ -74,6 +109,7 @@ impl NameTable {
     {
         NameTable {
             items: Vec::new(alloc),
+            near: 0,
         }
     }
 
@@ -89,7 +125,7 @@ impl NameTable {
         items.sort_unstable_by_key(|x| (x.key, x.version, x.chunk));
         merge(&mut items);
         items.shrink_to_fit();
-        NameTable { items }
+        NameTable { items, near: 0 }
     }
 
     /// What a name has.
@@ -97,7 +133,7 @@ impl NameTable {
         ensures copies { result ≡ copies_among self.now name.key name.version }
         ensures small { IfSome result (λ c. c.count ≤ MOST_IN_ITEM) }
     {
-        match place_of(&self.items, name) {
+        match place_of(&self.items, self.near, name) {
             Some(place) => copies_of(self.items[place]),
             None => None,
         }
@@ -112,13 +148,14 @@ impl NameTable {
         ensures fits { 0 < copies.count → copies.count ≤ MOST_IN_ITEM
             → IsSome (copies_among self.old name.key name.version) → result ≡ true }
     {
-        let Some(place) = place_of(&self.items, name) else {
+        let Some(place) = place_of(&self.items, self.near, name) else {
             return false;
         };
         let Some(item) = item_of(name, copies) else {
             return false;
         };
         self.items[place] = item;
+        self.near = place;
         true
     }
 
@@ -127,10 +164,11 @@ impl NameTable {
         ensures taken { Writes self.old self.new name.key name.version None }
         ensures count { Recounts self.old self.new name.key name.version None }
     {
-        let Some(place) = place_of(&self.items, name) else {
+        let Some(place) = place_of(&self.items, self.near, name) else {
             return;
         };
         self.items[place].count = 0;
+        self.near = place;
     }
 
     /// Tells the names dead of which a test says so.

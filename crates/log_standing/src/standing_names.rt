@@ -137,24 +137,24 @@ impl Standing {
         self.room -= 1;
     }
 
-    // Counts a name no more among what is left to be copied, where it is wanted.
-    fn want_no_more(&mut self, name: EntryName)
+    // Counts a name no more among what is left to be copied, where it is wanted. Gives what it has.
+    fn want_no_more(&mut self, name: EntryName) -> Option<Copies>
+        ensures copies { result ≡ copies_at self.old name.key name.version }
         ensures tally { self.new ≡ record self.old {
           tally = tally_without self.old name.key name.version;
           floors = self.new.floors;
         } }
         ensures floors { LowersFloors self.old self.new name.key name.version }
     {
-        let Some(copies) = self.names.get(name) else {
-            return;
-        };
+        let copies = self.names.get(name)?;
         if copies.count != 1 || copies.dead {
-            return;
+            return Some(copies);
         }
         self.floors.lower(copies.spot);
         if let Some(tally) = &mut self.tally {
             tally.lower(name);
         }
+        Some(copies)
     }
 
     /// Notes that a name was told dead. One that does not stand is passed over.
@@ -167,8 +167,7 @@ impl Standing {
         ensures tally { self.new.tally ≡ tally_without self.old name.key name.version }
         ensures floors { LowersFloors self.old self.new name.key name.version }
     {
-        self.want_no_more(name);
-        if let Some(copies) = self.names.get(name) {
+        if let Some(copies) = self.want_no_more(name) {
             self.names.set(
                 name,
                 Copies {
@@ -316,8 +315,7 @@ impl Standing {
         ensures tally { self.new.tally ≡ tally_without self.old name.key name.version }
         ensures floors { LowersFloors self.old self.new name.key name.version }
     {
-        self.want_no_more(name);
-        let copies = one_more(self.names.get(name));
+        let copies = one_more(self.want_no_more(name));
         self.names.set(name, copies);
     }
 

@@ -5,8 +5,8 @@ use Rattle.std.proofs.lemmas.List.Sorted.{IsPartitionPoint-from_clause, IsPartit
 use Rattle.log_standing.specs.declared.name_item.NameItem.{NameItem}
 use Rattle.log_standing.specs.NameItems.{rank_of, rank_in, is_item}
 use Rattle.log_standing.proofs.ItemLaws.{never_falls, absent_from, other_key, other_version}
-use Rattle.log_standing.proofs.name_table.place_of.Goals.{then-found-name-via-then-found-name, then-found-name-via-else-found-name+then-found-name-2}
-use Rattle.log_standing.proofs.name_table.place_of.Goals as goal
+use Rattle.log_standing.proofs.name_table.place_among.Goals.{then-found-name-via-then-found-name, then-found-name-via-else-found-name+then-found-name-2}
+use Rattle.log_standing.proofs.name_table.place_among.Goals as goal
 
 pub returns-then-at-items-clause-absent : goal.returns-then-at-items-clause-absent
 returns-then-at-items-clause-absent c =
