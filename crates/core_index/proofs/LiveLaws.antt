@@ -80,6 +80,11 @@ all_less ts k d rises last = all_from (λ (t : LiveKey). live_key t < k) ts (λ 
         (λ (ne : i ≢ n). let below : i < n = ⊎_elim (λ (l : i < n). l) (λ (g : n ≤ i). absurd (ne (omega (arith, g, lt)))) (cases_lt i n) in let pair = rises_pair ts i n d rises below within in let top = last (omega (arith, lt)) in let is = ap live_key same in omega (arith, pair, top, is))
         (cases_eq i n)
 
+-- a key that is above all is nowhere
+pub less_missing : (xs : List LiveKey) (k : ℕ) → AllLess xs k → IsNotThere xs k
+less_missing [] k less = tt
+less_missing (x ∷ xs) k less = ((λ e. let lt = less.0 in omega (arith, lt, e)), less_missing xs k less.1)
+
 pub missing_found : (ts : List LiveKey) (k : ℕ) → IsNotThere ts k → live_at ts k ≡ None
 missing_found [] k none = refl
 missing_found (t ∷ ts) k none = cond-false (live_key t == k) (Some t) (live_at ts k) (ne_eqb (live_key t) k none.0) ∙ missing_found ts k none.1

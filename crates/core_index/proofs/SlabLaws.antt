@@ -1,6 +1,6 @@
 -- The slots of all keys in one list.
 use Rattle.std.proofs.Common.{◌≡◌, ◌≢◌, ⊎_elim, ℕ, ◌+◌, ◌<◌, ◌≤◌, ◌==◌, nat_lt, Bool, true, false, cond, List, [], ◌∷◌, ◌++◌, length, get_or, slice_set, Option, Some, None, option_map, refl, sym, ◌∙◌, ap, subst, arith}
-use Rattle.std.specs.Prelude.{IsSome}
+use Rattle.std.specs.Prelude.{IfNone, IfSome, IsSome}
 use Rattle.std.specs.BTreeMap.{is_at, insert_entry}
 use Rattle.std.specs.Cmp.{unsigned_tied, nat_cmp_total}
 use Rattle.std.proofs.lemmas.Cmp.{eq_by_cmp_equiv}
@@ -301,3 +301,49 @@ unheld olds es xs k view none = by (lookup (is_at (nat_cmp k)) es) (sym (found_s
     by : (o : Option ℕ) → option_map (λ (i : ℕ). get_or xs i bare) o ≡ None → o ≡ None
     by None is = refl
     by (Some i) is = absurd (cc is)
+
+-- what stands in the map then
+pub removed_entries : (olds : List (ℕ × Place)) (es fs : List (ℕ × ℕ)) (xs : List Place) (free : List ℕ) (room k n : ℕ) (w : Place) → IsSlab es xs free room → slots_at xs es ≡ olds → lookup (is_at (nat_cmp k)) es ≡ Some n → fs ≡ remove_entry (is_at (nat_cmp k)) es → slots_at (slice_set xs n w) fs ≡ remove_entry (is_at (nat_cmp k)) olds
+removed_entries olds es fs xs free room k n w is view at less =
+    let once = place_once es xs free room n is in
+    let one = count_gone es (is_at (nat_cmp k)) n n at in
+    let self = one_self n in
+    let keys = ap (count_keys n) less in
+    unused xs fs n w (omega (arith, once, one, self, keys)) ∙ ap (slots_at xs) less ∙ gone_slots xs es (is_at (nat_cmp k)) ∙ ap (remove_entry (is_at (nat_cmp k))) view
+
+pub none_removed : (es : List (ℕ × Place)) (test : ℕ → Bool) → lookup test es ≡ None → remove_entry test es ≡ es
+none_removed [] test none = refl
+none_removed (e ∷ es) test none = by (test e.0) (none_removed es test) none
+  where
+    by : (b : Bool) → (lookup test es ≡ None → remove_entry test es ≡ es) → cond b (Some e.1) (lookup test es) ≡ None → cond b es (e ∷ remove_entry test es) ≡ e ∷ es
+    by true rest at = absurd (cc at)
+    by false rest at = ap (λ (s : List (ℕ × Place)). e ∷ s) (rest at)
+
+-- a key that was put in and is taken out again
+pub taken_back : (es : List (ℕ × Place)) (k : ℕ) (w : Place) → place_at es k ≡ None → remove_entry (is_at (nat_cmp k)) (insert_entry nat_cmp es k w) ≡ es
+taken_back [] k w none = cond-true (is_at (nat_cmp k) k) [] ((k, w) ∷ []) (unsigned_tied k k ∙ eq-eqb k k refl)
+taken_back (e ∷ es) k w none = by (nat_cmp k e.0) refl (taken_back es k w) none
+  where
+    here : is_at (nat_cmp k) k ≡ true
+    here = unsigned_tied k k ∙ eq-eqb k k refl
+
+    by : (o : Ordering) → nat_cmp k e.0 ≡ o → (place_at es k ≡ None → remove_entry (is_at (nat_cmp k)) (insert_entry nat_cmp es k w) ≡ es) → cond (is_eq o) (Some e.1) (place_at es k) ≡ None
+        → remove_entry (is_at (nat_cmp k)) (match_ordering o ((k, w) ∷ e ∷ es) ((e.0, w) ∷ es) (e ∷ insert_entry nat_cmp es k w)) ≡ e ∷ es
+    by Less is rest at = cond-true (is_at (nat_cmp k) k) (e ∷ es) ((k, w) ∷ remove_entry (is_at (nat_cmp k)) (e ∷ es)) here
+    by Equal is rest at = absurd (cc at)
+    by Greater is rest at = cond-false (is_at (nat_cmp k) e.0) (insert_entry nat_cmp es k w) (e ∷ remove_entry (is_at (nat_cmp k)) (insert_entry nat_cmp es k w)) (ap is_eq is) ∙ ap (λ (s : List (ℕ × Place)). e ∷ s) (rest at)
+
+-- a key that gets a free place, in the map
+pub added_entries : (olds : List (ℕ × Place)) (es fs : List (ℕ × ℕ)) (xs : List Place) (free less : List ℕ) (room k n : ℕ) (w : Place) → IsSlab es xs free room → slots_at xs es ≡ olds → free ≡ less ++ n ∷ [] → fs ≡ insert_entry nat_cmp es k n → slots_at (slice_set xs n w) fs ≡ insert_entry nat_cmp olds k w
+added_entries olds es fs xs free less room k n w is view last more =
+    let put : get_or (slice_set xs n w) n bare ≡ w = get_or-set_same xs n w bare (free_within es xs free less room n is last) in
+    let rest : slots_at (slice_set xs n w) es ≡ slots_at xs es = unused xs es n w (free_unused es xs free less room n is last) in
+    ap (slots_at (slice_set xs n w)) more ∙ added_slots (slice_set xs n w) es k n ∙ (λ i. insert_entry nat_cmp ((rest ∙ view) i) k (put i))
+
+pub if_none : {A P : Type 0} (o : Option A) → o ≡ None → IfNone o P → P
+if_none None is p = p
+if_none (Some x) is p = absurd (cc is)
+
+pub if_some : {A P : Type 0} (o : Option A) (x : A) → o ≡ Some x → IfSome o (λ y. P) → P
+if_some None x is p = absurd (cc is)
+if_some (Some y) x is p = p

@@ -203,3 +203,20 @@ gives_all es fs gs k some first second none last =
       count = let sum = second.count in let le = a.count in omega (arith, sum, le);
       untold = let sum = second.untold in let le = a.untold in omega (arith, sum, le);
     }
+
+-- one step of a key after another
+pub step_over : (es fs gs : List (ℕ × Place)) (k : ℕ) (p : Place) (now : Option Place) → Step es fs k (Some p) → Step fs gs k now → Step es gs k now
+step_over es fs gs k p now first second = record {
+  here = second.here;
+  others = λ j ne. second.others j ne ∙ first.others j ne;
+  count =
+      let a = first.count in
+      let b = second.count in
+      let at : mortal_in (place_at fs k) ≡ mortal p = ap mortal_in first.here in
+      omega (arith, a, b, at);
+  untold =
+      let a = first.untold in
+      let b = second.untold in
+      let at : untold_of (place_at fs k) ≡ untold_in p = ap untold_of first.here in
+      omega (arith, a, b, at);
+}

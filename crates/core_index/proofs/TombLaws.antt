@@ -83,6 +83,11 @@ all_less ts k d rises last = all_from (λ (t : Tombstone). key_of t < k) ts (λ 
 
 -- What a search for a key finds.
 
+-- a key that is above all is nowhere
+pub less_missing : (ts : List Tombstone) (k : ℕ) → AreLess ts k → IsMissing ts k
+less_missing [] k less = tt
+less_missing (t ∷ ts) k less = ((λ e. let lt = less.0 in omega (arith, lt, e)), less_missing ts k less.1)
+
 pub missing_found : (ts : List Tombstone) (k : ℕ) → IsMissing ts k → found_at ts k ≡ None
 missing_found [] k none = refl
 missing_found (t ∷ ts) k none = cond-false (key_of t == k) (Some t) (found_at ts k) (ne_eqb (key_of t) k none.0) ∙ missing_found ts k none.1

@@ -11,9 +11,10 @@ abbrev pub slots_at : List Place → List (ℕ × ℕ) → List (ℕ × Place)
 slots_at xs [] = []
 slots_at xs (e ∷ es) = (e.0, slice_index_or xs e.1 bare) ∷ slots_at xs es
 
--- the slots as their callers see them: a map from keys
+-- the slots as their callers see them: a map from keys; and the number of each key's place
 pub record Slab : Type 0 where
   pub entries : List (ℕ × Place)
+  pub places : List (ℕ × ℕ)
 
 abbrev pub one_at : ℕ → ℕ → ℕ
 one_at i j = if j == i then 1 else 0

@@ -7,7 +7,7 @@ ghost use Rattle.core_index.specs.Starts.{IsAhead};
 ghost use Rattle.core_index.specs.Index.{Admits, Changes, LessRoom, SameRoom, room_at, IsCompact, IsCompactLive, ToldAt, all_places, all_mortal, all_untold, known_at};
 
 use crate::slot_map::{
-    SlotMap, enter_at, forget_there, give_back_at, gone_at, has, reserve_at, tell_at,
+    SlotMap, forget_there, give_back_at, gone_at, has, replace_at, reserve_at, take_back, tell_at,
 };
 use crate::start_keys::StartKeys;
 use crate::tombstones::tombstone_of;
@@ -81,15 +81,21 @@ pub fn admit_at(
     ensures err { OnErr result (slots.new.entries ≡ slots.old.entries) }
     ensures err_left { OnErr result (start.new ≡ start.old) }
 {
-    if has(slots, key) {
-        return reserve_at(alloc, slots, key);
+    if reserve_at(alloc, slots, key)? {
+        return Ok(());
     }
-    let Some(slot) = start.slot(alloc, key)? else {
-        return reserve_at(alloc, slots, key);
-    };
-    enter_at(slots, key, slot)?;
-    start.clear(key);
-    Ok(())
+    match start.slot(alloc, key) {
+        Ok(None) => Ok(()),
+        Ok(Some(slot)) => {
+            replace_at(slots, key, slot);
+            start.clear(key);
+            Ok(())
+        }
+        Err(_) => {
+            take_back(slots, key);
+            Err(Memory)
+        }
+    }
 }
 
 /// Tells a home of a dead entry, where it waits to be told.
@@ -103,10 +109,9 @@ pub fn tell_in(slots: &mut SlotMap, start: &mut StartKeys, name: EntryName, home
     ensures unchanged { result ≡ false → slots.new.entries ≡ slots.old.entries }
     ensures unchanged_left { result ≡ false → start.new ≡ start.old }
 {
-    if has(slots, name.key) {
-        tell_at(slots, name, home)
-    } else {
-        start.tell(name, home)
+    match tell_at(slots, name, home) {
+        Some(told) => told,
+        None => start.tell(name, home),
     }
 }
 
@@ -125,13 +130,14 @@ pub fn gone_in(slots: &mut SlotMap, start: &mut StartKeys, name: EntryName) -> G
         ≤ all_untold (all_places slots.old.entries start.old) }
     ensures ahead { (h : ℕ) (n : EntryName) → IsAhead start.old h n → IsAhead start.new h n }
 {
-    if has(slots, name.key) {
-        gone_at(slots, name)
-    } else {
-        start.gone(name);
-        GoneEffect {
-            dead: None,
-            spared: 0,
+    match gone_at(slots, name) {
+        Some(gone) => gone,
+        None => {
+            start.gone(name);
+            GoneEffect {
+                dead: None,
+                spared: 0,
+            }
         }
     }
 }

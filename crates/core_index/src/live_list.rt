@@ -127,12 +127,26 @@ fn stands(live: &LiveKey, version: Version) -> bool
     }
 }
 
-// Where a key is.
+// Whether a key is above all of these.
+fn all_less(items: &[LiveKey], key: Key) -> bool
+    requires { KeysRise items.now }
+    ensures { result ≡ true → AllLess items.now key }
+{
+    match items.last() {
+        None => true,
+        Some(last) => key_of(last) < key,
+    }
+}
+
+// Where a key is. Of keys that come by rising key the last one tells that they are nowhere.
 fn live_spot(items: &[LiveKey], key: Key) -> Option<usize>
     requires { KeysRise items.now }
     ensures found { IfSome result (IsLiveSpot items.now key) }
     ensures missing { IfNone result (IsNotThere items.now key) }
 {
+    if all_less(items, key) {
+        return None;
+    }
     let at = items.partition_point(|x| key_of(x) < key);
     if at >= items.len() {
         return None;
@@ -248,10 +262,7 @@ impl LiveList {
     pub fn is_below(&self, key: Key) -> bool
         ensures { result ≡ true → AllLess self.now.items key }
     {
-        match self.items.last() {
-            None => true,
-            Some(last) => key_of(last) < key,
-        }
+        all_less(&self.items, key)
     }
 
     /// What is known of a key at the start, where it fits into the list.

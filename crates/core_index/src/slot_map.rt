@@ -1,11 +1,11 @@
 // The slots of the keys in one vector, and changes of one of them.
-ghost use Rattle.std.specs.Prelude.{◌≡◌, ◌+◌, ◌-◌, ◌<◌, ◌≤◌, true, false, IsTrue, IfOk, IfSome, OnOk, OnErr, Some, None, [], length, option_map, option_copied, is_some};
+ghost use Rattle.std.specs.Prelude.{◌≡◌, ℕ, ◌+◌, ◌-◌, ◌<◌, ◌≤◌, true, false, IsTrue, IfOk, IfSome, IfNone, OnOk, OnErr, Some, None, [], length, option_map, option_copied, is_some};
 ghost use Rattle.core_index.specs.Records.{Awaits, settled, last_of, block_of, is_forgettable};
 ghost use Rattle.core_index.specs.Slots.{mortal, count_dead, is_bare, OnlyDead};
-ghost use Rattle.std.specs.BTreeMap.{IsOrdered, is_at};
+ghost use Rattle.std.specs.BTreeMap.{IsOrdered, insert_entry, is_at};
 ghost use Rattle.std.specs.List.{AllByRecursion};
 ghost use Rattle.std.specs.List.Sorted.{IsStrictlySortedBy};
-ghost use Rattle.std.specs.Map.{keys_of, lookup};
+ghost use Rattle.std.specs.Map.{keys_of, lookup, remove_entry};
 ghost use Rattle.std.specs.Ordering.{nat_cmp};
 ghost use Rattle.core_index.specs.Slabs.{slots_at};
 ghost use Rattle.core_index.specs.Index.{live_names, Step, ToldAt, known_at, room_at, mortal_in, all_mortal, place_at, gone_place, Forgets, GivesBack};
@@ -16,6 +16,7 @@ use fs_model::{Key, Memory, Version};
 use log_entry::{Body, EntryName};
 use std::alloc::Global;
 use std::collections::BTreeMap;
+use std::collections::btree_map::Entry;
 use std::marker::Model;
 
 // The greatest number of places, so that four bytes tell one.
@@ -37,7 +38,10 @@ impl Model for SlotMap {
 
     ghost Value = { Slab };
 
-    ghost view = { λ a. record { entries = slots_at a.slots.items a.places.entries } };
+    ghost view = { λ a. record {
+      entries = slots_at a.slots.items a.places.entries;
+      places = a.places.entries;
+    } };
 
     ghost invariant = { λ a. IsSlab a.places.entries a.slots.items a.free.items (vec_capacity a.free) };
 }
@@ -48,6 +52,32 @@ fn place_of(places: &BTreeMap<Key, u32>, key: Key) -> Option<usize>
     match places.get(&key) {
         None => None,
         Some(at) => Some(*at as usize),
+    }
+}
+
+// The place of a key. One that has none gets this one.
+fn place_or(places: &mut BTreeMap<Key, u32>, key: Key, free: u32) -> Result<Option<usize>, Memory>
+    ensures found { IfOk result (λ found. found
+        ≡ lookup (is_at (nat_cmp key)) places.old.entries) }
+    ensures there { IfOk result (λ found. IfSome found (λ _. places.new.entries
+        ≡ places.old.entries)) }
+    ensures added { IfOk result (λ found. IfNone found (places.new.entries
+        ≡ insert_entry nat_cmp places.old.entries key free)) }
+    ensures here { IfOk result (λ found. IfNone found (lookup (is_at (nat_cmp key))
+        places.new.entries ≡ Some free)) }
+    ensures others { IfOk result (λ found. IfNone found ((q : ℕ)
+        → is_at (nat_cmp key) q ≡ false → lookup (is_at (nat_cmp q)) places.new.entries
+        ≡ lookup (is_at (nat_cmp q)) places.old.entries)) }
+    ensures ordered { IsOrdered nat_cmp places.old }
+    ensures err { OnErr result (places.new.entries ≡ places.old.entries) }
+{
+    match places.entry(key) {
+        Ok(Entry::Occupied(entry)) => Ok(Some(*entry.get() as usize)),
+        Ok(Entry::Vacant(entry)) => {
+            let _ = entry.insert(free);
+            Ok(None)
+        }
+        Err(_) => Err(Memory),
     }
 }
 
@@ -120,30 +150,40 @@ impl SlotMap {
         Ok(())
     }
 
-    // Gives a key that has no slot this one.
-    fn add(&mut self, key: Key, slot: KeySlot) -> Result<(), Memory>
-        requires { place_at self.old.entries key ≡ None }
-        ensures ok { OnOk result (Step self.old.entries self.new.entries key (Some slot)) }
+    // Gives a key that has no slot this one. Where it has one, nothing changes, and its place is given.
+    fn add(&mut self, key: Key, slot: KeySlot) -> Result<Option<usize>, Memory>
+        ensures found { IfOk result (λ found. found
+            ≡ lookup (is_at (nat_cmp key)) self.old.places) }
+        ensures there { IfOk result (λ found. IfSome found (λ _. self.new ≡ self.old)) }
+        ensures none { IfOk result (λ found. IfNone found
+            (place_at self.old.entries key ≡ None)) }
+        ensures step { IfOk result (λ found. IfNone found
+            (Step self.old.entries self.new.entries key (Some slot))) }
+        ensures added { IfOk result (λ found. IfNone found
+            (self.new.entries ≡ insert_entry nat_cmp self.old.entries key slot)) }
         ensures err { OnErr result (self.new ≡ self.old) }
     {
-        let Some(at) = self.free.pop() else {
+        self.grow()?;
+        let Some(free) = self.free.pop() else {
             return Err(Memory);
         };
-        match self.places.insert(key, at) {
-            Ok(_) => {
-                self.slots[at as usize] = slot;
-                Ok(())
+        match place_or(&mut self.places, key, free) {
+            Ok(None) => {
+                self.slots[free as usize] = slot;
+                Ok(None)
             }
-            Err(_) => {
-                self.free.push(at).unwrap();
-                Err(Memory)
+            found => {
+                self.free.push(free).unwrap();
+                found
             }
         }
     }
 
     // Takes the slot of a key out.
     fn remove(&mut self, key: Key)
-        ensures { Step self.old.entries self.new.entries key None }
+        ensures step { Step self.old.entries self.new.entries key None }
+        ensures entries { self.new.entries
+            ≡ remove_entry (is_at (nat_cmp key)) self.old.entries }
     {
         if let Some(at) = self.places.remove(&key) {
             self.slots[at as usize] = KeySlot::bare();
@@ -190,19 +230,44 @@ pub fn settle_at(
     }
 }
 
-/// Makes room for one more change of a key, as it is in the map.
-pub fn reserve_at(alloc: Global, slots: &mut SlotMap, key: Key) -> Result<(), Memory>
-    ensures ok { OnOk result (Step slots.old.entries slots.new.entries key
+/// Makes room for one more change of a key, as it is in the map. Says whether the map had a place for it. Else it has one
+/// now, with no record, which `take_back` takes out again.
+pub fn reserve_at(alloc: Global, slots: &mut SlotMap, key: Key) -> Result<bool, Memory>
+    ensures there { IfOk result (λ there. there ≡ is_some (place_at slots.old.entries key)) }
+    ensures step { OnOk result (Step slots.old.entries slots.new.entries key
         (Some (record {
           known = known_at slots.old.entries key;
           room = room_at slots.old.entries key + 1;
         }))) }
+    ensures added { IfOk result (λ there. there ≡ false → slots.new.entries
+        ≡ insert_entry nat_cmp slots.old.entries key (record { known = None; room = 1 })) }
     ensures err { OnErr result (slots.new.entries ≡ slots.old.entries) }
 {
-    match place_of(&slots.places, key) {
-        Some(at) => slots.slots[at].reserve(alloc),
-        None => enter_at(slots, key, KeySlot::with_room()),
+    match slots.add(key, KeySlot::with_room())? {
+        None => Ok(false),
+        Some(at) => {
+            slots.slots[at].reserve(alloc)?;
+            Ok(true)
+        }
     }
+}
+
+/// Takes the place of a key out again.
+pub fn take_back(slots: &mut SlotMap, key: Key)
+    ensures { slots.new.entries ≡ remove_entry (is_at (nat_cmp key)) slots.old.entries }
+{
+    slots.remove(key);
+}
+
+/// Gives a key that has a place this slot.
+pub fn replace_at(slots: &mut SlotMap, key: Key, slot: KeySlot)
+    requires { is_some (place_at slots.old.entries key) ≡ true }
+    ensures { Step slots.old.entries slots.new.entries key (Some slot) }
+{
+    let Some(at) = place_of(&slots.places, key) else {
+        return;
+    };
+    slots.slots[at] = slot;
 }
 
 /// Gives a key this slot.
@@ -216,41 +281,48 @@ pub fn enter_at(slots: &mut SlotMap, key: Key, slot: KeySlot) -> Result<(), Memo
             Ok(())
         }
         None => {
-            slots.grow()?;
-            slots.add(key, slot)
+            slots.add(key, slot)?;
+            Ok(())
         }
     }
 }
 
-/// Tells a home of a dead entry, where it waits to be told.
-pub fn tell_at(slots: &mut SlotMap, name: EntryName, home: u32) -> bool
-    ensures told { result ≡ true → ToldAt slots.old.entries slots.new.entries home name }
-    ensures mortal { result ≡ true → all_mortal slots.new.entries ≤ all_mortal slots.old.entries }
-    ensures none { result ≡ false → ¬ Awaits (known_at slots.old.entries name.key) home
-        name.version }
-    ensures unchanged { result ≡ false → slots.new.entries ≡ slots.old.entries }
+/// Tells a home of a dead entry, where it waits to be told. Nothing where the map has no place for the key.
+pub fn tell_at(slots: &mut SlotMap, name: EntryName, home: u32) -> Option<bool>
+    ensures there { IfSome result (λ _. is_some (place_at slots.old.entries name.key) ≡ true) }
+    ensures told { IfSome result (λ told. told ≡ true
+        → ToldAt slots.old.entries slots.new.entries home name) }
+    ensures mortal { IfSome result (λ told. told ≡ true
+        → all_mortal slots.new.entries ≤ all_mortal slots.old.entries) }
+    ensures none { IfSome result (λ told. told ≡ false
+        → ¬ Awaits (known_at slots.old.entries name.key) home name.version) }
+    ensures unchanged { IfSome result (λ told. told ≡ false
+        → slots.new.entries ≡ slots.old.entries) }
+    ensures missing { IfNone result (place_at slots.old.entries name.key ≡ None) }
+    ensures missed { IfNone result (slots.new.entries ≡ slots.old.entries) }
 {
     match place_of(&slots.places, name.key) {
-        Some(at) => slots.slots[at].tell(name.version, home),
-        None => false,
+        Some(at) => Some(slots.slots[at].tell(name.version, home)),
+        None => None,
     }
 }
 
-/// Takes an entry out of those that stand. Gives the entry that died by it.
-pub fn gone_at(slots: &mut SlotMap, name: EntryName) -> GoneEffect
-    ensures step { Step slots.old.entries slots.new.entries name.key
-        (option_map (gone_place name.version) (place_at slots.old.entries name.key)) }
-    ensures dead { OnlyDead (known_at slots.old.entries name.key)
-        (known_at slots.new.entries name.key) result.dead }
-    ensures mortal { mortal_in (place_at slots.new.entries name.key) + count_dead result.dead
-        + result.spared ≡ mortal_in (place_at slots.old.entries name.key) }
+/// Takes an entry out of those that stand. Gives the entry that died by it; nothing where the map has no place for the
+/// key.
+pub fn gone_at(slots: &mut SlotMap, name: EntryName) -> Option<GoneEffect>
+    ensures there { IfSome result (λ _. is_some (place_at slots.old.entries name.key) ≡ true) }
+    ensures step { IfSome result (λ _. Step slots.old.entries slots.new.entries name.key
+        (option_map (gone_place name.version) (place_at slots.old.entries name.key))) }
+    ensures dead { IfSome result (λ gone. OnlyDead (known_at slots.old.entries name.key)
+        (known_at slots.new.entries name.key) gone.dead) }
+    ensures mortal { IfSome result (λ gone. mortal_in (place_at slots.new.entries name.key)
+        + count_dead gone.dead + gone.spared ≡ mortal_in (place_at slots.old.entries name.key)) }
+    ensures missing { IfNone result (place_at slots.old.entries name.key ≡ None) }
+    ensures missed { IfNone result (slots.new.entries ≡ slots.old.entries) }
 {
     match place_of(&slots.places, name.key) {
-        Some(at) => slots.slots[at].gone(name.version),
-        None => GoneEffect {
-            dead: None,
-            spared: 0,
-        },
+        Some(at) => Some(slots.slots[at].gone(name.version)),
+        None => None,
     }
 }
 

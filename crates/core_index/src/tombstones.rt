@@ -134,12 +134,26 @@ fn awaits(tombstone: &Tombstone, version: Version, home: u32) -> bool
     }
 }
 
-// Where a key is.
+// Whether a key is above all of these.
+fn are_less(items: &[Tombstone], key: Key) -> bool
+    requires { Rising items.now }
+    ensures { result ≡ true → AreLess items.now key }
+{
+    match items.last() {
+        None => true,
+        Some(last) => key_of(last) < key,
+    }
+}
+
+// Where a key is. Of keys that come by rising key the last one tells that they are nowhere.
 fn spot_of(items: &[Tombstone], key: Key) -> Option<usize>
     requires { Rising items.now }
     ensures found { IfSome result (IsSpot items.now key) }
     ensures missing { IfNone result (IsMissing items.now key) }
 {
+    if are_less(items, key) {
+        return None;
+    }
     let at = items.partition_point(|t| key_of(t) < key);
     if at >= items.len() {
         return None;
@@ -165,10 +179,7 @@ impl Tombstones {
     pub fn is_below(&self, key: Key) -> bool
         ensures { result ≡ true → AreLess self.now.items key }
     {
-        match self.items.last() {
-            None => true,
-            Some(last) => key_of(last) < key,
-        }
+        are_less(&self.items, key)
     }
 
     /// Adds a key that is above all others.
@@ -186,14 +197,56 @@ impl Tombstones {
         Ok(())
     }
 
+    // Where a key is.
+    fn spot(&self, key: Key) -> Option<usize>
+        ensures spot { IfSome result (IsSpot self.now.items key) }
+        ensures missing { IfNone result (IsMissing self.now.items key) }
+    {
+        spot_of(&self.items, key)
+    }
+
+    // Where a key is that was just passed by this home: most often in the last place that it passed.
+    fn passed_spot(&self, key: Key, home: u32) -> Option<usize>
+        ensures spot { IfSome result (IsSpot self.now.items key) }
+        ensures missing { IfNone result (IsMissing self.now.items key) }
+    {
+        if home < HOMES {
+            let last = self.passed[home as usize].saturating_sub(1);
+            if last < self.items.len() && key_of(&self.items[last]) == key {
+                return Some(last);
+            }
+        }
+        self.spot(key)
+    }
+
+    // What there is in a place.
+    fn at(&self, spot: usize) -> Tombstone
+        requires { spot < length self.now.items }
+        ensures { (k : ℕ) → IsSpot self.now.items k spot
+            → found_at self.now.items k ≡ Some result }
+    {
+        self.items[spot]
+    }
+
+    // Gives the entry in a place another fate.
+    fn turn(&mut self, spot: usize, fate: Fate)
+        requires { spot < length self.old.items }
+        ensures { (k : ℕ) → IsSpot self.old.items k spot → self.new ≡ record {
+          items = fated self.old.items k fate;
+          passed = self.old.passed;
+        } }
+    {
+        self.items[spot].fate = fate;
+    }
+
     /// What there is of a key.
     pub fn find(&self, key: Key) -> Option<Tombstone>
         ensures { result ≡ found_at self.now.items key }
     {
-        let Some(spot) = spot_of(&self.items, key) else {
-            return None;
-        };
-        Some(self.items[spot])
+        match self.spot(key) {
+            None => None,
+            Some(spot) => Some(self.at(spot)),
+        }
     }
 
     /// The last version of a key, or 0 where its record is not here.
@@ -247,10 +300,10 @@ impl Tombstones {
           passed = self.old.passed;
         } }
     {
-        let Some(spot) = spot_of(&self.items, key) else {
+        let Some(spot) = self.spot(key) else {
             return;
         };
-        self.items[spot].fate = fate;
+        self.turn(spot, fate);
     }
 
     /// Tells a home of a dead entry, where it waits to be told.
@@ -262,13 +315,13 @@ impl Tombstones {
         ensures unchanged { result ≡ false → self.new ≡ self.old }
         ensures ahead { (h : ℕ) (n : EntryName) → Ahead self.old h n → Ahead self.new h n }
     {
-        let Some(tombstone) = self.find(name.key) else {
+        let Some(spot) = self.passed_spot(name.key, home) else {
             return false;
         };
-        if !awaits(&tombstone, name.version, home) {
+        if !awaits(&self.at(spot), name.version, home) {
             return false;
         }
-        self.set(name.key, Fate::Told);
+        self.turn(spot, Fate::Told);
         true
     }
 
@@ -281,11 +334,11 @@ impl Tombstones {
         ensures none { (home v : ℕ) → Awaits (known_at (tomb_places self.new.items) name.key) home v
             → Awaits (known_at (tomb_places self.old.items) name.key) home v }
     {
-        let Some(tombstone) = self.find(name.key) else {
+        let Some(spot) = self.spot(name.key) else {
             return;
         };
-        if is_dead(&tombstone, name.version) {
-            self.set(name.key, Fate::Gone);
+        if is_dead(&self.at(spot), name.version) {
+            self.turn(spot, Fate::Gone);
         }
     }
 

@@ -4,7 +4,7 @@ use Rattle.std.proofs.lemmas.List.{get_or_default}
 use Rattle.std.proofs.lemmas.List.Sorted.{IsPartitionPoint-from_clause, IsPartitionedBy-ltb}
 use Rattle.core_index.specs.declared.types.LiveKey.{LiveKey}
 use Rattle.core_index.specs.Lives.{live_key}
-use Rattle.core_index.proofs.LiveLaws.{never_falls, missing_from}
+use Rattle.core_index.proofs.LiveLaws.{never_falls, missing_from, less_missing}
 use Rattle.core_index.proofs.live_list.live_spot.Goals as goal
 
 pub returns-then-at-items-clause-missing : goal.returns-then-at-items-clause-missing
@@ -31,3 +31,6 @@ returns-then-key_of-key-clause-missing c =
     (λ i d lt. ltb-true (live_key (get_or ts i d)) k (point.0 i d (omega arith) lt))
     (λ i d le lt. ltb-false (live_key (get_or ts i d)) k (point.1 i d le lt))
     (λ lt d e. c.if-key_of-key.true (c.key_of.ensures ∙ ap live_key (get_or_default ts at _ d lt) ∙ e))
+
+pub returns-then-all_less-clause-missing : goal.returns-then-all_less-clause-missing
+returns-then-all_less-clause-missing c = less_missing c.args.items.now c.args.key (c.all_less.ensures c.if-all_less.true)

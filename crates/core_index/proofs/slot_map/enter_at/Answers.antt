@@ -32,10 +32,3 @@ returns-in-Some-clause-ok c =
     let view : slots_at xs es ≡ olds = ap (λ (s : Slab). s.entries) c.slots.view_is in
     let within : i < length xs = place_within es xs c.slots.inside.free.items (vec_capacity c.slots.inside.free) i (is_at (nat_cmp k)) c.slots.invariant at in
     stepped olds es xs c.slots.inside.free.items (vec_capacity c.slots.inside.free) k i c.args.slot c.slots.invariant view at
-
-pub add-requires : goal.add-requires
-add-requires c =
-    let olds = c.args.slots.now.entries in
-    let k = c.args.key in
-    let none : place_at olds k ≡ None = nothing olds c.slots.inside.places.entries c.slots.inside.slots.items k (ap (λ (s : Slab). s.entries) c.slots.view_is) (sym c.place_of.ensures ∙ c.in-None.is) in
-    ap (λ (s : Slab). place_at s.entries k) c.grow.ensures ∙ none

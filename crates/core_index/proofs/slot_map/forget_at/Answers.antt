@@ -7,7 +7,7 @@ returns-then-room-eq0 c =
     let es = c.args.slots.now.entries in
     let fs = c.clear_at-room.new.slots.entries in
     let first = c.clear_at-room.ensures.step in
-    let second = c.remove.ensures in
+    let second = c.remove.ensures.step in
     forgets_all es fs c.remove.new.self.entries c.args.key first second (sym c.clear_at-room.ensures.room ∙ c.if-room-eq0.true)
 
 pub returns-else-room-eq0 : goal.returns-else-room-eq0

@@ -7,7 +7,7 @@ pub returns-then-bare-clause-gives : goal.returns-then-bare-clause-gives
 returns-then-bare-clause-gives c =
     let es = c.args.slots.now.entries in
     let fs = c.lower_at-bare.new.slots.entries in
-    let second = c.remove.ensures in
+    let second = c.remove.ensures.step in
     let none = bare_is (known_at es c.args.key) (room_at es c.args.key - 1) (sym c.lower_at-bare.ensures.bare ∙ c.if-bare.true) in
     gives_all es fs c.remove.new.self.entries c.args.key c.requires c.lower_at-bare.ensures.step second none.0 none.1
 

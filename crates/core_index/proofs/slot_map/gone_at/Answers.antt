@@ -1,4 +1,4 @@
-use Rattle.std.proofs.Common.{◌≡◌, ◌<◌, length, get_or, slice_set, Option, Some, None, option_map, sym, ◌∙◌, ap, subst, arith, rules, vec_len}
+use Rattle.std.proofs.Common.{◌≡◌, ◌<◌, length, get_or, slice_set, Option, Some, None, option_map, is_some, refl, sym, ◌∙◌, ap, subst, arith, rules, vec_len}
 use Rattle.std.specs.Map.{lookup}
 use Rattle.std.specs.BTreeMap.{is_at}
 use Rattle.std.specs.Ordering.{nat_cmp}
@@ -84,9 +84,13 @@ returns-in-Some-clause-mortal c =
     let sum = c.gone.ensures.mortal in
     omega (arith, now, was, sum)
 
-pub returns-in-None-clause-step : goal.returns-in-None-clause-step
-returns-in-None-clause-step c =
-    let olds = c.args.slots.now.entries in
+pub returns-in-None-clause-missing : goal.returns-in-None-clause-missing
+returns-in-None-clause-missing c = nothing c.args.slots.now.entries c.slots.inside.places.entries c.slots.inside.slots.items c.args.name.key (ap (λ (s : Slab). s.entries) c.slots.view_is) (sym c.place_of.ensures ∙ c.in-None.is)
+
+pub returns-in-Some-clause-there : goal.returns-in-Some-clause-there
+returns-in-Some-clause-there c =
+    let es = c.slots.inside.places.entries in
+    let xs = c.slots.inside.slots.items in
     let k = c.args.name.key in
-    let none : place_at olds k ≡ None = nothing olds c.slots.inside.places.entries c.slots.inside.slots.items k (ap (λ (s : Slab). s.entries) c.slots.view_is) (sym c.place_of.ensures ∙ c.in-None.is) in
-    subst (Step olds olds k) (none ∙ ap (option_map (gone_place c.args.name.version)) (sym none)) (step_none olds k)
+    let i = c.in-Some.at in
+    ap (λ (o : Option Place). is_some o) (here c.args.slots.now.entries es xs k i (get_or xs i bare) (ap (λ (s : Slab). s.entries) c.slots.view_is) (sym c.place_of.ensures ∙ c.in-Some.is) refl)
