@@ -18,14 +18,13 @@ use Rattle.core_log.specs.Log.{room_of}
 use Rattle.core_room.specs.Lengths.{lines_needed, class_for}
 use Rattle.core_room.specs.RoomRule.{pledged, lacks_room, lacks_block, leaves_chunk, counts_at}
 use Rattle.core_room.specs.declared.supply.Supply.{Supply}
-use Rattle.core_room.specs.declared.types.Counts.{Counts}
 use Rattle.core_room.specs.declared.types.Shortage.{Shortage}
 use Rattle.core_room.specs.declared.types.Shortage.TheVariants as causes
 use Rattle.engine_laws.specs.FreeStock.{Stock, IsAtLeast, LacksRoom}
 use Rattle.engine_laws.specs.RefusalCauses.{raised, HasCause, HaveCauses}
 use Rattle.core_worker.specs.declared.worker.Worker.{Worker}
 use Rattle.core_worker.specs.Supplies.{supply_of, lacks, why, free_blocks}
-use Rattle.core_worker.specs.Answering.{is_get, lines_asked, class_asked, CountsFor, ShowsNoRoom, ShowsNoBlock, ShowsCause}
+use Rattle.core_worker.specs.Answering.{CountsFor, ShowsNoRoom, ShowsNoBlock, ShowsCause}
 use Rattle.core_worker.specs.Refusals.{reply_to}
 use Rattle.core_worker.specs.Finishing.{PutsBackIf}
 use Rattle.core_worker.specs.WorkerMoves.{awaits_chunk, lines_free, stock_of}

@@ -40,7 +40,7 @@ use Rattle.core_worker.specs.LogNames.{AreOwnOf, ClearsIn, IsCleanedBy, KnowsBy}
 use Rattle.core_worker.specs.Order.{InOrder, MayLeadStopped}
 use Rattle.core_worker.specs.OwnPlaces.{place_at}
 use Rattle.core_worker.specs.Supplies.{under_way}
-use Rattle.core_worker.specs.Ties.{LeadsAt, Holds, Stands, HoldsAt, StandsAt, is_lost}
+use Rattle.core_worker.specs.Ties.{LeadsAt, Holds, Stands, HoldsAt, StandsAt}
 use Rattle.core_worker.specs.Turning.{KeepsTurn}
 use Rattle.core_worker.specs.Turns.{InOrderAt, Steps}
 use Rattle.core_worker.proofs.BlockStands.{holds_stopped}

@@ -14,8 +14,9 @@ use Rattle.core_worker.specs.declared.types.Leading.{Leading}
 use Rattle.core_worker.specs.declared.types.Leading.TheVariants as leads
 use Rattle.core_worker.specs.declared.worker.Worker.{Worker}
 use Rattle.core_worker.specs.Ties.{LeadsNothing}
-use Rattle.core_worker.specs.Finishing.{Settles}
-use Rattle.core_worker.specs.Turns.{Moment, led_by, Collects, Releases, PersistsOrLoses, Marks, Fails, Posts, LosesBlock, Locks, Idles, Finishes}
+use Rattle.group_laws.specs.MemberViews.{View}
+use Rattle.core_worker.specs.Finishing.{FinishesSlot, Settles}
+use Rattle.core_worker.specs.Turns.{Moment, led_by, Collects, Releases, PersistsOrLoses, Marks, Fails, Posts, LosesBlock, Locks, Idles}
 use Rattle.core_worker.specs.Left.{taken_left, StartsFirst, fair}
 use Rattle.core_worker.proofs.LeftWorkers.{taken_more}
 
@@ -90,13 +91,12 @@ settled_leads : (home : Option ℕ) (p : groups.Place) (w x : Worker) (e : Entry
 settled_leads None p w x e stops = ap (λ (y : Worker). y.leading) stops
 settled_leads (Some h) p w x e settles = ap (λ (y : Worker). y.leading) settles.rest
 
-pub finishes_starts : (s : State) (p : groups.Place) (m : ℕ) (a b : Moment) (all : Bool) → Finishes s p m a b all → StartsFirst b.worker
-finishes_starts s p m a b all F =
-    let S = F.finishes in
-    let T = S.takes in
-    starts_still a.worker b.worker
-    (ap (λ (y : Worker). y.leading) S.rest ∙ ap (λ (y : Worker). y.leading) T.lets.rest ∙ settled_leads T.home p a.worker T.mid T.entry T.settles)
-    F.before.free
+pub finishes_starts : (s : State) (p : groups.Place) (m slot : ℕ) (v u : View) (w x : Worker) (all : Bool) → LeadsNothing w → FinishesSlot s p m slot v u w x all → StartsFirst x
+finishes_starts s p m slot v u w x all nothing F =
+    let T = F.takes in
+    starts_still w x
+    (ap (λ (y : Worker). y.leading) F.rest ∙ ap (λ (y : Worker). y.leading) T.lets.rest ∙ settled_leads T.home p w T.mid T.entry T.settles)
+    nothing
 
 -- What the other members do doesn't matter.
 pub fair_beside : (a e : Group) (m : ℕ) (w : Worker) → fair a m w → fair e m w

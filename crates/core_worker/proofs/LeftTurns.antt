@@ -71,6 +71,10 @@ pub posted_starts : (m : ℕ) (before after : Option Group) (v u : View) (w x : 
 posted_starts m before after v u w x slot free which = starts_still w x
     (⊎_elim (λ done. ap (λ (y : Worker). y.leading) done.2.rest ∙ ap (λ (y : Worker). y.leading) done.1) (λ stops. ap (λ (y : Worker). y.leading) stops.0) which) free
 
+pub posted_works : (m : ℕ) (before after : Option Group) (v u : View) (w x : Worker) (slot : ℕ) → PostsOrStops m before after v u w x slot → x.winds_down ≡ w.winds_down
+posted_works m before after v u w x slot which =
+    ⊎_elim (λ done. ap (λ (y : Worker). y.winds_down) done.2.rest ∙ ap (λ (y : Worker). y.winds_down) done.1) (λ stops. ap (λ (y : Worker). y.winds_down) stops.0) which
+
 -- a stopped core goes on as one
 pub withdrawn_starts : (s : State) (seat : SeatAt) (before after : Option Group) (v u : View) (w x : Worker) (all : Bool) → w.stopped ≡ true → WithdrawsOrUnlocks s seat before after v u w x all → StartsFirst x
 withdrawn_starts s seat before after v u w x all stopped which = ⊎_elim

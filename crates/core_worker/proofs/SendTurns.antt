@@ -29,7 +29,7 @@ use Rattle.core_worker.specs.Readying.{TakesDead, Readies, FindsFull, LooksOn, F
 use Rattle.core_worker.specs.Sending.{HasNames, IsReadyFor, KeepsTiesAt, SendsBox, TakesAt, WindsOnly}
 use Rattle.core_worker.specs.Supplies.{HasKeptRoom}
 use Rattle.core_worker.specs.Ties.{HoldsAt, StandsAt, LeadsNothing}
-use Rattle.core_worker.specs.Turning.{KeepsTurn}
+use Rattle.core_worker.specs.Turning.{MayServe, KeepsTurn}
 use Rattle.core_worker.specs.Turns.{InOrderAt}
 use Rattle.core_worker.specs.WorkerMoves.{stock_of}
 use Rattle.core_worker.proofs.MailTurns.{looks_join}
@@ -70,6 +70,10 @@ readied_is p m upto w y R = R.takes.same ∙ (λ i. record w { index = y.index; 
 
 pub readied_free : (p : Place) (m upto : ℕ) (w y : Worker) → Readies p m upto w y → LeadsNothing w → LeadsNothing y
 readied_free p m upto w y R nothing = (nothing.0, ap (λ (z : Worker). z.leading) R.takes.same ∙ nothing.1)
+
+-- who stays tied so, and leads nothing still, may serve its own still
+pub tied_may : (s : State) (seat : SeatAt) (v u : View) (w y : Worker) → StaysTiedFrom seat v u w y → LeadsNothing y → MayServe s seat v w → MayServe s seat u y
+tied_may s seat v u w y T nothing M = record { tied = record { holds = T.holds; stands = T.stands s M.tied.stands; order = T.order }; nothing = nothing }
 
 keeps_boxed : (seat : SeatAt) (s t : State) (before after : Option Group) (v u : View) (w y x : Worker) → KeepsTurn seat s t before after v u (boxed w y) x → KeepsTurn seat s t before after v u w x
 keeps_boxed seat s t before after v u w y x K = record {

@@ -1,5 +1,5 @@
 -- A turn that sends, or finds nothing to send and goes on.
-use Rattle.std.proofs.Common.{◌≡◌, inl, inr, ⊎_elim, ℕ, ◌<◌, ◌≤◌, Bool, true, false, List, ◌++◌, Option, Some, None, Result, Ok, Err, OnOk, refl, sym, ◌∙◌, ap, subst, arith, append_assoc}
+use Rattle.std.proofs.Common.{◌≡◌, inl, inr, ⊎_elim, ℕ, ◌<◌, ◌≤◌, Bool, true, false, List, ◌++◌, Option, Some, None, Result, Ok, Err, OnOk, OnErr, refl, sym, ◌∙◌, ap, subst, arith, append_assoc}
 use Rattle.fs_model.specs.declared.memory.Memory.{Memory}
 use Rattle.pm_region.specs.State.{State}
 use Rattle.group_laws.specs.declared.types.Seen.{Seen}
@@ -156,6 +156,11 @@ pub none_low : (p : Place) (m upto : ℕ) (r : Result Turn Memory) (posted : Boo
 none_low p m upto r posted before mid after v u w y x N offer less =
     measures_by r posted before mid after m N.found.loads u w x N.found.made offer (λ has. measures_readied r mid after w y x (takes_low p w y N.readies.takes N.readies.works) (less has))
 
-pub works_on : (r : Result Turn Memory) (b c d : Bool) → c ≡ d → OnOk r (b ≡ c) → OnOk r (b ≡ d)
-works_on (Ok turn) b c d same works = works ∙ same
-works_on (Err memory) b c d same works = tt
+pub works_on : {X Y : Type 0} (r : Result X Y) (b c d : Bool) → c ≡ d → OnOk r (b ≡ c) → OnOk r (b ≡ d)
+works_on (Ok x) b c d same works = works ∙ same
+works_on (Err y) b c d same works = tt
+
+-- who didn't wind down before didn't where there was no memory
+pub awake_before : {X Y : Type 0} (r : Result X Y) (b c : Bool) → b ≡ c → OnErr r (b ≡ false) → OnErr r (c ≡ false)
+awake_before (Ok x) b c same awake = tt
+awake_before (Err y) b c same awake = sym same ∙ awake

@@ -43,7 +43,7 @@ use Rattle.core_worker.specs.Loads.{Load, load_kind, looks_at, LooksMade}
 use Rattle.core_worker.specs.declared.types.Place.{Place as WorkerPlace}
 use Rattle.core_worker.specs.Posting.{HasNoBlock, PostsOrStops}
 use Rattle.core_worker.proofs.Given.{adds_none}
-use Rattle.core_worker.specs.Turning.{TurnMoves, KeepsTurn, Did, at_entry}
+use Rattle.core_worker.specs.Turning.{MayServe, TurnMoves, KeepsTurn, Did, at_entry}
 use Rattle.core_worker.specs.Turning.Did.{posts, loses_block}
 use Rattle.core_worker.specs.WorkerMoves.{Spends, SpendsIn, lines_in, lines_free, Hands, Fixed, placed_in, placed_for, stock_of, hands_of, fixed_of, requests_for, AnswersKey, WorkerMoves}
 use Rattle.core_worker.proofs.Led.{holds_by, stands_by}
@@ -348,3 +348,13 @@ looked_stands s seat v v' w xs is S = stands_by s seat.place seat.number v v' w 
 
 pub looked_order : (seat : SeatAt) (v v' : View) (w : Worker) (xs : List Seen) → v' ≡ record v { looked = xs } → InOrderAt seat v w → InOrderAt seat v' w
 looked_order seat v v' w xs is O = order_leading seat.place seat.number v v' w w (record { flying = v.flying; taken = v.taken; broken = v.broken; holds = v.holds; looked = xs; took = v.took; is = is }) refl O.stops O
+
+pub looked_may : (s : State) (seat : SeatAt) (v v' : View) (w : Worker) (xs : List Seen) → v' ≡ record v { looked = xs } → MayServe s seat v w → MayServe s seat v' w
+looked_may s seat v v' w xs is M = record {
+  tied = record {
+    holds = looked_holds seat v v' w xs is M.nothing M.tied.holds;
+    stands = looked_stands s seat v v' w xs is M.tied.stands;
+    order = looked_order seat v v' w xs is M.tied.order;
+  };
+  nothing = M.nothing;
+}

@@ -1,19 +1,24 @@
 -- What every part of a turn keeps, and what a whole turn did.
 use Rattle.fs_model.specs.declared.memory.Memory.{Memory}
-use Rattle.std.specs.Prelude.{Result, Ok, Err, ◌≡◌, ℕ, ◌<◌, Bool, true, false, List, [], Option}
+use Rattle.std.specs.Prelude.{Result, Ok, Err, OnOk, OnErr, ◌≡◌, ℕ, ◌<◌, Bool, true, false, List, [], Option}
 use Rattle.group_laws.specs.declared.group_sizes.TheConstants.{SLOTS}
 use Rattle.pm_region.specs.State.{State, IsTelling}
 use Rattle.group_laws.specs.State.{Group}
 use Rattle.group_laws.specs.MemberViews.{View}
 use Rattle.group_board.specs.Seats.{SeatAt}
 use Rattle.batch_leader.specs.Persisting.{StaysLicensed, WritesPart}
+use Rattle.batch_leader.specs.TurnSteps.{Trail, TurnSteps}
 use Rattle.core_worker.specs.declared.types.Leading.{Leading}
 use Rattle.core_worker.specs.declared.types.Leading.TheVariants as leads
 use Rattle.core_worker.specs.declared.worker.Worker.{Worker}
 use Rattle.core_worker.specs.Answering.{AddsAnswers}
 use Rattle.core_worker.specs.Beginning.{answers_of}
+use Rattle.core_worker.specs.Finishing.{IsServed}
+use Rattle.core_worker.specs.Left.{Lowers, StartsFirst}
+use Rattle.core_worker.specs.Mails.{PassesMail}
+use Rattle.core_worker.specs.Readying.{PassesSending}
 use Rattle.core_worker.specs.Supplies.{HasKeptRoom}
-use Rattle.core_worker.specs.Ties.{HoldsAt, StandsAt}
+use Rattle.core_worker.specs.Ties.{HoldsAt, StandsAt, LeadsNothing}
 use Rattle.batch_leader.specs.TakenChanges.{MatchBool}
 use Rattle.core_worker.specs.declared.types.Turn.{Turn}
 use Rattle.core_worker.specs.declared.types.Turn.TheVariants.{Moved, Idle}
@@ -24,6 +29,15 @@ use Rattle.core_worker.specs.Turns.{BeginsToClean, Moment, InOrderAt, GoesRound,
 use Rattle.core_worker.specs.Posting.{PointsNowhere}
 use Rattle.core_worker.specs.Stopping.{DropsStaged, WithdrawsOrUnlocks}
 use Rattle.core_worker.specs.WorkerMoves.{Fixed, hands_of, WorkerMoves}
+
+-- the worker is tied to its view at a seat and to the region, and in order
+abbrev pub TiedAt : State → SeatAt → View → Worker → Type 0
+TiedAt s seat v w = IsServed s w (record { place = seat.place; number = seat.number; view = v })
+
+-- The worker may serve its own: it is tied there, and leads nothing.
+pub record MayServe (s : State) (seat : SeatAt) (v : View) (w : Worker) : Type 0 where
+  pub tied : TiedAt s seat v w
+  pub nothing : LeadsNothing w
 
 -- What a turn fixed is what the worker answers besides, and the turn is a whole move to whoever runs several workers.
 pub record TurnMoves (seat : SeatAt) (s t : State) (before after : Option Group) (v u : View)
@@ -43,6 +57,18 @@ pub record KeepsTurn (seat : SeatAt) (s t : State) (before after : Option Group)
   pub order : InOrderAt seat u x
   pub rule : x.stopped ≡ false → HasKeptRoom w → HasKeptRoom x
   pub moves : TurnMoves seat s t before after v u w x
+
+-- What a part of a turn leaves, whatever it did and answers: what every part keeps, and the steps that it made by a gate that lets a change pass or holds it. It begins to wind down just where there was no memory.
+pub record ServesTurn {A : Type 0} (passes : Bool) (result : Result A Memory) (here there : SeatAt)
+    (s t : State) (before after : Option Group) (v u : View) (w x : Worker)
+    (old new : Trail) : Type 0 where
+  pub seat : there ≡ here
+  pub keeps : KeepsTurn here s t before after v u w x
+  pub memory : OnErr result (x.winds_down ≡ true)
+  pub awake : OnErr result (w.winds_down ≡ false)
+  pub starts : StartsFirst x
+  pub works : OnOk result (x.winds_down ≡ w.winds_down)
+  pub steps : TurnSteps passes s t v u old new
 
 -- a batch is in hand, or changes that are to be given back
 abbrev pub HasBatch : Leading → Type 0
@@ -116,6 +142,22 @@ abbrev pub Tells : Bool → ℕ → Worker → View → View → Type 0
 Tells posted m w v mid = (before : PassesItems m (at_entry w v) SLOTS mid)
     × MatchBool posted (FindsPosted w.places.items before.looked.found SLOTS)
     (FindsPosted w.places.items before.looked.found SLOTS → ⊥)
+
+-- What a turn leaves that goes on with a cleaning and made one step of it, where the items before were passed.
+pub record CleansOn (here there : SeatAt) (s t : State) (before after : Option Group) (v u : View)
+    (w x : Worker) (old new : Trail) : Type 0 where
+  pub seat : there ≡ here
+  pub keeps : KeepsTurn here s t before after v u w x
+  pub did : (refused : Bool) (told : Option Group) (start : View) (entry : Worker)
+      → PassesPost refused entry
+      → (passes : PassesItems here.number (at_entry entry start) SLOTS v)
+      → PassesMail here.place here.number entry passes.looked.looks
+      → PassesSending here.place here.number entry w passes.looked.looks
+      → Did s t refused told here (at_entry entry start) (at_entry x u)
+  pub less : Lowers before after w x
+  pub starts : StartsFirst x
+  pub works : x.winds_down ≡ w.winds_down
+  pub steps : (passes : Bool) → TurnSteps passes s t v u old new
 
 -- what there is to do with the staged changes
 abbrev pub Chooses : Choice → Bool → Bool → Worker → Type 0

@@ -1,19 +1,17 @@
 // What a turn does for a cleaning under way.
-ghost use Rattle.std.specs.Prelude.{◌≡◌, ◌≢◌, ℕ, Bool, true, false, Option, OnErr, OnOk};
-ghost use Rattle.group_laws.specs.declared.group_sizes.TheConstants.{SLOTS};
+ghost use Rattle.std.specs.Prelude.{◌≡◌, ◌≢◌, ℕ, Bool, true, Option};
 ghost use Rattle.group_laws.specs.State.{Group};
 ghost use Rattle.group_laws.specs.MemberViews.{View};
-ghost use Rattle.batch_leader.specs.TurnSteps.{TurnSteps, trail_with};
+ghost use Rattle.batch_leader.specs.TurnSteps.{trail_with};
 ghost use Rattle.core_worker.specs.declared.types.Cleaning.TheVariants.{Nothing, Copying, Doomed};
-ghost use Rattle.core_worker.specs.Left.{HasOffer, Lowers, Measures, StartsFirst};
+ghost use Rattle.core_worker.specs.Left.{HasOffer, Measures};
 ghost use Rattle.core_worker.specs.Mails.{PassesMail};
 ghost use Rattle.core_worker.specs.Readying.{PassesSending};
 ghost use Rattle.core_worker.specs.declared.worker.Worker.{Worker};
 ghost use Rattle.core_worker.specs.Resting.{IfIdle, TriedIf};
 ghost use Rattle.core_worker.specs.Supplies.{under_way};
-ghost use Rattle.core_worker.specs.Ties.{HoldsAt, StandsAt, LeadsNothing};
-ghost use Rattle.core_worker.specs.Turning.{KeepsTurn, Did, TurnedTo, Tells, at_entry};
-ghost use Rattle.core_worker.specs.Turns.{InOrderAt, PassesItems, PassesPost};
+ghost use Rattle.core_worker.specs.Turning.{CleansOn, TiedAt, MayServe, ServesTurn, TurnedTo, Tells, at_entry};
+ghost use Rattle.core_worker.specs.Turns.{PassesPost};
 
 use crate::clear_turn::end_cleaning;
 use crate::doom_turn::doom_chunk;
@@ -29,30 +27,13 @@ use std::mem;
 impl Worker {
     // Dooms the names that vanish with a chunk of which nothing is left to be copied.
     fn doom<R: Region, B: Board>(&mut self, region: &R, board: &mut B, victim: &Victim)
-        requires holds { HoldsAt (B.seat board.old) (B.view board.old) self.old }
-        requires stands { StandsAt (R.state region.now) (B.seat board.old)
+        requires tied { TiedAt (R.state region.now) (B.seat board.old)
             (B.view board.old) self.old }
-        requires order { InOrderAt (B.seat board.old) (B.view board.old) self.old }
         requires copied { (first : Bool) × (under_way self.old ≡ Copying victim.now first)
             × (victim.now.entries ≡ 0) }
-        ensures seat { B.seat board.new ≡ B.seat board.old }
-        ensures keeps { KeepsTurn (B.seat board.old) (R.state region.now) (R.state region.now)
-            (B.whole board.old) (B.whole board.new) (B.view board.old) (B.view board.new)
-            self.old self.new }
-        ensures did { (refused : Bool) (before : Option Group) (v : View) (w : Worker)
-            → PassesPost refused w
-            → (passes : PassesItems (B.seat board.old).number (at_entry w v) SLOTS
-            (B.view board.old))
-            → PassesMail (B.seat board.old).place (B.seat board.old).number w passes.looked.looks
-            → PassesSending (B.seat board.old).place (B.seat board.old).number w self.old
-            passes.looked.looks
-            → Did (R.state region.now) (R.state region.now) refused before (B.seat board.old)
-            (at_entry w v) (at_entry self.new (B.view board.new)) }
-        ensures less { Lowers (B.whole board.old) (B.whole board.new) self.old self.new }
-        ensures starts { StartsFirst self.new }
-        ensures works { self.new.winds_down ≡ self.old.winds_down }
-        ensures steps { (passes : Bool) → TurnSteps passes (R.state region.now) (R.state region.now)
-            (B.view board.old) (B.view board.new)
+        ensures { CleansOn (B.seat board.old) (B.seat board.new)
+            (R.state region.now) (R.state region.now) (B.whole board.old) (B.whole board.new)
+            (B.view board.old) (B.view board.new) self.old self.new
             (trail_with (B.trail board.old) (B.at board.old))
             (trail_with (B.trail board.new) (B.at board.new)) }
     {
@@ -80,29 +61,12 @@ impl Worker {
     // Ends the cleaning whose names are doomed: its chunk is free again, and what stood there alone is gone, which waits to
     // be told to the owners of other keys. After a fault the core stops.
     fn end_clean<R: Region, B: Board>(&mut self, region: &mut R, board: &mut B)
-        requires holds { HoldsAt (B.seat board.old) (B.view board.old) self.old }
-        requires stands { StandsAt (R.state region.old) (B.seat board.old)
+        requires tied { TiedAt (R.state region.old) (B.seat board.old)
             (B.view board.old) self.old }
-        requires order { InOrderAt (B.seat board.old) (B.view board.old) self.old }
         requires dooms { (j : ℕ) × (under_way self.old ≡ Doomed j) }
-        ensures seat { B.seat board.new ≡ B.seat board.old }
-        ensures keeps { KeepsTurn (B.seat board.old) (R.state region.old) (R.state region.new)
-            (B.whole board.old) (B.whole board.new) (B.view board.old) (B.view board.new)
-            self.old self.new }
-        ensures did { (refused : Bool) (before : Option Group) (v : View) (w : Worker)
-            → PassesPost refused w
-            → (passes : PassesItems (B.seat board.old).number (at_entry w v) SLOTS
-            (B.view board.old))
-            → PassesMail (B.seat board.old).place (B.seat board.old).number w passes.looked.looks
-            → PassesSending (B.seat board.old).place (B.seat board.old).number w self.old
-            passes.looked.looks
-            → Did (R.state region.old) (R.state region.new) refused before (B.seat board.old)
-            (at_entry w v) (at_entry self.new (B.view board.new)) }
-        ensures less { Lowers (B.whole board.old) (B.whole board.new) self.old self.new }
-        ensures starts { StartsFirst self.new }
-        ensures works { self.new.winds_down ≡ self.old.winds_down }
-        ensures steps { (passes : Bool) → TurnSteps passes (R.state region.old) (R.state region.new)
-            (B.view board.old) (B.view board.new)
+        ensures { CleansOn (B.seat board.old) (B.seat board.new)
+            (R.state region.old) (R.state region.new) (B.whole board.old) (B.whole board.new)
+            (B.view board.old) (B.view board.new) self.old self.new
             (trail_with (B.trail board.old) (B.at board.old))
             (trail_with (B.trail board.new) (B.at board.new)) }
     {
@@ -144,16 +108,14 @@ impl Worker {
         board: &mut B,
         posted: bool,
     ) -> Result<Turn, Memory>
-        requires holds { HoldsAt (B.seat board.old) (B.view board.old) self.old }
-        requires stands { StandsAt (R.state region.now) (B.seat board.old)
+        requires may { MayServe (R.state region.now) (B.seat board.old)
             (B.view board.old) self.old }
-        requires order { InOrderAt (B.seat board.old) (B.view board.old) self.old }
-        requires nothing { LeadsNothing self.old }
         requires clean { under_way self.old ≡ Nothing }
-        ensures seat { B.seat board.new ≡ B.seat board.old }
-        ensures keeps { KeepsTurn (B.seat board.old) (R.state region.now) (R.state region.now)
+        ensures serves { (passes : Bool) → ServesTurn passes result
+            (B.seat board.old) (B.seat board.new) (R.state region.now) (R.state region.now)
             (B.whole board.old) (B.whole board.new) (B.view board.old) (B.view board.new)
-            self.old self.new }
+            self.old self.new (trail_with (B.trail board.old) (B.at board.old))
+            (trail_with (B.trail board.new) (B.at board.new)) }
         ensures turned { (refused : Bool) (before : Option Group) (v : View) (w : Worker)
             → PassesPost refused w
             → (tells : Tells posted (B.seat board.old).number w v (B.view board.old))
@@ -162,18 +124,10 @@ impl Worker {
             tells.0.looked.looks
             → TurnedTo result (R.state region.now) (R.state region.now) refused before
             (B.seat board.old) (at_entry w v) (at_entry self.new (B.view board.new)) }
-        ensures memory { OnErr result (self.new.winds_down ≡ true) }
-        ensures awake { OnErr result (self.old.winds_down ≡ false) }
         ensures less { (posted ≡ true → HasOffer (B.whole board.old) (B.seat board.old).number)
             → Measures result (B.whole board.old) (B.whole board.new) self.old self.new }
-        ensures starts { StartsFirst self.new }
         ensures tries { IfIdle result (TriedIf posted (B.seat board.old).number
             (B.whole board.old) (B.whole board.new) (B.view board.new)) }
-        ensures works { OnOk result (self.new.winds_down ≡ self.old.winds_down) }
-        ensures steps { (passes : Bool) → TurnSteps passes (R.state region.now) (R.state region.now)
-            (B.view board.old) (B.view board.new)
-            (trail_with (B.trail board.old) (B.at board.old))
-            (trail_with (B.trail board.new) (B.at board.new)) }
     {
         match self.begin_next(alloc, region) {
             Ok(begun) => {
@@ -198,15 +152,13 @@ impl Worker {
         board: &mut B,
         posted: bool,
     ) -> Result<Turn, Memory>
-        requires holds { HoldsAt (B.seat board.old) (B.view board.old) self.old }
-        requires stands { StandsAt (R.state region.old) (B.seat board.old)
+        requires may { MayServe (R.state region.old) (B.seat board.old)
             (B.view board.old) self.old }
-        requires order { InOrderAt (B.seat board.old) (B.view board.old) self.old }
-        requires nothing { LeadsNothing self.old }
-        ensures seat { B.seat board.new ≡ B.seat board.old }
-        ensures keeps { KeepsTurn (B.seat board.old) (R.state region.old) (R.state region.new)
+        ensures serves { (passes : Bool) → ServesTurn passes result
+            (B.seat board.old) (B.seat board.new) (R.state region.old) (R.state region.new)
             (B.whole board.old) (B.whole board.new) (B.view board.old) (B.view board.new)
-            self.old self.new }
+            self.old self.new (trail_with (B.trail board.old) (B.at board.old))
+            (trail_with (B.trail board.new) (B.at board.new)) }
         ensures turned { (refused : Bool) (before : Option Group) (v : View) (w : Worker)
             → PassesPost refused w
             → (tells : Tells posted (B.seat board.old).number w v (B.view board.old))
@@ -215,18 +167,10 @@ impl Worker {
             tells.0.looked.looks
             → TurnedTo result (R.state region.old) (R.state region.new) refused before
             (B.seat board.old) (at_entry w v) (at_entry self.new (B.view board.new)) }
-        ensures memory { OnErr result (self.new.winds_down ≡ true) }
-        ensures awake { OnErr result (self.old.winds_down ≡ false) }
         ensures less { (posted ≡ true → HasOffer (B.whole board.old) (B.seat board.old).number)
             → Measures result (B.whole board.old) (B.whole board.new) self.old self.new }
-        ensures starts { StartsFirst self.new }
         ensures tries { IfIdle result (TriedIf posted (B.seat board.old).number
             (B.whole board.old) (B.whole board.new) (B.view board.new)) }
-        ensures works { OnOk result (self.new.winds_down ≡ self.old.winds_down) }
-        ensures steps { (passes : Bool) → TurnSteps passes (R.state region.old) (R.state region.new)
-            (B.view board.old) (B.view board.new)
-            (trail_with (B.trail board.old) (B.at board.old))
-            (trail_with (B.trail board.new) (B.at board.new)) }
     {
         match self.under_way() {
             Cleaning::Nothing => {

@@ -4,24 +4,18 @@ ghost use Rattle.pm_region.specs.State.{State, IsTelling};
 ghost use Rattle.log_entry.specs.declared.entry_limits.TheConstants.{MOST_ENTRIES};
 ghost use Rattle.core_room.specs.CleaningRoom.{needs_fresh};
 ghost use Rattle.core_room.specs.RoomRule.{pledged};
-ghost use Rattle.group_laws.specs.declared.group_sizes.TheConstants.{SLOTS};
 ghost use Rattle.log_cleaner.specs.Copying.{to_copy};
 ghost use Rattle.log_cleaner.specs.declared.types.Victim.{Victim as Chosen};
 ghost use Rattle.group_laws.specs.Places.{Place as PlaceOf};
-ghost use Rattle.group_laws.specs.State.{Group};
 ghost use Rattle.group_laws.specs.MemberViews.{View};
-ghost use Rattle.batch_leader.specs.TurnSteps.{TurnSteps, trail_with};
+ghost use Rattle.batch_leader.specs.TurnSteps.{trail_with};
 ghost use Rattle.core_worker.specs.declared.types.Cleaning.TheVariants.{Nothing, Copying};
 ghost use Rattle.core_worker.specs.CopyItems.{LeavesCopies};
 ghost use Rattle.core_worker.specs.CopyTurns.{left_of};
-ghost use Rattle.core_worker.specs.Left.{Lowers, StartsFirst};
-ghost use Rattle.core_worker.specs.Mails.{PassesMail};
-ghost use Rattle.core_worker.specs.Readying.{PassesSending};
 ghost use Rattle.core_worker.specs.declared.worker.Worker.{Worker};
 ghost use Rattle.core_worker.specs.Supplies.{under_way, HasKeptRoom};
-ghost use Rattle.core_worker.specs.Ties.{Holds, HoldsAt, Stands, StandsAt};
-ghost use Rattle.core_worker.specs.Turning.{KeepsTurn, Did, at_entry};
-ghost use Rattle.core_worker.specs.Turns.{InOrderAt, PassesItems, PassesPost};
+ghost use Rattle.core_worker.specs.Ties.{Holds, Stands};
+ghost use Rattle.core_worker.specs.Turning.{CleansOn, TiedAt};
 
 use crate::copy_turn::copy_into;
 use crate::lead_items::chunk_for;
@@ -102,30 +96,13 @@ impl Worker {
         victim: Victim,
         first: bool,
     )
-        requires holds { HoldsAt (B.seat board.old) (B.view board.old) self.old }
-        requires stands { StandsAt (R.state region.old) (B.seat board.old)
+        requires tied { TiedAt (R.state region.old) (B.seat board.old)
             (B.view board.old) self.old }
-        requires order { InOrderAt (B.seat board.old) (B.view board.old) self.old }
         requires way { under_way self.old ≡ Copying victim first }
         requires some { 0 < victim.entries }
-        ensures seat { B.seat board.new ≡ B.seat board.old }
-        ensures keeps { KeepsTurn (B.seat board.old) (R.state region.old) (R.state region.new)
-            (B.whole board.old) (B.whole board.new) (B.view board.old) (B.view board.new)
-            self.old self.new }
-        ensures did { (refused : Bool) (before : Option Group) (v : View) (w : Worker)
-            → PassesPost refused w
-            → (passes : PassesItems (B.seat board.old).number (at_entry w v) SLOTS
-            (B.view board.old))
-            → PassesMail (B.seat board.old).place (B.seat board.old).number w passes.looked.looks
-            → PassesSending (B.seat board.old).place (B.seat board.old).number w self.old
-            passes.looked.looks
-            → Did (R.state region.old) (R.state region.new) refused before (B.seat board.old)
-            (at_entry w v) (at_entry self.new (B.view board.new)) }
-        ensures less { Lowers (B.whole board.old) (B.whole board.new) self.old self.new }
-        ensures starts { StartsFirst self.new }
-        ensures works { self.new.winds_down ≡ self.old.winds_down }
-        ensures steps { (passes : Bool) → TurnSteps passes (R.state region.old) (R.state region.new)
-            (B.view board.old) (B.view board.new)
+        ensures { CleansOn (B.seat board.old) (B.seat board.new)
+            (R.state region.old) (R.state region.new) (B.whole board.old) (B.whole board.new)
+            (B.view board.old) (B.view board.new) self.old self.new
             (trail_with (B.trail board.old) (B.at board.old))
             (trail_with (B.trail board.new) (B.at board.new)) }
     {

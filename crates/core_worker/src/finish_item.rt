@@ -1,8 +1,7 @@
 // Taking posted changes back that their leader gave back.
-ghost use Rattle.std.specs.Prelude.{◌≡◌, ◌∷◌, ◌⊎◌, ℕ, ◌+◌, ◌<◌, true, false, length, is_ok, IfSome, Some, OnErr, OnOk};
+ghost use Rattle.std.specs.Prelude.{◌≡◌, ◌∷◌, ◌⊎◌, ◌+◌, ◌<◌, true, false, length, is_ok, IfSome, Some, OnErr, OnOk};
 ghost use Rattle.core_worker.specs.Supplies.{HasKeptRoom};
 ghost use Rattle.pm_region.specs.State.{State};
-ghost use Rattle.store_image.specs.Facts.{In};
 ghost use Rattle.group_laws.specs.Places.{Place as PlaceOf, IsPlace, members, core_of};
 ghost use Rattle.group_laws.specs.Runs as runs;
 ghost use Rattle.group_laws.specs.declared.types.Seen.TheVariants as loads;
@@ -10,6 +9,7 @@ ghost use Rattle.group_laws.specs.declared.types.SlotWord.TheVariants as words;
 ghost use Rattle.group_board.specs.Told.{Makes};
 ghost use Rattle.group_board.specs.Trails.{step_with};
 ghost use Rattle.core_worker.specs.Ties.{HoldsAt, LeadsNothing, StandsAt};
+ghost use Rattle.core_worker.specs.Turning.{MayServe};
 ghost use Rattle.core_worker.specs.Turns.{InOrderAt};
 ghost use Rattle.core_index.specs.Index.{known_at, room_at};
 ghost use Rattle.core_index.specs.Records.{last_of, block_of};
@@ -143,11 +143,8 @@ impl Worker {
         board: &mut B,
         slot: u32,
     ) -> Result<(), Memory>
-        requires holds { HoldsAt (B.seat board.old) (B.view board.old) self.old }
-        requires stands { StandsAt (R.state region.now) (B.seat board.old)
+        requires may { MayServe (R.state region.now) (B.seat board.old)
             (B.view board.old) self.old }
-        requires order { InOrderAt (B.seat board.old) (B.view board.old) self.old }
-        requires nothing { LeadsNothing self.old }
         requires slot { slot < SLOTS }
         requires seen { WasFoundBack (B.seat board.old).number slot (B.view board.old) }
         ensures seat { B.seat board.new ≡ B.seat board.old }

@@ -1,17 +1,16 @@
 // What a turn does with what members tell each other.
-ghost use Rattle.std.specs.Prelude.{◌≡◌, ◌<◌, length, Bool, true, false, Option, OnErr, OnOk};
-ghost use Rattle.pm_region.specs.State.{State};
+ghost use Rattle.std.specs.Prelude.{◌≡◌, ◌<◌, length, Bool, true, false, Option};
 ghost use Rattle.group_laws.specs.declared.group_sizes.TheConstants.{SLOTS};
 ghost use Rattle.group_laws.specs.Places.{members, core_of};
 ghost use Rattle.group_laws.specs.State.{Group};
 ghost use Rattle.group_laws.specs.MemberViews.{View};
-ghost use Rattle.batch_leader.specs.TurnSteps.{TurnSteps, trail_with};
-ghost use Rattle.core_worker.specs.Left.{HasOffer, Measures, StartsFirst};
+ghost use Rattle.batch_leader.specs.TurnSteps.{trail_with};
+ghost use Rattle.core_worker.specs.Left.{HasOffer, Measures};
 ghost use Rattle.core_worker.specs.Mails.{MailSteps, NoneTold, ReceivesFirst, ReceivesMail};
 ghost use Rattle.core_worker.specs.Resting.{IfIdle, TriedAfter};
-ghost use Rattle.core_worker.specs.Ties.{HoldsAt, StandsAt, LeadsNothing};
-ghost use Rattle.core_worker.specs.Turning.{KeepsTurn, Tells, TurnedTo, at_entry};
-ghost use Rattle.core_worker.specs.Turns.{InOrderAt, PassesPost};
+ghost use Rattle.core_worker.specs.Ties.{HoldsAt};
+ghost use Rattle.core_worker.specs.Turning.{MayServe, ServesTurn, Tells, TurnedTo, at_entry};
+ghost use Rattle.core_worker.specs.Turns.{PassesPost};
 
 use crate::log_names::hear_notices;
 use crate::types::Turn;
@@ -100,34 +99,25 @@ impl Worker {
         board: &mut B,
         posted: bool,
     ) -> Result<Turn, Memory>
-        requires holds { HoldsAt (B.seat board.old) (B.view board.old) self.old }
-        requires stands { StandsAt (R.state region.old) (B.seat board.old)
+        requires may { MayServe (R.state region.old) (B.seat board.old)
             (B.view board.old) self.old }
-        requires order { InOrderAt (B.seat board.old) (B.view board.old) self.old }
-        requires nothing { LeadsNothing self.old }
         requires runs { self.old.stopped ≡ false }
         requires works { self.old.winds_down ≡ false }
-        ensures seat { B.seat board.new ≡ B.seat board.old }
-        ensures keeps { KeepsTurn (B.seat board.old) (R.state region.old) (R.state region.new)
+        ensures serves { (passes : Bool) → ServesTurn passes result
+            (B.seat board.old) (B.seat board.new) (R.state region.old) (R.state region.new)
             (B.whole board.old) (B.whole board.new) (B.view board.old) (B.view board.new)
-            self.old self.new }
+            self.old self.new (trail_with (B.trail board.old) (B.at board.old))
+            (trail_with (B.trail board.new) (B.at board.new)) }
         ensures turned { (refused : Bool) (before : Option Group) (v : View)
             → PassesPost refused self.old
             → (tells : Tells posted (B.seat board.old).number self.old v (B.view board.old))
             → NoneTold (B.seat board.old).place (B.seat board.old).number tells.0.looked.looks
             → TurnedTo result (R.state region.old) (R.state region.new) refused before
             (B.seat board.old) (at_entry self.old v) (at_entry self.new (B.view board.new)) }
-        ensures memory { OnErr result (self.new.winds_down ≡ true) }
         ensures less { (posted ≡ true → HasOffer (B.whole board.old) (B.seat board.old).number)
             → Measures result (B.whole board.old) (B.whole board.new) self.old self.new }
-        ensures starts { StartsFirst self.new }
         ensures tries { IfIdle result (TriedAfter posted (B.seat board.old).number
             (B.whole board.old) (B.whole board.new) (B.view board.old) (B.view board.new)) }
-        ensures works { OnOk result (self.new.winds_down ≡ self.old.winds_down) }
-        ensures steps { (passes : Bool) → TurnSteps passes (R.state region.old) (R.state region.new)
-            (B.view board.old) (B.view board.new)
-            (trail_with (B.trail board.old) (B.at board.old))
-            (trail_with (B.trail board.new) (B.at board.new)) }
     {
         match self.send_first(alloc, board) {
             Ok(sent) => {
@@ -151,32 +141,22 @@ impl Worker {
         board: &mut B,
         posted: bool,
     ) -> Result<Turn, Memory>
-        requires holds { HoldsAt (B.seat board.old) (B.view board.old) self.old }
-        requires stands { StandsAt (R.state region.old) (B.seat board.old)
+        requires may { MayServe (R.state region.old) (B.seat board.old)
             (B.view board.old) self.old }
-        requires order { InOrderAt (B.seat board.old) (B.view board.old) self.old }
-        requires nothing { LeadsNothing self.old }
-        ensures seat { B.seat board.new ≡ B.seat board.old }
-        ensures keeps { KeepsTurn (B.seat board.old) (R.state region.old) (R.state region.new)
+        ensures serves { (passes : Bool) → ServesTurn passes result
+            (B.seat board.old) (B.seat board.new) (R.state region.old) (R.state region.new)
             (B.whole board.old) (B.whole board.new) (B.view board.old) (B.view board.new)
-            self.old self.new }
+            self.old self.new (trail_with (B.trail board.old) (B.at board.old))
+            (trail_with (B.trail board.new) (B.at board.new)) }
         ensures turned { (refused : Bool) (before : Option Group) (v : View)
             → PassesPost refused self.old
             → Tells posted (B.seat board.old).number self.old v (B.view board.old)
             → TurnedTo result (R.state region.old) (R.state region.new) refused before
             (B.seat board.old) (at_entry self.old v) (at_entry self.new (B.view board.new)) }
-        ensures memory { OnErr result (self.new.winds_down ≡ true) }
-        ensures awake { OnErr result (self.old.winds_down ≡ false) }
         ensures less { (posted ≡ true → HasOffer (B.whole board.old) (B.seat board.old).number)
             → Measures result (B.whole board.old) (B.whole board.new) self.old self.new }
-        ensures starts { StartsFirst self.new }
         ensures tries { IfIdle result (TriedAfter posted (B.seat board.old).number
             (B.whole board.old) (B.whole board.new) (B.view board.old) (B.view board.new)) }
-        ensures works { OnOk result (self.new.winds_down ≡ self.old.winds_down) }
-        ensures steps { (passes : Bool) → TurnSteps passes (R.state region.old) (R.state region.new)
-            (B.view board.old) (B.view board.new)
-            (trail_with (B.trail board.old) (B.at board.old))
-            (trail_with (B.trail board.new) (B.at board.new)) }
     {
         if self.stopped || self.winds_down {
             return self.serve_cleaning(alloc, region, board, posted);

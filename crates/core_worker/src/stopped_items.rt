@@ -1,10 +1,11 @@
 // What a stopped core does with its own changes: it takes back what is posted, and answers what is staged.
-ghost use Rattle.std.specs.Prelude.{◌≡◌, ℕ, ◌<◌, true, false, length, is_ok, IfSome, MatchOption, Option, Some, None, OnErr, OnOk};
+ghost use Rattle.std.specs.Prelude.{◌≡◌, ◌<◌, true, false, length, is_ok, IfSome, MatchOption, Option, Some, None, OnErr, OnOk};
 ghost use Rattle.batch_leader.specs.declared.states.Collecting.{Collecting};
 ghost use Rattle.pm_region.specs.State.{State};
 ghost use Rattle.core_index.specs.Records.{pointer_of};
 ghost use Rattle.lazy_alloc.specs.Sets.{AreSets, block_is_used};
 ghost use Rattle.batch_leader.specs.TurnSteps.{LoadsThenOne};
+ghost use Rattle.core_worker.specs.Turning.{TiedAt};
 ghost use Rattle.core_worker.specs.declared.types.Leading.TheVariants as leads;
 ghost use Rattle.core_worker.specs.OwnPlaces.{place_at, key_in, is_busy, is_free, is_of, is_staged};
 ghost use Rattle.core_worker.specs.Refusals.{HasAnswerRoom};
@@ -195,10 +196,8 @@ impl Worker {
         region: &R,
         board: &mut B,
     ) -> Result<(), Memory>
-        requires holds { HoldsAt (B.seat board.old) (B.view board.old) self.old }
-        requires stands { StandsAt (R.state region.now) (B.seat board.old)
+        requires tied { TiedAt (R.state region.now) (B.seat board.old)
             (B.view board.old) self.old }
-        requires order { InOrderAt (B.seat board.old) (B.view board.old) self.old }
         requires collects { (c : Collecting) × (self.old.leading ≡ leads.Collecting c) }
         requires stopped { self.old.stopped ≡ true }
         ensures seat { B.seat board.new ≡ B.seat board.old }

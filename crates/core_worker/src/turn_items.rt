@@ -1,12 +1,12 @@
 // One turn of a worker.
-ghost use Rattle.std.specs.Prelude.{◌≡◌, ◌<◌, Bool, true, false, Option, List, [], ◌∷◌, OnErr, OnOk};
-ghost use Rattle.pm_region.specs.State.{State, IsTelling};
+ghost use Rattle.std.specs.Prelude.{◌≡◌, ◌<◌, Bool, true, false, Option, [], ◌∷◌, OnErr, OnOk};
+ghost use Rattle.pm_region.specs.State.{State};
 ghost use Rattle.group_laws.specs.State.{Group};
 ghost use Rattle.group_laws.specs.MemberViews.{View};
 ghost use Rattle.batch_leader.specs.declared.states.Batch.{Batch};
 ghost use Rattle.batch_leader.specs.declared.states.Collecting.{Collecting};
 ghost use Rattle.core_worker.specs.declared.types.Leading.TheVariants as leads;
-ghost use Rattle.core_worker.specs.OwnPlaces.{place_at, is_staged, IsLowest};
+ghost use Rattle.core_worker.specs.OwnPlaces.{place_at, is_staged};
 ghost use Rattle.core_worker.specs.Refusals.{IsMeasured};
 ghost use Rattle.core_worker.specs.declared.types.Cleaning.TheVariants.{Nothing};
 ghost use Rattle.core_worker.specs.Supplies.{room_for, under_way, HasKeptRoom};
@@ -14,8 +14,8 @@ ghost use Rattle.batch_leader.specs.TurnSteps.{TurnSteps, trail_with};
 ghost use Rattle.batch_leader.specs.Persisting.{StaysLicensed, WritesPart};
 ghost use Rattle.core_worker.specs.Posting.{HasNoBlock, PostsOrStops};
 ghost use Rattle.core_worker.specs.Ties.{HoldsAt, StandsAt, LeadsNothing};
-ghost use Rattle.core_worker.specs.Turns.{InOrderAt, PassesPost, PersistsOrLoses};
-ghost use Rattle.core_worker.specs.Turning.{HasBatch, KeepsTurn, TurnMoves, Did, Turned, TurnedTo, Tells, at_entry};
+ghost use Rattle.core_worker.specs.Turns.{InOrderAt, PassesPost};
+ghost use Rattle.core_worker.specs.Turning.{TiedAt, MayServe, ServesTurn, HasBatch, KeepsTurn, TurnMoves, Did, Turned, TurnedTo, Tells, at_entry};
 ghost use Rattle.core_worker.specs.IndexRoom.{HasJustRoom};
 ghost use Rattle.core_worker.specs.Left.{HasOffer, Lowers, Measures, MeasuresTurn, StartsFirst};
 ghost use Rattle.core_worker.specs.BeginsCleaning.{BeginsNone};
@@ -44,28 +44,19 @@ impl Worker {
         region: &mut R,
         board: &mut B,
     ) -> Result<(), Memory>
-        requires holds { HoldsAt (B.seat board.old) (B.view board.old) self.old }
-        requires stands { StandsAt (R.state region.old) (B.seat board.old)
+        requires tied { TiedAt (R.state region.old) (B.seat board.old)
             (B.view board.old) self.old }
-        requires order { InOrderAt (B.seat board.old) (B.view board.old) self.old }
         requires batch { HasBatch self.old.leading }
-        ensures seat { B.seat board.new ≡ B.seat board.old }
-        ensures keeps { KeepsTurn (B.seat board.old) (R.state region.old) (R.state region.new)
+        ensures serves { (passes : Bool) → ServesTurn passes result
+            (B.seat board.old) (B.seat board.new) (R.state region.old) (R.state region.new)
             (B.whole board.old) (B.whole board.new) (B.view board.old) (B.view board.new)
-            self.old self.new }
+            self.old self.new (trail_with (B.trail board.old) (B.at board.old))
+            (trail_with (B.trail board.new) (B.at board.new)) }
         ensures did { (refused : Bool) → Did (R.state region.old) (R.state region.new) refused
             (B.whole board.old)
             (B.seat board.old) (at_entry self.old (B.view board.old))
             (at_entry self.new (B.view board.new)) }
-        ensures memory { OnErr result (self.new.winds_down ≡ true) }
-        ensures awake { OnErr result (self.old.winds_down ≡ false) }
         ensures less { Lowers (B.whole board.old) (B.whole board.new) self.old self.new }
-        ensures starts { StartsFirst self.new }
-        ensures works { OnOk result (self.new.winds_down ≡ self.old.winds_down) }
-        ensures steps { (passes : Bool) → TurnSteps passes (R.state region.old) (R.state region.new)
-            (B.view board.old) (B.view board.new)
-            (trail_with (B.trail board.old) (B.at board.old))
-            (trail_with (B.trail board.new) (B.at board.new)) }
     {
         match &self.leading {
             Leading::Batch(_) => {
@@ -86,12 +77,9 @@ impl Worker {
 
     // Posts the change that is staged in a place, after its block where it has one.
     fn post<R: Region, B: Board>(&mut self, region: &mut R, board: &mut B, slot: u32)
-        requires holds { HoldsAt (B.seat board.old) (B.view board.old) self.old }
-        requires stands { StandsAt (R.state region.old) (B.seat board.old)
+        requires may { MayServe (R.state region.old) (B.seat board.old)
             (B.view board.old) self.old }
-        requires order { InOrderAt (B.seat board.old) (B.view board.old) self.old }
         requires runs { self.old.stopped ≡ false }
-        requires nothing { LeadsNothing self.old }
         requires slot { slot < SLOTS }
         requires staged { is_staged (place_at self.old.places.items slot) ≡ true }
         ensures seat { B.seat board.new ≡ B.seat board.old }
@@ -170,31 +158,21 @@ impl Worker {
         gate: &G,
         posted: bool,
     ) -> Result<Turn, Memory>
-        requires holds { HoldsAt (B.seat board.old) (B.view board.old) self.old }
-        requires stands { StandsAt (R.state region.old) (B.seat board.old)
+        requires may { MayServe (R.state region.old) (B.seat board.old)
             (B.view board.old) self.old }
-        requires order { InOrderAt (B.seat board.old) (B.view board.old) self.old }
-        requires nothing { LeadsNothing self.old }
-        ensures seat { B.seat board.new ≡ B.seat board.old }
-        ensures keeps { KeepsTurn (B.seat board.old) (R.state region.old) (R.state region.new)
+        ensures serves { ServesTurn (G.may_pass gate.now) result
+            (B.seat board.old) (B.seat board.new) (R.state region.old) (R.state region.new)
             (B.whole board.old) (B.whole board.new) (B.view board.old) (B.view board.new)
-            self.old self.new }
+            self.old self.new (trail_with (B.trail board.old) (B.at board.old))
+            (trail_with (B.trail board.new) (B.at board.new)) }
         ensures turned { (before : Option Group) (v : View)
             → Tells posted (B.seat board.old).number self.old v (B.view board.old)
             → TurnedTo result (R.state region.old) (R.state region.new) (G.may_refuse gate.now)
             before (B.seat board.old) (at_entry self.old v) (at_entry self.new (B.view board.new)) }
-        ensures memory { OnErr result (self.new.winds_down ≡ true) }
-        ensures awake { OnErr result (self.old.winds_down ≡ false) }
         ensures less { (posted ≡ true → HasOffer (B.whole board.old) (B.seat board.old).number)
             → Measures result (B.whole board.old) (B.whole board.new) self.old self.new }
-        ensures starts { StartsFirst self.new }
         ensures tries { IfIdle result (TriedAfter posted (B.seat board.old).number
             (B.whole board.old) (B.whole board.new) (B.view board.old) (B.view board.new)) }
-        ensures works { OnOk result (self.new.winds_down ≡ self.old.winds_down) }
-        ensures steps { TurnSteps (G.may_pass gate.now) (R.state region.old) (R.state region.new)
-            (B.view board.old) (B.view board.new)
-            (trail_with (B.trail board.old) (B.at board.old))
-            (trail_with (B.trail board.new) (B.at board.new)) }
     {
         match self.choose(gate) {
             Choice::Pass => {
@@ -223,31 +201,21 @@ impl Worker {
         board: &mut B,
         gate: &G,
     ) -> Result<Turn, Memory>
-        requires holds { HoldsAt (B.seat board.old) (B.view board.old) self.old }
-        requires stands { StandsAt (R.state region.old) (B.seat board.old)
+        requires may { MayServe (R.state region.old) (B.seat board.old)
             (B.view board.old) self.old }
-        requires order { InOrderAt (B.seat board.old) (B.view board.old) self.old }
-        requires nothing { LeadsNothing self.old }
-        ensures seat { B.seat board.new ≡ B.seat board.old }
-        ensures keeps { KeepsTurn (B.seat board.old) (R.state region.old) (R.state region.new)
+        ensures serves { ServesTurn (G.may_pass gate.now) result
+            (B.seat board.old) (B.seat board.new) (R.state region.old) (R.state region.new)
             (B.whole board.old) (B.whole board.new) (B.view board.old) (B.view board.new)
-            self.old self.new }
+            self.old self.new (trail_with (B.trail board.old) (B.at board.old))
+            (trail_with (B.trail board.new) (B.at board.new)) }
         ensures turned { TurnedTo result (R.state region.old) (R.state region.new)
             (G.may_refuse gate.now) (B.whole board.old) (B.seat board.old) (at_entry self.old (B.view board.old))
             (at_entry self.new (B.view board.new)) }
-        ensures memory { OnErr result (self.new.winds_down ≡ true) }
-        ensures awake { OnErr result (self.old.winds_down ≡ false) }
         ensures less { Measures result (B.whole board.old) (B.whole board.new)
             self.old self.new }
-        ensures starts { StartsFirst self.new }
         ensures idles { IfIdle result (AtRest (G.may_refuse gate.now) (B.seat board.old)
             (B.whole board.old) (B.whole board.new) (B.view board.old) (B.view board.new)
             self.old self.new) }
-        ensures works { OnOk result (self.new.winds_down ≡ self.old.winds_down) }
-        ensures steps { TurnSteps (G.may_pass gate.now) (R.state region.old) (R.state region.new)
-            (B.view board.old) (B.view board.new)
-            (trail_with (B.trail board.old) (B.at board.old))
-            (trail_with (B.trail board.new) (B.at board.new)) }
     {
         match self.find_back(board) {
             Search::Back(slot) => match self.take_back(alloc, &*region, board, slot) {
@@ -312,29 +280,20 @@ impl Worker {
         region: &R,
         board: &mut B,
     ) -> Result<(), Memory>
-        requires holds { HoldsAt (B.seat board.old) (B.view board.old) self.old }
-        requires stands { StandsAt (R.state region.now) (B.seat board.old)
+        requires tied { TiedAt (R.state region.now) (B.seat board.old)
             (B.view board.old) self.old }
-        requires order { InOrderAt (B.seat board.old) (B.view board.old) self.old }
         requires collects { (c : Collecting) × (self.old.leading ≡ leads.Collecting c) }
-        ensures seat { B.seat board.new ≡ B.seat board.old }
-        ensures keeps { KeepsTurn (B.seat board.old) (R.state region.now) (R.state region.now)
+        ensures serves { (passes : Bool) → ServesTurn passes result
+            (B.seat board.old) (B.seat board.new) (R.state region.now) (R.state region.now)
             (B.whole board.old) (B.whole board.new) (B.view board.old) (B.view board.new)
-            self.old self.new }
+            self.old self.new (trail_with (B.trail board.old) (B.at board.old))
+            (trail_with (B.trail board.new) (B.at board.new)) }
         ensures did { (refused : Bool) → Did (R.state region.now) (R.state region.now) refused
             (B.whole board.old)
             (B.seat board.old) (at_entry self.old (B.view board.old))
             (at_entry self.new (B.view board.new)) }
-        ensures memory { OnErr result (self.new.winds_down ≡ true) }
-        ensures awake { OnErr result (self.old.winds_down ≡ false) }
         ensures less { (self.old.stopped ≡ false → HasKeptRoom self.old) → StartsFirst self.old
             → Lowers (B.whole board.old) (B.whole board.new) self.old self.new }
-        ensures starts { StartsFirst self.new }
-        ensures works { OnOk result (self.new.winds_down ≡ self.old.winds_down) }
-        ensures steps { (passes : Bool) → TurnSteps passes (R.state region.now) (R.state region.now)
-            (B.view board.old) (B.view board.new)
-            (trail_with (B.trail board.old) (B.at board.old))
-            (trail_with (B.trail board.new) (B.at board.new)) }
     {
         if self.stopped {
             return self.withdraw(alloc, region, board);

@@ -16,9 +16,9 @@ doom_chunk-requires-clause-may g c =
     let s = g.R.Region.state c.args.region.now in
     let v = g.B.Board.view c.args.board.now in
     let w = c.args.self.now in
-    let H = c.requires.holds in
-    let S = c.requires.stands in
-    let O = c.requires.order in
+    let H = c.requires.tied.holds in
+    let S = c.requires.tied.stands in
+    let O = c.requires.tied.order in
     let z = c.args.victim.now in
     let y = c.in-Some.clearing in
     let is = sym c.in-Some.ensures.value in
@@ -35,55 +35,28 @@ doom_chunk-requires-clause-may g c =
 pub doom_chunk-requires-clause-places : goal.doom_chunk-requires-clause-places
 doom_chunk-requires-clause-places g c =
     let seat = g.B.Board.seat c.args.board.now in
-    doomed.places (g.R.Region.state c.args.region.now) seat.place seat.number (g.B.Board.view c.args.board.now) c.args.self.now c.requires.holds c.requires.stands c.requires.order c.args.victim.now c.requires.copied c.in-Some.clearing (sym c.in-Some.ensures.value)
+    doomed.places (g.R.Region.state c.args.region.now) seat.place seat.number (g.B.Board.view c.args.board.now) c.args.self.now c.requires.tied.holds c.requires.tied.stands c.requires.tied.order c.args.victim.now c.requires.copied c.in-Some.clearing (sym c.in-Some.ensures.value)
 
-pub returns-clause-keeps : goal.returns-clause-keeps
-returns-clause-keeps g c =
+pub returns : goal.returns
+returns g c =
     let seat = g.B.Board.seat c.args.board.now in
     let s = g.R.Region.state c.args.region.now in
     let v = g.B.Board.view c.args.board.now in
     let u = g.B.Board.view c.doom_chunk.new.board in
     let w = c.args.self.now in
     let x = record w { cleaning = Doomed c.args.victim.now.chunk; clearing = Some c.doom_chunk.new.clearing; own_gone = c.doom_chunk.new.own } in
-    let D : DoomsIn s seat.place seat.number v u w x = doomed.dooms_in s seat.place seat.number v w c.requires.holds c.requires.stands c.requires.order c.args.victim.now c.requires.copied c.in-Some.clearing (sym c.in-Some.ensures.value) u x c.doom_chunk.new.clearing refl c.doom_chunk.ensures.doomed.chunk c.doom_chunk.ensures.doomed.lone c.doom_chunk.ensures.doomed.noted c.doom_chunk.ensures.doomed.few c.doom_chunk.ensures.places c.doom_chunk.ensures.doomed.gathered c.doom_chunk.ensures.owned c.doom_chunk.ensures.doomed.view refl in
+    let D : DoomsIn s seat.place seat.number v u w x = doomed.dooms_in s seat.place seat.number v w c.requires.tied.holds c.requires.tied.stands c.requires.tied.order c.args.victim.now c.requires.copied c.in-Some.clearing (sym c.in-Some.ensures.value) u x c.doom_chunk.new.clearing refl c.doom_chunk.ensures.doomed.chunk c.doom_chunk.ensures.doomed.lone c.doom_chunk.ensures.doomed.noted c.doom_chunk.ensures.doomed.few c.doom_chunk.ensures.places c.doom_chunk.ensures.doomed.gathered c.doom_chunk.ensures.owned c.doom_chunk.ensures.doomed.view refl in
     let before = g.B.Board.whole c.args.board.now in
     let after = g.B.Board.whole c.doom_chunk.new.board in
     let kind = runs.Kind.Doom c.doom_chunk.new.clearing.doomed in
-    doomed.keeps_doomed seat s before after v u w x c.requires.holds c.requires.stands c.requires.order D (kind ∷ [], one_step before after seat.number kind u c.doom_chunk.ensures.made)
-
-pub returns-clause-did : goal.returns-clause-did
-returns-clause-did g c refused start from entry passed passes mail sending =
-    let seat = g.B.Board.seat c.args.board.now in
-    let s = g.R.Region.state c.args.region.now in
-    let v = g.B.Board.view c.args.board.now in
-    let u = g.B.Board.view c.doom_chunk.new.board in
-    let w = c.args.self.now in
-    let x = record w { cleaning = Doomed c.args.victim.now.chunk; clearing = Some c.doom_chunk.new.clearing; own_gone = c.doom_chunk.new.own } in
-    let D : DoomsIn s seat.place seat.number v u w x = doomed.dooms_in s seat.place seat.number v w c.requires.holds c.requires.stands c.requires.order c.args.victim.now c.requires.copied c.in-Some.clearing (sym c.in-Some.ensures.value) u x c.doom_chunk.new.clearing refl c.doom_chunk.ensures.doomed.chunk c.doom_chunk.ensures.doomed.lone c.doom_chunk.ensures.doomed.noted c.doom_chunk.ensures.doomed.few c.doom_chunk.ensures.places c.doom_chunk.ensures.doomed.gathered c.doom_chunk.ensures.owned c.doom_chunk.ensures.doomed.view refl in
-    dooms refl (record { mid = v; before = passes; post = passed; mail = mail; ready = w; sending = sending; dooms = D })
-
-pub returns-clause-less : goal.returns-clause-less
-returns-clause-less g c =
-    let seat = g.B.Board.seat c.args.board.now in
-    let s = g.R.Region.state c.args.region.now in
-    let v = g.B.Board.view c.args.board.now in
-    let u = g.B.Board.view c.doom_chunk.new.board in
-    let w = c.args.self.now in
-    let x = record w { cleaning = Doomed c.args.victim.now.chunk; clearing = Some c.doom_chunk.new.clearing; own_gone = c.doom_chunk.new.own } in
-    let D : DoomsIn s seat.place seat.number v u w x = doomed.dooms_in s seat.place seat.number v w c.requires.holds c.requires.stands c.requires.order c.args.victim.now c.requires.copied c.in-Some.clearing (sym c.in-Some.ensures.value) u x c.doom_chunk.new.clearing refl c.doom_chunk.ensures.doomed.chunk c.doom_chunk.ensures.doomed.lone c.doom_chunk.ensures.doomed.noted c.doom_chunk.ensures.doomed.few c.doom_chunk.ensures.places c.doom_chunk.ensures.doomed.gathered c.doom_chunk.ensures.owned c.doom_chunk.ensures.doomed.view refl in
-    doomed.doomed_lower (g.B.Board.whole c.args.board.now) (g.B.Board.whole c.doom_chunk.new.board) seat.number c.doom_chunk.new.clearing.doomed u w x c.doom_chunk.ensures.made (g.met.B.Board.lawful c.args.board.now)
-    (doomed.doomed_less s seat.place seat.number v u w x c.requires.holds c.requires.order D)
-
-pub returns-clause-starts : goal.returns-clause-starts
-returns-clause-starts g c =
-    let seat = g.B.Board.seat c.args.board.now in
-    let s = g.R.Region.state c.args.region.now in
-    let v = g.B.Board.view c.args.board.now in
-    let u = g.B.Board.view c.doom_chunk.new.board in
-    let w = c.args.self.now in
-    let x = record w { cleaning = Doomed c.args.victim.now.chunk; clearing = Some c.doom_chunk.new.clearing; own_gone = c.doom_chunk.new.own } in
-    let D : DoomsIn s seat.place seat.number v u w x = doomed.dooms_in s seat.place seat.number v w c.requires.holds c.requires.stands c.requires.order c.args.victim.now c.requires.copied c.in-Some.clearing (sym c.in-Some.ensures.value) u x c.doom_chunk.new.clearing refl c.doom_chunk.ensures.doomed.chunk c.doom_chunk.ensures.doomed.lone c.doom_chunk.ensures.doomed.noted c.doom_chunk.ensures.doomed.few c.doom_chunk.ensures.places c.doom_chunk.ensures.doomed.gathered c.doom_chunk.ensures.owned c.doom_chunk.ensures.doomed.view refl in
-    starts_nothing x D.idle
-
-pub returns-clause-steps : goal.returns-clause-steps
-returns-clause-steps g c passes = record { made = step_with (runs.Kind.Doom c.doom_chunk.new.clearing.doomed) (g.B.Board.view c.doom_chunk.new.board) ∷ []; more = c.doom_chunk.ensures.steps.0; loads = tt; ends = refl; last = record { handed = λ _. c.doom_chunk.ensures.steps.1; alone = λ _ no. absurd (cc no) }; asks = λ no. absurd (cc no) }
+    record {
+      seat = c.doom_chunk.ensures.seat;
+      keeps = doomed.keeps_doomed seat s before after v u w x c.requires.tied.holds c.requires.tied.stands c.requires.tied.order D (kind ∷ [], one_step before after seat.number kind u c.doom_chunk.ensures.made);
+      did = λ refused start from entry passed passes mail sending. dooms refl (record { mid = v; before = passes; post = passed; mail = mail; ready = w; sending = sending; dooms = D });
+      less =
+          doomed.doomed_lower (g.B.Board.whole c.args.board.now) (g.B.Board.whole c.doom_chunk.new.board) seat.number c.doom_chunk.new.clearing.doomed u w x c.doom_chunk.ensures.made (g.met.B.Board.lawful c.args.board.now)
+          (doomed.doomed_less s seat.place seat.number v u w x c.requires.tied.holds c.requires.tied.order D);
+      starts = starts_nothing x D.idle;
+      works = refl;
+      steps = λ passes. record { made = step_with (runs.Kind.Doom c.doom_chunk.new.clearing.doomed) (g.B.Board.view c.doom_chunk.new.board) ∷ []; more = c.doom_chunk.ensures.steps.0; loads = tt; ends = refl; last = record { handed = λ _. c.doom_chunk.ensures.steps.1; alone = λ _ no. absurd (cc no) }; asks = λ no. absurd (cc no) };
+    }

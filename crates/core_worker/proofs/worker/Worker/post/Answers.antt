@@ -24,7 +24,7 @@ pub returns-in-Some-clause-keeps : goal.returns-in-Some-clause-keeps
 returns-in-Some-clause-keeps g c =
     let e = c.post_block.ensures in
     keeps_posts (g.B.Board.seat c.args.board.now) (g.R.Region.state c.args.region.now) (g.R.Region.state c.post_block.new.region) (g.B.Board.whole c.args.board.now) (g.B.Board.whole c.post_block.new.board) (g.B.Board.view c.args.board.now) (g.B.Board.view c.post_block.new.board) c.args.self.now c.post_block.new.self c.args.slot
-    e.moments e.outside e.holds e.stands e.order c.requires.order e.rule e.posts e.moves
+    e.moments e.outside e.holds e.stands e.order c.requires.may.tied.order e.rule e.posts e.moves
 
 pub returns-in-None-clause-keeps : goal.returns-in-None-clause-keeps
 returns-in-None-clause-keeps g c =
@@ -41,12 +41,12 @@ returns-in-None-clause-keeps g c =
     let x = c.post_staged.new.self in
     let slot = c.args.slot in
     let bare = subst HasNoBlock c.place_in.ensures c.in-None.ensures in
-    let stands = e.stands s (would_stand s p m v w c.requires.holds slot c.requires.slot c.requires.runs (place_at w.places.items slot) refl bare c.requires.stands) in
+    let stands = e.stands s (would_stand s p m v w c.requires.may.tied.holds slot c.requires.slot c.requires.runs (place_at w.places.items slot) refl bare c.requires.may.tied.stands) in
     let F = facts_of m a b v u w w x slot refl e.posts in
     keeps_posts seat s s a b v u w x slot
-    (started s (Licensed p m v) c.requires.stands.licensed) (all_kept s (part_at p m) (part_end p m))
-    e.holds stands (posted_order p m a b v u w x slot c.requires.slot c.requires.holds e.holds c.requires.runs F) c.requires.order e.rule (inl (w, refl, e.posts))
-    (here_moves p m a b v u w x slot c.requires.slot c.requires.holds e.holds c.requires.runs F (posted_least m a b v u w w x slot e.posts (at_least_same (stock_of w))) s c.requires.stands stands)
+    (started s (Licensed p m v) c.requires.may.tied.stands.licensed) (all_kept s (part_at p m) (part_end p m))
+    e.holds stands (posted_order p m a b v u w x slot c.requires.slot c.requires.may.tied.holds e.holds c.requires.runs F) c.requires.may.tied.order e.rule (inl (w, refl, e.posts))
+    (here_moves p m a b v u w x slot c.requires.slot c.requires.may.tied.holds e.holds c.requires.runs F (posted_least m a b v u w w x slot e.posts (at_least_same (stock_of w))) s c.requires.may.tied.stands stands)
 
 pub returns-in-None-clause-posts : goal.returns-in-None-clause-posts
 returns-in-None-clause-posts g c = inl (c.args.self.now, refl, c.post_staged.ensures.posts)

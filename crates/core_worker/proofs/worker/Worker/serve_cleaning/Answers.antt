@@ -34,3 +34,15 @@ returns-in-Copying-clause-turned g c refused before v w passed tells mail sendin
 
 pub returns-in-Copying-clause-less : goal.returns-in-Copying-clause-less
 returns-in-Copying-clause-less g c offer = c.copy.ensures.less
+
+pub returns-in-Nothing-clause-serves : goal.returns-in-Nothing-clause-serves
+returns-in-Nothing-clause-serves g c passes = c.serve_begin.ensures.serves passes
+
+pub returns-then-victim-eq0-clause-serves : goal.returns-then-victim-eq0-clause-serves
+returns-then-victim-eq0-clause-serves g c passes = let e = c.doom.ensures in record { seat = e.seat; keeps = e.keeps; memory = tt; awake = tt; starts = e.starts; works = e.works; steps = e.steps passes }
+
+pub returns-in-Copying-clause-serves : goal.returns-in-Copying-clause-serves
+returns-in-Copying-clause-serves g c passes = let e = c.copy.ensures in record { seat = e.seat; keeps = e.keeps; memory = tt; awake = tt; starts = e.starts; works = e.works; steps = e.steps passes }
+
+pub returns-in-Doomed-clause-serves : goal.returns-in-Doomed-clause-serves
+returns-in-Doomed-clause-serves g c passes = let e = c.end_clean.ensures in record { seat = e.seat; keeps = e.keeps; memory = tt; awake = tt; starts = e.starts; works = e.works; steps = e.steps passes }

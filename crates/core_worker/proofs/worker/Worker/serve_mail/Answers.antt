@@ -8,16 +8,16 @@ use Rattle.core_worker.specs.declared.worker.Worker.{Worker}
 use Rattle.core_worker.specs.Left.{HasOffer, Measures}
 use Rattle.core_worker.specs.Mails.{NoneTold}
 use Rattle.core_worker.specs.Resting.{TriedIf, TriedAfter}
-use Rattle.core_worker.specs.Ties.{HoldsAt, StandsAt}
-use Rattle.core_worker.specs.Turning.{KeepsTurn, Tells, TurnedTo, at_entry}
+use Rattle.core_worker.specs.Turning.{MayServe, KeepsTurn, Tells, TurnedTo, at_entry}
 use Rattle.core_worker.specs.Turning.Did.{receives}
-use Rattle.core_worker.specs.Turns.{InOrderAt, PassesPost}
+use Rattle.core_worker.specs.Turns.{PassesPost}
 use Rattle.core_worker.proofs.HeardMoves.{keeps_heard, heard_low}
+use Rattle.core_worker.proofs.LeftFair.{starts_still}
 use Rattle.core_worker.proofs.LeftLocks.{lowers_looked}
 use Rattle.core_worker.proofs.LeftMails.{receives_lower}
 use Rattle.core_worker.proofs.MailTurns.{passes_more, both_steps, tried_at_once}
-use Rattle.core_worker.proofs.SentTurns.{if_idle_to, measures_by, tried_later}
-use Rattle.core_worker.proofs.TurnLaws.{keeps_looked, looked_holds, looked_stands, looked_order}
+use Rattle.core_worker.proofs.SentTurns.{awake_before, if_idle_to, measures_by, tried_later, works_on}
+use Rattle.core_worker.proofs.TurnLaws.{keeps_looked, looked_may}
 use Rattle.core_worker.proofs.worker.Worker.serve_mail.Goals as goal
 use Rattle.core_worker.proofs.worker.Worker.serve_mail.Goals.{then-self-via-then-self, then-self-via-else-self+then-self-2}
 
@@ -44,25 +44,31 @@ returns-then-self-clause-tries g c =
     (λ t. tried_at_once c.args.posted seat.number w0 w2 seat.place v0 v2 (g.met.B.Board.agrees c.args.board.now) t)
     c.serve_cleaning.ensures.tries
 
-pub returns-then-receive_first-clause-keeps : goal.returns-then-receive_first-clause-keeps
-returns-then-receive_first-clause-keeps g c =
+pub returns-then-receive_first-clause-serves : goal.returns-then-receive_first-clause-serves
+returns-then-receive_first-clause-serves g c passes =
     let s = g.R.Region.state c.args.region.now in
-    let S = c.requires.stands in
     let seat = g.B.Board.seat c.args.board.now in
     let w0 = g.B.Board.whole c.args.board.now in
     let w1 = g.B.Board.whole c.receive_first.new.board in
     let v0 = g.B.Board.view c.args.board.now in
     let v1 = g.B.Board.view c.receive_first.new.board in
     let old = c.args.self.now in
+    let new = c.receive_first.new.self in
     let R = c.if-receive_first.ensures.received in
     let xs = v0.looked ++ R.empty.looks in
-    keeps_looked seat s s w0 R.between w1 v0 R.mid v1 old c.receive_first.new.self xs R.empty.view (R.empty.loads, R.empty.made)
-    (keeps_heard seat s R.between w1 R.from R.mid v1 old c.receive_first.new.self
-    (looked_holds seat v0 R.mid old xs R.empty.view c.requires.nothing c.requires.holds)
-    (looked_stands s seat v0 R.mid old xs R.empty.view S)
-    (looked_order seat v0 R.mid old xs R.empty.view c.requires.order)
-    c.if-self.false c.requires.nothing
-    (both_steps R.between w1 seat.number (Kind.LookMail R.from seat.number) (Kind.Receive R.from) v1 R.made) R.hears)
+    let M = looked_may s seat v0 R.mid old xs R.empty.view c.requires.may in
+    record {
+      seat = c.receive_first.ensures.seat;
+      keeps =
+          keeps_looked seat s s w0 R.between w1 v0 R.mid v1 old new xs R.empty.view (R.empty.loads, R.empty.made)
+          (keeps_heard seat s R.between w1 R.from R.mid v1 old new M.tied.holds M.tied.stands M.tied.order c.if-self.false M.nothing
+          (both_steps R.between w1 seat.number (Kind.LookMail R.from seat.number) (Kind.Receive R.from) v1 R.made) R.hears);
+      memory = tt;
+      awake = tt;
+      starts = starts_still old new (ap (λ (y : Worker). y.leading) R.hears.same) M.nothing;
+      works = ap (λ (y : Worker). y.winds_down) R.hears.same;
+      steps = turn_of_one passes s _ _ _ _ _ _ c.if-receive_first.ensures.steps;
+    }
 
 pub returns-then-receive_first-clause-turned : goal.returns-then-receive_first-clause-turned
 returns-then-receive_first-clause-turned g c refused before v post tells =
@@ -88,45 +94,19 @@ returns-then-receive_first-clause-less g c offer =
     lowers_looked w0 R.between w1 seat.number R.empty.loads R.mid c.args.self.now c.receive_first.new.self R.empty.made
     (receives_lower R.between w1 seat.number R.from v1 c.args.self.now c.receive_first.new.self R.made (heard_low seat.place seat.number R.from R.mid v1 c.args.self.now c.receive_first.new.self R.hears))
 
-pub returns-then-receive_first-clause-steps : goal.returns-then-receive_first-clause-steps
-returns-then-receive_first-clause-steps g c passes = turn_of_one passes (g.R.Region.state c.args.region.now) _ _ _ _ _ _ c.if-receive_first.ensures.steps
-
-pub serve_sending-requires-clause-holds : goal.serve_sending-requires-clause-holds
-serve_sending-requires-clause-holds g c =
-    let seat = g.B.Board.seat c.args.board.now in
-    let v0 = g.B.Board.view c.args.board.now in
-    let v1 = g.B.Board.view c.receive_first.new.board in
-    let R = c.if-receive_first.ensures.received in
-    subst (λ (y : Worker). HoldsAt (g.B.Board.seat c.receive_first.new.board) v1 y) (sym R.0)
-    (subst (λ (x : SeatAt). HoldsAt x v1 c.args.self.now) (sym c.receive_first.ensures.seat)
-    (looked_holds seat v0 v1 c.args.self.now (v0.looked ++ R.1.looks) R.1.view c.requires.nothing c.requires.holds))
-
-pub serve_sending-requires-clause-stands : goal.serve_sending-requires-clause-stands
-serve_sending-requires-clause-stands g c =
+pub serve_sending-requires-clause-may : goal.serve_sending-requires-clause-may
+serve_sending-requires-clause-may g c =
     let seat = g.B.Board.seat c.args.board.now in
     let s = g.R.Region.state c.args.region.now in
     let v0 = g.B.Board.view c.args.board.now in
     let v1 = g.B.Board.view c.receive_first.new.board in
     let R = c.if-receive_first.ensures.received in
-    subst (λ (y : Worker). StandsAt s (g.B.Board.seat c.receive_first.new.board) v1 y) (sym R.0)
-    (subst (λ (x : SeatAt). StandsAt s x v1 c.args.self.now) (sym c.receive_first.ensures.seat)
-    (looked_stands s seat v0 v1 c.args.self.now (v0.looked ++ R.1.looks) R.1.view c.requires.stands))
+    subst (λ (y : Worker). MayServe s (g.B.Board.seat c.receive_first.new.board) v1 y) (sym R.0)
+    (subst (λ (x : SeatAt). MayServe s x v1 c.args.self.now) (sym c.receive_first.ensures.seat)
+    (looked_may s seat v0 v1 c.args.self.now (v0.looked ++ R.1.looks) R.1.view c.requires.may))
 
-pub serve_sending-requires-clause-order : goal.serve_sending-requires-clause-order
-serve_sending-requires-clause-order g c =
-    let seat = g.B.Board.seat c.args.board.now in
-    let v0 = g.B.Board.view c.args.board.now in
-    let v1 = g.B.Board.view c.receive_first.new.board in
-    let R = c.if-receive_first.ensures.received in
-    subst (λ (y : Worker). InOrderAt (g.B.Board.seat c.receive_first.new.board) v1 y) (sym R.0)
-    (subst (λ (x : SeatAt). InOrderAt x v1 c.args.self.now) (sym c.receive_first.ensures.seat)
-    (looked_order seat v0 v1 c.args.self.now (v0.looked ++ R.1.looks) R.1.view c.requires.order))
-
-pub serve_sending-requires-clause-nothing : goal.serve_sending-requires-clause-nothing
-serve_sending-requires-clause-nothing g c = (c.requires.nothing.0, ap (λ (y : Worker). y.leading) c.if-receive_first.ensures.received.0 ∙ c.requires.nothing.1)
-
-pub returns-clause-keeps : goal.returns-clause-keeps
-returns-clause-keeps g c =
+pub returns-clause-serves : goal.returns-clause-serves
+returns-clause-serves g c passes =
     let seat = g.B.Board.seat c.args.board.now in
     let s = g.R.Region.state c.args.region.now in
     let t = g.R.Region.state c.serve_sending.new.region in
@@ -137,12 +117,24 @@ returns-clause-keeps g c =
     let v1 = g.B.Board.view c.receive_first.new.board in
     let v2 = g.B.Board.view c.serve_sending.new.board in
     let old = c.args.self.now in
+    let heard = c.receive_first.new.self in
     let new = c.serve_sending.new.self in
+    let e = c.serve_sending.ensures.serves passes in
     let R = c.if-receive_first.ensures.received in
     let xs = v0.looked ++ R.1.looks in
-    keeps_looked seat s t w0 w1 w2 v0 v1 v2 old new xs R.1.view (R.1.loads, R.1.made)
-    (subst (λ (y : Worker). KeepsTurn seat s t w1 w2 v1 v2 y new) R.0
-    (subst (λ (x : SeatAt). KeepsTurn x s t w1 w2 v1 v2 c.receive_first.new.self new) c.receive_first.ensures.seat c.serve_sending.ensures.keeps))
+    let winds = ap (λ (y : Worker). y.winds_down) R.0 in
+    record {
+      seat = e.seat ∙ c.receive_first.ensures.seat;
+      keeps =
+          keeps_looked seat s t w0 w1 w2 v0 v1 v2 old new xs R.1.view (R.1.loads, R.1.made)
+          (subst (λ (y : Worker). KeepsTurn seat s t w1 w2 v1 v2 y new) R.0
+          (subst (λ (x : SeatAt). KeepsTurn x s t w1 w2 v1 v2 heard new) c.receive_first.ensures.seat e.keeps));
+      memory = e.memory;
+      awake = awake_before c.serve_sending.result heard.winds_down old.winds_down winds e.awake;
+      starts = e.starts;
+      works = works_on c.serve_sending.result new.winds_down heard.winds_down old.winds_down winds e.works;
+      steps = turn_after_loads passes s t _ v1 _ _ _ _ _ (g.B.Board.at c.receive_first.new.board) _ c.if-receive_first.ensures.steps e.steps;
+    }
 
 pub returns-clause-turned : goal.returns-clause-turned
 returns-clause-turned g c refused before v post tells =
@@ -185,6 +177,5 @@ returns-clause-tries g c =
     (λ t. tried_later c.args.posted seat.number _ w0 w1 w2 v0 v1 v2 R.1 (subst (λ (x : SeatAt). TriedAfter c.args.posted x.number w1 w2 v1 v2) c.receive_first.ensures.seat t))
     c.serve_sending.ensures.tries
 
-pub returns-clause-steps : goal.returns-clause-steps
-returns-clause-steps g c passes =
-    turn_after_loads passes (g.R.Region.state c.args.region.now) (g.R.Region.state c.serve_sending.new.region) _ (g.B.Board.view c.receive_first.new.board) _ _ _ _ _ (g.B.Board.at c.receive_first.new.board) _ c.if-receive_first.ensures.steps (c.serve_sending.ensures.steps passes)
+pub returns-then-self-clause-serves : goal.returns-then-self-clause-serves
+returns-then-self-clause-serves g c passes = c.serve_cleaning.ensures.serves passes

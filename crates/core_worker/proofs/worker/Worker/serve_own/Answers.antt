@@ -4,14 +4,13 @@ use Rattle.std.specs.Prelude.{is_ok}
 use Rattle.store_image.specs.Facts.{In}
 use Rattle.group_laws.specs.declared.types.Seen.TheVariants.{Slot}
 use Rattle.group_board.specs.Seats.{SeatAt}
-use Rattle.core_worker.specs.Ties.{HoldsAt, StandsAt}
-use Rattle.core_worker.specs.Turns.{InOrderAt}
 use Rattle.core_worker.specs.Finishing.{FinishesSlot}
-use Rattle.core_worker.specs.Turning.{KeepsTurn, TurnedTo, Tells, at_entry}
+use Rattle.core_worker.specs.Turning.{MayServe, KeepsTurn, TurnedTo, Tells, at_entry}
 use Rattle.core_worker.specs.Turning.Did.{finishes}
-use Rattle.core_worker.proofs.TurnLaws.{keeps_looked, looked_holds, looked_stands, looked_order}
+use Rattle.core_worker.proofs.TurnLaws.{keeps_looked, looked_may}
 use Rattle.core_worker.proofs.ItemLaws.{was_back, keeps_finish}
 use Rattle.core_worker.proofs.LeftTurns.{measures_looked}
+use Rattle.core_worker.proofs.LeftFair.{finishes_starts}
 use Rattle.core_worker.proofs.LeftLocks.{lowers_looked}
 use Rattle.core_worker.proofs.LeftTurns.{view_agrees}
 use Rattle.core_worker.specs.Left.{HasOffer}
@@ -23,26 +22,14 @@ use Rattle.group_laws.proofs.Clients.{In-append_right}
 use Rattle.group_laws.specs.MemberViews.{View}
 use Rattle.core_worker.proofs.worker.Worker.serve_own.Goals as goal
 
-pub take_back-requires-clause-holds : goal.take_back-requires-clause-holds
-take_back-requires-clause-holds g c =
-    let seat = g.B.Board.seat c.args.board.now in
+pub take_back-requires-clause-may : goal.take_back-requires-clause-may
+take_back-requires-clause-may g c =
+    let s = g.R.Region.state c.args.region.now in
+    let v = g.B.Board.view c.args.board.now in
+    let mid = g.B.Board.view c.find_back.new.board in
     let P = c.in-Back.ensures.finds.2 in
-    subst (λ (x : SeatAt). HoldsAt x (g.B.Board.view c.find_back.new.board) c.args.self.now) (sym c.find_back.ensures.seat)
-    (looked_holds seat (g.B.Board.view c.args.board.now) (g.B.Board.view c.find_back.new.board) c.args.self.now ((g.B.Board.view c.args.board.now).looked ++ P.looked.looks) P.looked.view c.requires.nothing c.requires.holds)
-
-pub take_back-requires-clause-stands : goal.take_back-requires-clause-stands
-take_back-requires-clause-stands g c =
-    let seat = g.B.Board.seat c.args.board.now in
-    let P = c.in-Back.ensures.finds.2 in
-    subst (λ (x : SeatAt). StandsAt (g.R.Region.state c.args.region.now) x (g.B.Board.view c.find_back.new.board) c.args.self.now) (sym c.find_back.ensures.seat)
-    (looked_stands (g.R.Region.state c.args.region.now) seat (g.B.Board.view c.args.board.now) (g.B.Board.view c.find_back.new.board) c.args.self.now ((g.B.Board.view c.args.board.now).looked ++ P.looked.looks) P.looked.view c.requires.stands)
-
-pub take_back-requires-clause-order : goal.take_back-requires-clause-order
-take_back-requires-clause-order g c =
-    let seat = g.B.Board.seat c.args.board.now in
-    let P = c.in-Back.ensures.finds.2 in
-    subst (λ (x : SeatAt). InOrderAt x (g.B.Board.view c.find_back.new.board) c.args.self.now) (sym c.find_back.ensures.seat)
-    (looked_order seat (g.B.Board.view c.args.board.now) (g.B.Board.view c.find_back.new.board) c.args.self.now ((g.B.Board.view c.args.board.now).looked ++ P.looked.looks) P.looked.view c.requires.order)
+    subst (λ (x : SeatAt). MayServe s x mid c.args.self.now) (sym c.find_back.ensures.seat)
+    (looked_may s (g.B.Board.seat c.args.board.now) v mid c.args.self.now (v.looked ++ P.looked.looks) P.looked.view c.requires.may)
 
 pub take_back-requires-clause-seen : goal.take_back-requires-clause-seen
 take_back-requires-clause-seen g c =
@@ -54,20 +41,37 @@ take_back-requires-clause-seen g c =
     (subst (λ (x : SeatAt). In (Slot x.number c.in-Back.slot f.0) (g.B.Board.view c.find_back.new.board).looked) (sym c.find_back.ensures.seat)
     (subst (λ (x : View). In (Slot seat.number c.in-Back.slot f.0) x.looked) (sym P.looked.view) (In-append_right (Slot seat.number c.in-Back.slot f.0) v.looked P.looked.looks f.2)))
 
-pub returns-in-Ok-clause-keeps : goal.returns-in-Ok-clause-keeps
-returns-in-Ok-clause-keeps g c =
+pub returns-in-Ok-clause-serves : goal.returns-in-Ok-clause-serves
+returns-in-Ok-clause-serves g c =
     let seat = g.B.Board.seat c.args.board.now in
     let here = g.B.Board.seat c.find_back.new.board in
+    let w0 = g.B.Board.whole c.args.board.now in
+    let w1 = g.B.Board.whole c.find_back.new.board in
+    let w2 = g.B.Board.whole c.take_back.new.board in
     let v = g.B.Board.view c.args.board.now in
     let mid = g.B.Board.view c.find_back.new.board in
     let u = g.B.Board.view c.take_back.new.board in
     let s = g.R.Region.state c.args.region.now in
+    let w = c.args.self.now in
+    let x = c.take_back.new.self in
     let P = c.in-Back.ensures.finds.2 in
+    let xs = v.looked ++ P.looked.looks in
     let e = c.take_back.ensures in
-    let K : KeepsTurn here s s (g.B.Board.whole c.find_back.new.board) (g.B.Board.whole c.take_back.new.board) mid u c.args.self.now c.take_back.new.self =
-    keeps_finish here s (g.B.Board.whole c.find_back.new.board) (g.B.Board.whole c.take_back.new.board) mid u c.args.self.now c.take_back.new.self c.in-Back.slot (is_ok c.take_back.result) c.in-Back.ensures.finds.0 (subst (λ (x : SeatAt). HoldsAt x mid c.args.self.now) (sym c.find_back.ensures.seat) (looked_holds seat v mid c.args.self.now (v.looked ++ P.looked.looks) P.looked.view c.requires.nothing c.requires.holds)) e.holds (subst (λ (x : SeatAt). StandsAt s x mid c.args.self.now) (sym c.find_back.ensures.seat) (looked_stands s seat v mid c.args.self.now (v.looked ++ P.looked.looks) P.looked.view c.requires.stands)) e.stands (subst (λ (x : SeatAt). InOrderAt x mid c.args.self.now) (sym c.find_back.ensures.seat) (looked_order seat v mid c.args.self.now (v.looked ++ P.looked.looks) P.looked.view c.requires.order)) e.order e.rule e.made e.cause e.finishes in
-    keeps_looked seat s s (g.B.Board.whole c.args.board.now) (g.B.Board.whole c.find_back.new.board) (g.B.Board.whole c.take_back.new.board) v mid u c.args.self.now c.take_back.new.self (v.looked ++ P.looked.looks) P.looked.view c.find_back.ensures.looks
-    (subst (λ (x : SeatAt). KeepsTurn x s s (g.B.Board.whole c.find_back.new.board) (g.B.Board.whole c.take_back.new.board) mid u c.args.self.now c.take_back.new.self) c.find_back.ensures.seat K)
+    let found = c.find_back.ensures in
+    let M = subst (λ (y : SeatAt). MayServe s y mid w) (sym found.seat) (looked_may s seat v mid w xs P.looked.view c.requires.may) in
+    let K : KeepsTurn here s s w1 w2 mid u w x =
+    keeps_finish here s w1 w2 mid u w x c.in-Back.slot (is_ok c.take_back.result) c.in-Back.ensures.finds.0 M.tied.holds e.holds M.tied.stands e.stands M.tied.order e.order e.rule e.made e.cause e.finishes in
+    record {
+      seat = e.seat ∙ found.seat;
+      keeps = keeps_looked seat s s w0 w1 w2 v mid u w x xs P.looked.view found.looks (subst (λ (y : SeatAt). KeepsTurn y s s w1 w2 mid u w x) found.seat K);
+      memory = tt;
+      awake = tt;
+      starts = finishes_starts s here.place here.number c.in-Back.slot mid u w x _ M.nothing e.finishes;
+      works = c.in-Ok.ensures.works;
+      steps =
+          turn_of_one (g.G.Gate.may_pass c.args.gate.now) s _ _ _ _ _ _
+          (loads_then _ _ _ _ _ _ found.steps (one_only _ _ _ _ (Kind.Finish c.in-Back.slot) e.step refl));
+    }
 
 pub returns-in-Ok-clause-turned : goal.returns-in-Ok-clause-turned
 returns-in-Ok-clause-turned g c =
@@ -79,20 +83,37 @@ returns-in-Ok-clause-turned g c =
       finishes = subst (λ (x : SeatAt). FinishesSlot (g.R.Region.state c.args.region.now) x.place x.number c.in-Back.slot (g.B.Board.view c.find_back.new.board) (g.B.Board.view c.take_back.new.board) c.args.self.now c.take_back.new.self (is_ok c.take_back.result)) c.find_back.ensures.seat c.take_back.ensures.finishes;
     })
 
-pub returns-in-Err-clause-keeps : goal.returns-in-Err-clause-keeps
-returns-in-Err-clause-keeps g c =
+pub returns-in-Err-clause-serves : goal.returns-in-Err-clause-serves
+returns-in-Err-clause-serves g c =
     let seat = g.B.Board.seat c.args.board.now in
     let here = g.B.Board.seat c.find_back.new.board in
+    let w0 = g.B.Board.whole c.args.board.now in
+    let w1 = g.B.Board.whole c.find_back.new.board in
+    let w2 = g.B.Board.whole c.take_back.new.board in
     let v = g.B.Board.view c.args.board.now in
     let mid = g.B.Board.view c.find_back.new.board in
     let u = g.B.Board.view c.take_back.new.board in
     let s = g.R.Region.state c.args.region.now in
+    let w = c.args.self.now in
+    let x = c.take_back.new.self in
     let P = c.in-Back.ensures.finds.2 in
+    let xs = v.looked ++ P.looked.looks in
     let e = c.take_back.ensures in
-    let K : KeepsTurn here s s (g.B.Board.whole c.find_back.new.board) (g.B.Board.whole c.take_back.new.board) mid u c.args.self.now c.take_back.new.self =
-    keeps_finish here s (g.B.Board.whole c.find_back.new.board) (g.B.Board.whole c.take_back.new.board) mid u c.args.self.now c.take_back.new.self c.in-Back.slot (is_ok c.take_back.result) c.in-Back.ensures.finds.0 (subst (λ (x : SeatAt). HoldsAt x mid c.args.self.now) (sym c.find_back.ensures.seat) (looked_holds seat v mid c.args.self.now (v.looked ++ P.looked.looks) P.looked.view c.requires.nothing c.requires.holds)) e.holds (subst (λ (x : SeatAt). StandsAt s x mid c.args.self.now) (sym c.find_back.ensures.seat) (looked_stands s seat v mid c.args.self.now (v.looked ++ P.looked.looks) P.looked.view c.requires.stands)) e.stands (subst (λ (x : SeatAt). InOrderAt x mid c.args.self.now) (sym c.find_back.ensures.seat) (looked_order seat v mid c.args.self.now (v.looked ++ P.looked.looks) P.looked.view c.requires.order)) e.order e.rule e.made e.cause e.finishes in
-    keeps_looked seat s s (g.B.Board.whole c.args.board.now) (g.B.Board.whole c.find_back.new.board) (g.B.Board.whole c.take_back.new.board) v mid u c.args.self.now c.take_back.new.self (v.looked ++ P.looked.looks) P.looked.view c.find_back.ensures.looks
-    (subst (λ (x : SeatAt). KeepsTurn x s s (g.B.Board.whole c.find_back.new.board) (g.B.Board.whole c.take_back.new.board) mid u c.args.self.now c.take_back.new.self) c.find_back.ensures.seat K)
+    let found = c.find_back.ensures in
+    let M = subst (λ (y : SeatAt). MayServe s y mid w) (sym found.seat) (looked_may s seat v mid w xs P.looked.view c.requires.may) in
+    let K : KeepsTurn here s s w1 w2 mid u w x =
+    keeps_finish here s w1 w2 mid u w x c.in-Back.slot (is_ok c.take_back.result) c.in-Back.ensures.finds.0 M.tied.holds e.holds M.tied.stands e.stands M.tied.order e.order e.rule e.made e.cause e.finishes in
+    record {
+      seat = e.seat ∙ found.seat;
+      keeps = keeps_looked seat s s w0 w1 w2 v mid u w x xs P.looked.view found.looks (subst (λ (y : SeatAt). KeepsTurn y s s w1 w2 mid u w x) found.seat K);
+      memory = c.in-Err.ensures.memory;
+      awake = c.in-Err.ensures.awake;
+      starts = finishes_starts s here.place here.number c.in-Back.slot mid u w x _ M.nothing e.finishes;
+      works = tt;
+      steps =
+          turn_of_one (g.G.Gate.may_pass c.args.gate.now) s _ _ _ _ _ _
+          (loads_then _ _ _ _ _ _ found.steps (one_only _ _ _ _ (Kind.Finish c.in-Back.slot) e.step refl));
+    }
 
 pub returns-in-Err-clause-turned : goal.returns-in-Err-clause-turned
 returns-in-Err-clause-turned g c =
@@ -104,38 +125,44 @@ returns-in-Err-clause-turned g c =
       finishes = subst (λ (x : SeatAt). FinishesSlot (g.R.Region.state c.args.region.now) x.place x.number c.in-Back.slot (g.B.Board.view c.find_back.new.board) (g.B.Board.view c.take_back.new.board) c.args.self.now c.take_back.new.self (is_ok c.take_back.result)) c.find_back.ensures.seat c.take_back.ensures.finishes;
     })
 
-pub serve_staged-requires-clause-holds : goal.serve_staged-requires-clause-holds
-serve_staged-requires-clause-holds g c =
-    let seat = g.B.Board.seat c.args.board.now in
+pub serve_staged-requires : goal.serve_staged-requires
+serve_staged-requires g c =
+    let s = g.R.Region.state c.args.region.now in
+    let v = g.B.Board.view c.args.board.now in
+    let mid = g.B.Board.view c.find_back.new.board in
     let P = c.in-Out.ensures.finds.0 in
-    subst (λ (x : SeatAt). HoldsAt x (g.B.Board.view c.find_back.new.board) c.args.self.now) (sym c.find_back.ensures.seat)
-    (looked_holds seat (g.B.Board.view c.args.board.now) (g.B.Board.view c.find_back.new.board) c.args.self.now ((g.B.Board.view c.args.board.now).looked ++ P.looked.looks) P.looked.view c.requires.nothing c.requires.holds)
+    record {
+      may = subst (λ (x : SeatAt). MayServe s x mid c.args.self.now) (sym c.find_back.ensures.seat)
+          (looked_may s (g.B.Board.seat c.args.board.now) v mid c.args.self.now (v.looked ++ P.looked.looks) P.looked.view c.requires.may);
+    }
 
-pub serve_staged-requires-clause-stands : goal.serve_staged-requires-clause-stands
-serve_staged-requires-clause-stands g c =
+pub returns-in-Out-clause-serves : goal.returns-in-Out-clause-serves
+returns-in-Out-clause-serves g c =
     let seat = g.B.Board.seat c.args.board.now in
-    let P = c.in-Out.ensures.finds.0 in
-    subst (λ (x : SeatAt). StandsAt (g.R.Region.state c.args.region.now) x (g.B.Board.view c.find_back.new.board) c.args.self.now) (sym c.find_back.ensures.seat)
-    (looked_stands (g.R.Region.state c.args.region.now) seat (g.B.Board.view c.args.board.now) (g.B.Board.view c.find_back.new.board) c.args.self.now ((g.B.Board.view c.args.board.now).looked ++ P.looked.looks) P.looked.view c.requires.stands)
-
-pub serve_staged-requires-clause-order : goal.serve_staged-requires-clause-order
-serve_staged-requires-clause-order g c =
-    let seat = g.B.Board.seat c.args.board.now in
-    let P = c.in-Out.ensures.finds.0 in
-    subst (λ (x : SeatAt). InOrderAt x (g.B.Board.view c.find_back.new.board) c.args.self.now) (sym c.find_back.ensures.seat)
-    (looked_order seat (g.B.Board.view c.args.board.now) (g.B.Board.view c.find_back.new.board) c.args.self.now ((g.B.Board.view c.args.board.now).looked ++ P.looked.looks) P.looked.view c.requires.order)
-
-pub returns-in-Out-clause-keeps : goal.returns-in-Out-clause-keeps
-returns-in-Out-clause-keeps g c =
-    let seat = g.B.Board.seat c.args.board.now in
+    let w0 = g.B.Board.whole c.args.board.now in
+    let w1 = g.B.Board.whole c.find_back.new.board in
+    let w2 = g.B.Board.whole c.serve_staged.new.board in
     let v = g.B.Board.view c.args.board.now in
     let mid = g.B.Board.view c.find_back.new.board in
     let u = g.B.Board.view c.serve_staged.new.board in
     let s = g.R.Region.state c.args.region.now in
     let t = g.R.Region.state c.serve_staged.new.region in
+    let w = c.args.self.now in
+    let x = c.serve_staged.new.self in
     let P = c.in-Out.ensures.finds.0 in
-    keeps_looked seat s t (g.B.Board.whole c.args.board.now) (g.B.Board.whole c.find_back.new.board) (g.B.Board.whole c.serve_staged.new.board) v mid u c.args.self.now c.serve_staged.new.self (v.looked ++ P.looked.looks) P.looked.view c.find_back.ensures.looks
-    (subst (λ (x : SeatAt). KeepsTurn x s t (g.B.Board.whole c.find_back.new.board) (g.B.Board.whole c.serve_staged.new.board) mid u c.args.self.now c.serve_staged.new.self) c.find_back.ensures.seat c.serve_staged.ensures.keeps)
+    let e = c.serve_staged.ensures.serves in
+    let found = c.find_back.ensures in
+    record {
+      seat = e.seat ∙ found.seat;
+      keeps =
+          keeps_looked seat s t w0 w1 w2 v mid u w x (v.looked ++ P.looked.looks) P.looked.view found.looks
+          (subst (λ (y : SeatAt). KeepsTurn y s t w1 w2 mid u w x) found.seat e.keeps);
+      memory = e.memory;
+      awake = e.awake;
+      starts = e.starts;
+      works = e.works;
+      steps = turn_after_loads (g.G.Gate.may_pass c.args.gate.now) s t _ mid _ _ _ _ _ (g.B.Board.at c.find_back.new.board) _ found.steps e.steps;
+    }
 
 pub returns-in-Out-clause-turned : goal.returns-in-Out-clause-turned
 returns-in-Out-clause-turned g c =
@@ -166,9 +193,6 @@ returns-in-Out-clause-less g c =
     (view_agrees (g.B.Board.whole c.args.board.now) (g.B.Board.seat c.args.board.now) (g.B.Board.view c.args.board.now) (g.met.B.Board.agrees c.args.board.now)) finds.0.looked finds.1
     (λ offer. c.serve_staged.ensures.less (λ yes. subst (λ (q : SeatAt). HasOffer mid q.number) (sym c.find_back.ensures.seat) (offer yes)))
 
-pub returns-in-Out-clause-starts : goal.returns-in-Out-clause-starts
-returns-in-Out-clause-starts g c = c.serve_staged.ensures.starts
-
 pub returns-in-Out-clause-idles : goal.returns-in-Out-clause-idles
 returns-in-Out-clause-idles g c =
     let here = g.B.Board.seat c.args.board.now in
@@ -178,23 +202,8 @@ returns-in-Out-clause-idles g c =
     let v = g.B.Board.view c.args.board.now in
     let u = g.B.Board.view c.serve_staged.new.board in
     let finds = c.in-Out.ensures.finds in
-    let K = returns-in-Out-clause-keeps g c in
+    let K = (returns-in-Out-clause-serves g c).keeps in
     rests_by c.serve_staged.result (g.R.Region.state c.args.region.now) (g.R.Region.state c.serve_staged.new.region) (g.G.Gate.may_refuse c.args.gate.now) here (record { worker = c.args.self.now; view = v }) (record { worker = c.serve_staged.new.self; view = u }) (g.B.Board.view c.find_back.new.board) finds.0 c.in-Out.posted finds.1 w0 w1 w2 c.find_back.ensures.looks
     (subst (λ (q : SeatAt). IfIdle c.serve_staged.result (TriedAfter c.in-Out.posted q.number w1 w2 (g.B.Board.view c.find_back.new.board) u)) c.find_back.ensures.seat c.serve_staged.ensures.tries)
     (returns-in-Out-clause-turned g c) K.holds K.order.hand (g.met.B.Board.agrees c.args.board.now)
-    (subst (λ (q : SeatAt). Agrees q.place q.number u w2) (c.serve_staged.ensures.seat ∙ c.find_back.ensures.seat) (g.met.B.Board.agrees c.serve_staged.new.board)) (g.met.B.Board.lawful c.serve_staged.new.board)
-
-pub returns-in-Ok-clause-steps : goal.returns-in-Ok-clause-steps
-returns-in-Ok-clause-steps g c =
-    turn_of_one (g.G.Gate.may_pass c.args.gate.now) (g.R.Region.state c.args.region.now) _ _ _ _ _ _
-    (loads_then _ _ _ _ _ _ c.find_back.ensures.steps (one_only _ _ _ _ (Kind.Finish c.in-Back.slot) c.take_back.ensures.step refl))
-
-pub returns-in-Err-clause-steps : goal.returns-in-Err-clause-steps
-returns-in-Err-clause-steps g c =
-    turn_of_one (g.G.Gate.may_pass c.args.gate.now) (g.R.Region.state c.args.region.now) _ _ _ _ _ _
-    (loads_then _ _ _ _ _ _ c.find_back.ensures.steps (one_only _ _ _ _ (Kind.Finish c.in-Back.slot) c.take_back.ensures.step refl))
-
-pub returns-in-Out-clause-steps : goal.returns-in-Out-clause-steps
-returns-in-Out-clause-steps g c =
-    turn_after_loads (g.G.Gate.may_pass c.args.gate.now) (g.R.Region.state c.args.region.now) (g.R.Region.state c.serve_staged.new.region) _ (g.B.Board.view c.find_back.new.board) _ _ _ _ _ (g.B.Board.at c.find_back.new.board) _
-    c.find_back.ensures.steps c.serve_staged.ensures.steps
+    (subst (λ (q : SeatAt). Agrees q.place q.number u w2) (c.serve_staged.ensures.serves.seat ∙ c.find_back.ensures.seat) (g.met.B.Board.agrees c.serve_staged.new.board)) (g.met.B.Board.lawful c.serve_staged.new.board)

@@ -13,7 +13,7 @@ serve-requires-clause-tied g c =
     let m = (g.B.Board.seat c.args.board.now).number in
     let v = g.B.Board.view c.args.board.now in
     let u = g.B.Board.view c.take_out-key.new.board in
-    (record { place = p; number = m; view = u }, to_serve s p m c.args.slot c.take_out-key.result v u c.args.self.now c.take_out-key.new.self c.take_out-key.new.self c.requires.stands c.take_out-key.ensures.freed)
+    (record { place = p; number = m; view = u }, to_serve s p m c.args.slot c.take_out-key.result v u c.args.self.now c.take_out-key.new.self c.take_out-key.new.self c.requires.may.tied.stands c.take_out-key.ensures.freed)
 
 pub returns-clause-holds : goal.returns-clause-holds
 returns-clause-holds g c =
@@ -22,7 +22,7 @@ returns-clause-holds g c =
     let m = (g.B.Board.seat c.args.board.now).number in
     let v = g.B.Board.view c.args.board.now in
     let u = g.B.Board.view c.take_out-key.new.board in
-    (c.serve.ensures.ties s (record { place = p; number = m; view = u }) (to_serve s p m c.args.slot c.take_out-key.result v u c.args.self.now c.take_out-key.new.self c.take_out-key.new.self c.requires.stands c.take_out-key.ensures.freed)).holds
+    (c.serve.ensures.ties s (record { place = p; number = m; view = u }) (to_serve s p m c.args.slot c.take_out-key.result v u c.args.self.now c.take_out-key.new.self c.take_out-key.new.self c.requires.may.tied.stands c.take_out-key.ensures.freed)).holds
 
 pub returns-clause-stands : goal.returns-clause-stands
 returns-clause-stands g c =
@@ -31,7 +31,7 @@ returns-clause-stands g c =
     let m = (g.B.Board.seat c.args.board.now).number in
     let v = g.B.Board.view c.args.board.now in
     let u = g.B.Board.view c.take_out-key.new.board in
-    (c.serve.ensures.ties s (record { place = p; number = m; view = u }) (to_serve s p m c.args.slot c.take_out-key.result v u c.args.self.now c.take_out-key.new.self c.take_out-key.new.self c.requires.stands c.take_out-key.ensures.freed)).stands
+    (c.serve.ensures.ties s (record { place = p; number = m; view = u }) (to_serve s p m c.args.slot c.take_out-key.result v u c.args.self.now c.take_out-key.new.self c.take_out-key.new.self c.requires.may.tied.stands c.take_out-key.ensures.freed)).stands
 
 pub returns-clause-order : goal.returns-clause-order
 returns-clause-order g c =
@@ -40,7 +40,7 @@ returns-clause-order g c =
     let m = (g.B.Board.seat c.args.board.now).number in
     let v = g.B.Board.view c.args.board.now in
     let u = g.B.Board.view c.take_out-key.new.board in
-    (c.serve.ensures.ties s (record { place = p; number = m; view = u }) (to_serve s p m c.args.slot c.take_out-key.result v u c.args.self.now c.take_out-key.new.self c.take_out-key.new.self c.requires.stands c.take_out-key.ensures.freed)).order
+    (c.serve.ensures.ties s (record { place = p; number = m; view = u }) (to_serve s p m c.args.slot c.take_out-key.result v u c.args.self.now c.take_out-key.new.self c.take_out-key.new.self c.requires.may.tied.stands c.take_out-key.ensures.freed)).order
 
 pub returns-clause-rule : goal.returns-clause-rule
 returns-clause-rule g c h = c.serve.ensures.rule (c.take_out-key.ensures.freed.rule h)
@@ -55,7 +55,7 @@ returns-clause-finishes g c =
     let m = (g.B.Board.seat c.args.board.now).number in
     let v = g.B.Board.view c.args.board.now in
     let u = g.B.Board.view c.take_out-key.new.board in
-    finishes_slot s p m c.args.slot c.take_out-key.result v u c.args.self.now c.take_out-key.new.self c.serve.new.self c.requires.stands c.take_out-key.ensures.freed c.serve.result c.take_out-key.ensures.takes c.serve.ensures.rest c.serve.ensures.begins c.serve.ensures.short
+    finishes_slot s p m c.args.slot c.take_out-key.result v u c.args.self.now c.take_out-key.new.self c.serve.new.self c.requires.may.tied.stands c.take_out-key.ensures.freed c.serve.result c.take_out-key.ensures.takes c.serve.ensures.rest c.serve.ensures.begins c.serve.ensures.short
 
 pub returns-clause-less : goal.returns-clause-less
 returns-clause-less g c =
@@ -63,6 +63,6 @@ returns-clause-less g c =
     let v = g.B.Board.view c.args.board.now in
     let u = g.B.Board.view c.take_out-key.new.board in
     finishes_lower (g.B.Board.whole c.args.board.now) (g.B.Board.whole c.take_out-key.new.board) here.number c.args.slot u c.args.self.now c.serve.new.self c.take_out-key.ensures.made (g.met.B.Board.lawful c.args.board.now)
-    (let one = takes_back_low here.place here.number c.args.slot v u c.args.self.now c.take_out-key.new.self (let lt = c.requires.slot in let eight = c.requires.holds.eight in omega (arith, lt, eight)) c.take_out-key.ensures.takes.0 in
+    (let one = takes_back_low here.place here.number c.args.slot v u c.args.self.now c.take_out-key.new.self (let lt = c.requires.slot in let eight = c.requires.may.tied.holds.eight in omega (arith, lt, eight)) c.take_out-key.ensures.takes.0 in
     let two = c.serve.ensures.less in
     omega (arith, one, two))

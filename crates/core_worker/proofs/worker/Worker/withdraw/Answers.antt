@@ -6,7 +6,7 @@ use Rattle.core_worker.specs.Supplies.{HasKeptRoom}
 use Rattle.core_worker.proofs.worker.Worker.withdraw.Goals as goal
 
 pub returns-in-None-clause-stands : goal.returns-in-None-clause-stands
-returns-in-None-clause-stands g c = c.in-None.ensures.retracts.stands (g.R.Region.state c.args.region.now) c.requires.stands
+returns-in-None-clause-stands g c = c.in-None.ensures.retracts.stands (g.R.Region.state c.args.region.now) c.requires.tied.stands
 
 pub returns-in-None-clause-rule : goal.returns-in-None-clause-rule
 returns-in-None-clause-rule g c h = subst HasKeptRoom (sym c.in-None.ensures.retracts.same) h
@@ -21,7 +21,7 @@ put_by-requires-clause-busy g c =
     let w = c.args.self.now in
     let mid = c.retract.new.self in
     let s = g.R.Region.state c.args.region.now in
-    retracted_busy here w0 w1 v u w mid c.in-Some.change c.requires.holds c.requires.order c.requires.stopped c.requires.collects c.in-Some.ensures.retracts
+    retracted_busy here w0 w1 v u w mid c.in-Some.change c.requires.tied.holds c.requires.tied.order c.requires.stopped c.requires.collects c.in-Some.ensures.retracts
 
 pub put_by-requires-clause-room : goal.put_by-requires-clause-room
 put_by-requires-clause-room g c =
@@ -33,7 +33,7 @@ put_by-requires-clause-room g c =
     let w = c.args.self.now in
     let mid = c.retract.new.self in
     let s = g.R.Region.state c.args.region.now in
-    retracted_room here w0 w1 v u w mid c.in-Some.change c.requires.holds c.requires.order c.requires.stopped c.requires.collects c.in-Some.ensures.retracts
+    retracted_room here w0 w1 v u w mid c.in-Some.change c.requires.tied.holds c.requires.tied.order c.requires.stopped c.requires.collects c.in-Some.ensures.retracts
 
 pub put_by-requires-clause-used : goal.put_by-requires-clause-used
 put_by-requires-clause-used g c =
@@ -45,7 +45,7 @@ put_by-requires-clause-used g c =
     let w = c.args.self.now in
     let mid = c.retract.new.self in
     let s = g.R.Region.state c.args.region.now in
-    retracted_used here w0 w1 v u w mid c.in-Some.change c.requires.holds c.requires.order c.requires.stopped c.requires.collects c.in-Some.ensures.retracts
+    retracted_used here w0 w1 v u w mid c.in-Some.change c.requires.tied.holds c.requires.tied.order c.requires.stopped c.requires.collects c.in-Some.ensures.retracts
 
 pub serve-requires-clause-tied : goal.serve-requires-clause-tied
 serve-requires-clause-tied g c =
@@ -57,7 +57,7 @@ serve-requires-clause-tied g c =
     let w = c.args.self.now in
     let mid = c.retract.new.self in
     let s = g.R.Region.state c.args.region.now in
-    (record { place = here.place; number = here.number; view = u }, retracted_serves here w0 w1 v u w mid c.in-Some.change c.requires.holds c.requires.order c.requires.stopped c.requires.collects c.in-Some.ensures.retracts s c.requires.stands c.put_by.new.self c.put_by.ensures)
+    (record { place = here.place; number = here.number; view = u }, retracted_serves here w0 w1 v u w mid c.in-Some.change c.requires.tied.holds c.requires.tied.order c.requires.stopped c.requires.collects c.in-Some.ensures.retracts s c.requires.tied.stands c.put_by.new.self c.put_by.ensures)
 
 pub serve-requires-clause-ready : goal.serve-requires-clause-ready
 serve-requires-clause-ready g c =
@@ -69,7 +69,7 @@ serve-requires-clause-ready g c =
     let w = c.args.self.now in
     let mid = c.retract.new.self in
     let s = g.R.Region.state c.args.region.now in
-    (retracted_freed here w0 w1 v u w mid c.in-Some.change c.requires.holds c.requires.order c.requires.stopped c.requires.collects c.in-Some.ensures.retracts c.put_by.new.self c.put_by.ensures).ready
+    (retracted_freed here w0 w1 v u w mid c.in-Some.change c.requires.tied.holds c.requires.tied.order c.requires.stopped c.requires.collects c.in-Some.ensures.retracts c.put_by.new.self c.put_by.ensures).ready
 
 pub returns-in-Some-clause-holds : goal.returns-in-Some-clause-holds
 returns-in-Some-clause-holds g c =
@@ -81,7 +81,7 @@ returns-in-Some-clause-holds g c =
     let w = c.args.self.now in
     let mid = c.retract.new.self in
     let s = g.R.Region.state c.args.region.now in
-    (c.serve.ensures.ties s (record { place = here.place; number = here.number; view = u }) (retracted_serves here w0 w1 v u w mid c.in-Some.change c.requires.holds c.requires.order c.requires.stopped c.requires.collects c.in-Some.ensures.retracts s c.requires.stands c.put_by.new.self c.put_by.ensures)).holds
+    (c.serve.ensures.ties s (record { place = here.place; number = here.number; view = u }) (retracted_serves here w0 w1 v u w mid c.in-Some.change c.requires.tied.holds c.requires.tied.order c.requires.stopped c.requires.collects c.in-Some.ensures.retracts s c.requires.tied.stands c.put_by.new.self c.put_by.ensures)).holds
 
 pub returns-in-Some-clause-stands : goal.returns-in-Some-clause-stands
 returns-in-Some-clause-stands g c =
@@ -93,7 +93,7 @@ returns-in-Some-clause-stands g c =
     let w = c.args.self.now in
     let mid = c.retract.new.self in
     let s = g.R.Region.state c.args.region.now in
-    (c.serve.ensures.ties s (record { place = here.place; number = here.number; view = u }) (retracted_serves here w0 w1 v u w mid c.in-Some.change c.requires.holds c.requires.order c.requires.stopped c.requires.collects c.in-Some.ensures.retracts s c.requires.stands c.put_by.new.self c.put_by.ensures)).stands
+    (c.serve.ensures.ties s (record { place = here.place; number = here.number; view = u }) (retracted_serves here w0 w1 v u w mid c.in-Some.change c.requires.tied.holds c.requires.tied.order c.requires.stopped c.requires.collects c.in-Some.ensures.retracts s c.requires.tied.stands c.put_by.new.self c.put_by.ensures)).stands
 
 pub returns-in-Some-clause-order : goal.returns-in-Some-clause-order
 returns-in-Some-clause-order g c =
@@ -105,7 +105,7 @@ returns-in-Some-clause-order g c =
     let w = c.args.self.now in
     let mid = c.retract.new.self in
     let s = g.R.Region.state c.args.region.now in
-    (c.serve.ensures.ties s (record { place = here.place; number = here.number; view = u }) (retracted_serves here w0 w1 v u w mid c.in-Some.change c.requires.holds c.requires.order c.requires.stopped c.requires.collects c.in-Some.ensures.retracts s c.requires.stands c.put_by.new.self c.put_by.ensures)).order
+    (c.serve.ensures.ties s (record { place = here.place; number = here.number; view = u }) (retracted_serves here w0 w1 v u w mid c.in-Some.change c.requires.tied.holds c.requires.tied.order c.requires.stopped c.requires.collects c.in-Some.ensures.retracts s c.requires.tied.stands c.put_by.new.self c.put_by.ensures)).order
 
 pub returns-in-Some-clause-rule : goal.returns-in-Some-clause-rule
 returns-in-Some-clause-rule g c h =
@@ -117,7 +117,7 @@ returns-in-Some-clause-rule g c h =
     let w = c.args.self.now in
     let mid = c.retract.new.self in
     let s = g.R.Region.state c.args.region.now in
-    c.serve.ensures.rule ((retracted_freed here w0 w1 v u w mid c.in-Some.change c.requires.holds c.requires.order c.requires.stopped c.requires.collects c.in-Some.ensures.retracts c.put_by.new.self c.put_by.ensures).rule h)
+    c.serve.ensures.rule ((retracted_freed here w0 w1 v u w mid c.in-Some.change c.requires.tied.holds c.requires.tied.order c.requires.stopped c.requires.collects c.in-Some.ensures.retracts c.put_by.new.self c.put_by.ensures).rule h)
 
 pub returns-in-Some-clause-withdraws : goal.returns-in-Some-clause-withdraws
 returns-in-Some-clause-withdraws g c =
@@ -129,7 +129,7 @@ returns-in-Some-clause-withdraws g c =
     let w = c.args.self.now in
     let mid = c.retract.new.self in
     let s = g.R.Region.state c.args.region.now in
-    withdraws_slot here w0 w1 v u w mid c.in-Some.change c.requires.holds c.requires.order c.requires.stopped c.requires.collects c.in-Some.ensures.retracts s c.requires.stands c.put_by.new.self c.put_by.ensures c.serve.result c.serve.new.self c.serve.ensures.rest c.serve.ensures.begins c.serve.ensures.short
+    withdraws_slot here w0 w1 v u w mid c.in-Some.change c.requires.tied.holds c.requires.tied.order c.requires.stopped c.requires.collects c.in-Some.ensures.retracts s c.requires.tied.stands c.put_by.new.self c.put_by.ensures c.serve.result c.serve.new.self c.serve.ensures.rest c.serve.ensures.begins c.serve.ensures.short
 
 pub returns-in-Some-clause-made : goal.returns-in-Some-clause-made
 returns-in-Some-clause-made g c =
@@ -141,7 +141,7 @@ returns-in-Some-clause-made g c =
     let w = c.args.self.now in
     let mid = c.retract.new.self in
     let s = g.R.Region.state c.args.region.now in
-    retracted_made here w0 w1 v u w mid c.in-Some.change c.requires.holds c.requires.order c.requires.stopped c.requires.collects c.in-Some.ensures.retracts
+    retracted_made here w0 w1 v u w mid c.in-Some.change c.requires.tied.holds c.requires.tied.order c.requires.stopped c.requires.collects c.in-Some.ensures.retracts
 
 pub returns-in-Some-clause-less : goal.returns-in-Some-clause-less
 returns-in-Some-clause-less g c =
