@@ -4,3 +4,4 @@ pub use Rattle.engine_core.proofs.Opens.{are_seated, begins, layout_is, origin_a
 pub use Rattle.engine_core.proofs.Outcomes.{reports_by, reports_on}
 pub use Rattle.engine_core.proofs.Ranged.{found_agrees, words_in}
 pub use Rattle.engine_core.proofs.Reporting.{blank_report}
+pub use Rattle.engine_core.proofs.Stepping.{turned_as}

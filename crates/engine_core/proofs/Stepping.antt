@@ -11,7 +11,9 @@ use Rattle.engine_laws.specs.WorkerMoves.{Hands}
 use Rattle.core_worker.specs.declared.types.Answer.{Answer}
 use Rattle.core_worker.specs.declared.types.Turn.{Turn}
 use Rattle.core_worker.specs.declared.types.Turn.TheVariants.{Moved}
+use Rattle.std.specs.Borrow.{MutBor}
 use Rattle.engine_core.specs.Calls.{AreOwn, AcceptsForAny, BeginsByEachView, Turns, Steps, TakesTurn, Does, has_moved, is_idle, is_open, next_of}
+use Rattle.engine_core.specs.CoreSteps.{TurnCall, GivesTurn}
 
 module _ {W : Type 0} (hands : View → W → Hands) (answers : W → List Answer) (stands : Place → ℕ → State → View → W → Type 0) (fair : Group → ℕ → W → Type 0) (room leads : W → Bool) (p : Place) (m : ℕ) where
   of_turn : (s t : State) (a b : Group) (v u : View) (w x : W) (queue : List (ℕ × Request)) (idle down : Bool) → (is_open room leads w ≡ true → queue ≡ [])
@@ -49,7 +51,7 @@ module _ {W : Type 0} (hands : View → W → Hands) (answers : W → List Answe
   }
 
   -- what a step says, by its outcome
-  abbrev Stepped : State → State → Group → Group → View → View → W → W → List (ℕ × Request) → List (ℕ × Request) → Bool → Result Turn Memory → Type 0
+  abbrev pub Stepped : State → State → Group → Group → View → View → W → W → List (ℕ × Request) → List (ℕ × Request) → Bool → Result Turn Memory → Type 0
   Stepped s t a b v u w x queue now down r =
       (accepted : List (ℕ × Request)) × (rest : List (ℕ × Request)) × Steps hands answers stands fair p m s t a b v u w x queue accepted rest (is_idle r) down
       × (now ≡ rest) × OnOk r (accepted ≡ next_of (is_open room leads w) queue)
@@ -108,3 +110,12 @@ module _ {W : Type 0} (stands : Place → ℕ → State → View → W → Type 
     group = refl;
   })
   did_take s a w x open_now queue popped y (Err e) split ready tied own on begun = tt
+
+-- What each call says at the values behind its borrows, a turn that was made says of these.
+pub turned_as : {F W B R : Type 0} {call : TurnCall F W B R} {f : F} {w : W} {b : B} {r : R} {result : Result Turn Memory} {x : W} {c : B} {t : R} → GivesTurn call f w b r result x c t → (P : W → B → R → W → B → R → Type 0)
+    → ((i : MutBor W) (j : MutBor B) (k : MutBor R) (l : MutBor W) (m : MutBor B) (n : MutBor R) → call.post f (i, (j, (k, tt))) (result, (l, (m, (n, tt)))) → P i.now j.now k.now l.now m.now n.now) → P w b r x c t
+turned_as {W = W} {B = B} {R = R} {w = w} {b = b} {r = r} {x = x} {c = c} {t = t} T P says =
+    subst (λ (i : W). P i b r x c t) T.from.0 (subst (λ (j : B). P T.worker.now j r x c t) T.from.1 (subst (λ (k : R). P T.worker.now T.board.now k x c t) T.from.2
+    (subst (λ (l : W). P T.worker.now T.board.now T.region.now l c t) T.to.0 (subst (λ (m : B). P T.worker.now T.board.now T.region.now T.worker_left.now m t) T.to.1
+    (subst (λ (n : R). P T.worker.now T.board.now T.region.now T.worker_left.now T.board_left.now n) T.to.2
+    (says T.worker T.board T.region T.worker_left T.board_left T.region_left T.made))))))

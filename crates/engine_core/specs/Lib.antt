@@ -1,5 +1,6 @@
 pub mod Answers
 pub mod Calls
+pub mod CoreSteps
 pub mod Seated
 pub mod Working
 pub mod Reports

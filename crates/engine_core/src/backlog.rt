@@ -37,7 +37,7 @@ fn takes<W: CoreWorker>(worker: &W) -> bool
 
 /// Takes the first request out of a backlog, where its worker leads nothing and has room. With none its core's next
 /// move is a turn.
-pub fn next_for<W: CoreWorker>(
+pub(crate) fn next_for<W: CoreWorker>(
     worker: &W,
     backlog: &mut VecDeque<(u64, Request)>,
 ) -> Option<(u64, Request)>
@@ -56,7 +56,7 @@ pub fn next_for<W: CoreWorker>(
 
 /// Hands a worker a request. Where there is no memory for it, the request goes back to the front of the backlog that it
 /// came from.
-pub fn hand_to<W: CoreWorker, R: Region>(
+pub(crate) fn hand_to<W: CoreWorker, R: Region>(
     worker: &mut W,
     backlog: &mut VecDeque<(u64, Request)>,
     alloc: Global,

@@ -1,4 +1,4 @@
-// One step of a core of a replay: its worker is handed a request, or makes a turn; and its answers are taken.
+// A step of a core of a replay, which tells its group's state, and how the answers of its worker are taken.
 ghost use Rattle.std.specs.Prelude.{◌≡◌, ℕ, ◌+◌, ◌*◌, ◌<◌, ◌≤◌, List, [], length, false, Some, IfOk, OnOk, OnErr};
 ghost use Rattle.fs_model.specs.declared.model.Request as requests;
 ghost use Rattle.pm_region.specs.State.{State};
@@ -10,7 +10,7 @@ ghost use Rattle.core_worker.specs.declared.types.Turn.TheVariants.{Moved, Idle}
 ghost use Rattle.engine_core.specs.Answers.{HavePlaces, stored};
 ghost use Rattle.engine_core.specs.Calls.{AreOwn, Turns, Steps, TakesTurn, Does, has_moved, is_idle, is_open, next_of};
 
-use crate::backlog::{hand_to, next_for};
+use crate::core_step::step_core;
 use crate::types::Stamped;
 use crate::worker_calls::CoreWorker;
 use core_worker::Turn;
@@ -54,8 +54,7 @@ fn turn_at<W: CoreWorker, R: Region>(
     worker.turn(alloc, region, &mut seat)
 }
 
-/// Hands a worker the first request of its backlog, where it leads nothing and has room, and else gives it a turn. Where
-/// there is no memory for a request, it stays at the front of the backlog.
+/// A step of a core at the board of a replay.
 pub fn step<W: CoreWorker, R: Region>(
     worker: &mut W,
     board: &mut LocalBoard,
@@ -95,10 +94,14 @@ pub fn step<W: CoreWorker, R: Region>(
         ≤ W.left worker.old + W.under_way (state board.old.keeper.me.0)
         + (W.most + 1) * length backlog.old.items) }
 {
-    match next_for(worker, backlog) {
-        Some((number, request)) => hand_to(worker, backlog, alloc, region, number, request),
-        None => turn_at(worker, board, alloc, region, member),
-    }
+    step_core(
+        worker,
+        board,
+        region,
+        backlog,
+        alloc,
+        |worker, board, region| { turn_at(worker, board, alloc, region, member) },
+    )
 }
 
 /// Takes the answers that a worker fixed, and keeps each by the number of its request, with this stamp.

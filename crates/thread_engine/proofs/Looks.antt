@@ -1,5 +1,5 @@
 -- A region that was asked whether it is in its place says what it said before, but for its counts.
-use Rattle.std.proofs.Common.{◌≡◌, ℕ, ◌<◌, ◌^◌, Result, Ok, Err, refl, ap, subst, sym, arith}
+use Rattle.std.proofs.Common.{◌≡◌, ◌<◌, ◌^◌, Result, Ok, Err, refl, ap, subst, sym, arith}
 use Rattle.std.specs.Result.{IsErrAnd}
 use Rattle.pm_region.specs.State.{State, counted}
 use Rattle.pm_region.specs.Split.{Stays, Refuses, IsRevalidated, IsOutOfPlace}

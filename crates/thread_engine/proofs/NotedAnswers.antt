@@ -1,8 +1,7 @@
 -- The notes of a run's answers, an answer more and many more.
-use Rattle.std.proofs.Common.{◌≡◌, ℕ, zero, suc, ◌+◌, ◌≤◌, List, [], ◌∷◌, ◌++◌, length, map, Bool, Option, Some, None, refl, sym, ◌∙◌, ap, arith, append_assoc, append-nil}
+use Rattle.std.proofs.Common.{◌≡◌, ℕ, zero, suc, ◌+◌, ◌≤◌, List, [], ◌∷◌, ◌++◌, length, map, Option, Some, None, refl, sym, ◌∙◌, ap, arith, append_assoc, append-nil}
 use Rattle.std.proofs.lemmas.List.{map-append}
 use Rattle.engine_core.specs.declared.types.Stamped.{Stamped}
-use Rattle.engine_core.specs.declared.run_report.Refusal.{Refusal}
 use Rattle.engine_core.specs.Reports.{refusal_in, refusals_in}
 use Rattle.thread_engine.specs.Collected.{with_stamp, restamped, blanks}
 use Rattle.thread_engine.specs.Noted.{IsNoted, HasNoteRoom, NotesOne, is_finished}

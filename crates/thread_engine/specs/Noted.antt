@@ -1,5 +1,5 @@
 -- What is noted of the answers of a run, by number.
-use Rattle.std.specs.Prelude.{◌≡◌, ℕ, ◌+◌, ◌≤◌, List, [], ◌∷◌, ◌++◌, length, map, Bool, true, false, Option, Some, None, vec_len, vec_capacity}
+use Rattle.std.specs.Prelude.{◌≡◌, ℕ, ◌+◌, ◌≤◌, List, [], ◌∷◌, ◌++◌, length, map, Bool, false, Option, Some, None, vec_len, vec_capacity}
 use Rattle.fs_model.specs.Lawful.{is_finish}
 use Rattle.core_room.specs.declared.types.Shortage.{Shortage}
 use Rattle.engine_core.specs.declared.types.Stamped.{Stamped}

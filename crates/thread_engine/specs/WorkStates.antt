@@ -16,7 +16,10 @@ use Rattle.core_worker.specs.declared.worker.Worker.{Worker}
 use Rattle.core_worker.specs.Beginning.{answers_of}
 use Rattle.core_worker.specs.PostedPlaces.{any_posted}
 use Rattle.core_worker.specs.Status.{is_leading, is_pending}
+use Rattle.core_worker.specs.Supplies.{HasKeptRoom}
+use Rattle.core_worker.specs.Ties.{HoldsAt, StandsAt}
 use Rattle.core_worker.specs.Turning.{TurnMoves, TurnedTo, at_entry}
+use Rattle.core_worker.specs.Turns.{InOrderAt}
 use Rattle.core_worker.specs.WorkerMoves.{hands_of}
 use Rattle.engine_core.specs.Calls.{AreOwn, AcceptsAs, is_open}
 use Rattle.engine_core.specs.Working.{IsMember, may_take, leads, BeginsRequest}
@@ -92,6 +95,17 @@ pub record MakesTurn (seat : SeatAt) (refused : Bool) (a b : WorkState) : Type 0
   -- its steps: loads, and then at most one other, which stood behind the calls of the region
   pub passes : Bool
   pub steps : TurnSteps passes a.region b.region a.view b.view a.trail b.trail
+
+-- What a turn of the worker leaves, by its seat, its piece of the region and its gate.
+pub record LeavesTurn (seat : SeatAt) (passes refused : Bool) (result : Result Turn Memory)
+    (s t : State) (before after : Option Group) (v u : View) (i j : Trail) (w x : Worker) : Type 0 where
+  pub holds : HoldsAt seat u x
+  pub stands : StandsAt t seat u x
+  pub order : InOrderAt seat u x
+  pub rule : x.stopped ≡ false → HasKeptRoom w → HasKeptRoom x
+  pub moves : TurnMoves seat s t before after v u w x
+  pub turned : TurnedTo result s t refused before seat (at_entry w v) (at_entry x u)
+  pub steps : TurnSteps passes s t v u i j
 
 -- it is told to wind down
 abbrev pub wound_down : WorkState → WorkState

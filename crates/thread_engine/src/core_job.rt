@@ -6,7 +6,9 @@ ghost use Rattle.group_laws.specs.Places.{owner};
 ghost use Rattle.thread_engine.specs.declared.core_job.CoreJob as data_of;
 ghost use Rattle.answer_cores.specs.Handing.{HandsOver};
 ghost use Rattle.thread_engine.specs.WindowJobs.{IsReady, MayHandOver, HandedOver, WorksWindow};
-ghost use Rattle.thread_engine.specs.WorkStates.{IsAtWork, TakesNext, MakesTurn, OwnMove, WorksOn, GoesOn, HasEnded, takes, sight_by, stands_at, with_next};
+ghost use Rattle.batch_leader.specs.TurnSteps.{trail_with};
+ghost use Rattle.engine_core.specs.Working.{IsMember};
+ghost use Rattle.thread_engine.specs.WorkStates.{IsAtWork, LeavesTurn, OwnMove, WorksOn, GoesOn, HasEnded, sight_by, stands_at};
 
 use crate::core_side::CoreSide;
 use crate::group_leads::AllLeads;
@@ -14,7 +16,7 @@ use crate::work_rules;
 use answer_cores::hand_over;
 use answer_queue::{AnswerPass, AnswerQueue};
 use core_worker::{Gate, Turn, Worker};
-use engine_core::backlog::{hand_to, next_for};
+use engine_core::core_step::step_core;
 use fs_model::{Memory, Request};
 use group_board::Board;
 use pm_region::Region;
@@ -42,50 +44,6 @@ pub struct CoreJob<B, P> {
 }
 
 impl<B: Board, P: Region> CoreJob<B, P> {
-    // Hands the worker a request. Where there is no memory for it, the request goes back to the front of the queue.
-    fn accept(&mut self, alloc: Global, number: u64, request: Request) -> Result<Turn, Memory>
-        requires work { IsAtWork (B.seat self.old.seat)
-            (stands_at (sight_by B.view B.trail B.at) P.state self.old) }
-        requires own { owner (B.seat self.old.seat).place (key_of request)
-            ≡ (B.seat self.old.seat).number }
-        requires open { takes self.old.worker ≡ true }
-        requires room { deque_len self.old.queue < deque_capacity self.old.queue }
-        ensures seat { B.seat self.new.seat ≡ B.seat self.old.seat }
-        ensures pass { self.new.pass ≡ self.old.pass }
-        ensures work { IsAtWork (B.seat self.old.seat)
-            (stands_at (sight_by B.view B.trail B.at) P.state self.new) }
-        ensures accepts { TakesNext (B.seat self.old.seat)
-            (with_next (number, request) (stands_at (sight_by B.view B.trail B.at) P.state self.old))
-            (stands_at (sight_by B.view B.trail B.at) P.state self.new) }
-    {
-        hand_to(
-            &mut self.worker,
-            &mut self.queue,
-            alloc,
-            &self.piece,
-            number,
-            request,
-        )
-    }
-
-    // Gives the worker a turn.
-    fn turn<G: Gate>(&mut self, alloc: Global, gate: &G) -> Result<Turn, Memory>
-        requires { IsAtWork (B.seat self.old.seat)
-            (stands_at (sight_by B.view B.trail B.at) P.state self.old) }
-        ensures seat { B.seat self.new.seat ≡ B.seat self.old.seat }
-        ensures pass { self.new.pass ≡ self.old.pass }
-        ensures work { IsAtWork (B.seat self.old.seat)
-            (stands_at (sight_by B.view B.trail B.at) P.state self.new) }
-        ensures queue { self.new.queue ≡ self.old.queue }
-        ensures turns { (takes self.old.worker ≡ true → self.old.queue.items ≡ [])
-            → MakesTurn (B.seat self.old.seat) (G.may_refuse gate.now)
-            (stands_at (sight_by B.view B.trail B.at) P.state self.old)
-            (stands_at (sight_by B.view B.trail B.at) P.state self.new) }
-    {
-        self.worker
-            .turn(alloc, &mut self.piece, &mut self.seat, gate)
-    }
-
     // Hands the worker the next request, where it leads nothing and has room, and else gives it a turn.
     fn step<G: Gate>(&mut self, alloc: Global, gate: &G) -> Result<Turn, Memory>
         requires { IsAtWork (B.seat self.old.seat)
@@ -98,10 +56,25 @@ impl<B: Board, P: Region> CoreJob<B, P> {
             (stands_at (sight_by B.view B.trail B.at) P.state self.old)
             (stands_at (sight_by B.view B.trail B.at) P.state self.new) }
     {
-        match next_for(&self.worker, &mut self.queue) {
-            Some((number, request)) => self.accept(alloc, number, request),
-            None => self.turn(alloc, gate),
-        }
+        let turn = |worker: &mut Worker, seat: &mut B, piece: &mut P|
+            requires { IsMember (B.seat seat.old).place (B.seat seat.old).number
+                (P.state piece.old) (B.view seat.old) worker.old }
+            ensures seat { B.seat seat.new ≡ B.seat seat.old }
+            ensures leaves { LeavesTurn (B.seat seat.old)
+                (G.may_pass gate.entry.now) (G.may_refuse gate.entry.now) result
+                (P.state piece.old) (P.state piece.new) (B.whole seat.old) (B.whole seat.new)
+                (B.view seat.old) (B.view seat.new)
+                (trail_with (B.trail seat.old) (B.at seat.old))
+                (trail_with (B.trail seat.new) (B.at seat.new)) worker.old worker.new }
+        { worker.turn(alloc, piece, seat, gate) };
+        step_core(
+            &mut self.worker,
+            &mut self.seat,
+            &mut self.piece,
+            &mut self.queue,
+            alloc,
+            turn,
+        )
     }
 
     /// Lets the worker wind down.

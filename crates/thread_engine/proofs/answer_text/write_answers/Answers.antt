@@ -1,10 +1,9 @@
-use Rattle.std.proofs.Common.{◌++◌, ap, ◌∙◌, subst, map, sym}
+use Rattle.std.proofs.Common.{subst, map}
 use Rattle.std.proofs.Math.Nat.{le_trans}
-use Rattle.std.proofs.lemmas.Result.{on_ok_weaker, on_err_weaker}
-use Rattle.fs_text.specs.Output.{lines_text, ended, reply_line, replies_text}
-use Rattle.fs_text.specs.Streams.{Takes, TakesUpTo, TakesPrefix}
+use Rattle.fs_text.specs.Output.{replies_text}
+use Rattle.fs_text.specs.Streams.{TakesPrefix}
 use Rattle.fs_text.proofs.Streaming.{on_err_any, prefix_none, takes_none}
-use Rattle.fs_text.proofs.Texts.{sent_more, prefix_more, prefix_last, prefix_so_far}
+use Rattle.fs_text.proofs.Texts.{sent_more, prefix_more, prefix_last}
 use Rattle.engine_core.specs.Reports.{reply_in}
 use Rattle.thread_engine.proofs.Lines.{lines_of, text_is, all_out}
 use Rattle.thread_engine.proofs.answer_text.write_answers.Goals as goal

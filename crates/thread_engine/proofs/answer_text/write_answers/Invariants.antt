@@ -1,5 +1,5 @@
-use Rattle.std.proofs.Common.{◌≤◌, map, take}
-use Rattle.fs_text.specs.Output.{ended, lines_text, reply_line, replies_text}
+use Rattle.std.proofs.Common.{◌≤◌, take}
+use Rattle.fs_text.specs.Output.{lines_text, reply_line}
 use Rattle.fs_text.specs.Streams.{TakesUpTo}
 use Rattle.engine_core.specs.Reports.{reply_in}
 use Rattle.thread_engine.proofs.answer_text.write_answers.Given as goal

@@ -2,7 +2,7 @@ use Rattle.std.proofs.Common.{◌≡◌, ◌⊎◌, inl, inr, ◌≤◌, suc, �
 use Rattle.std.proofs.lemmas.List.{nil_from_length}
 use Rattle.engine_core.specs.Reports.{reply_in}
 use Rattle.thread_engine.specs.Collected.{blanks}
-use Rattle.thread_engine.specs.Noted.{IsNoted, HasNoteRoom}
+use Rattle.thread_engine.specs.Noted.{IsNoted}
 use Rattle.thread_engine.specs.Outlets.{all_replies}
 use Rattle.thread_engine.specs.Windows.{WorksThrough, AllRested}
 use Rattle.thread_engine.specs.Takings.{both_outs, TakenAs}

@@ -1,6 +1,6 @@
-use Rattle.std.proofs.Common.{◌≡◌, ◌+◌, ◌-◌, ◌++◌, [], ◌∷◌, length, suc, take, sym, ◌∙◌, ap, subst, append-nil, append_assoc, arith}
+use Rattle.std.proofs.Common.{◌+◌, ◌-◌, ◌++◌, [], ◌∷◌, length, suc, take, sym, ◌∙◌, ap, subst, append-nil, append_assoc, arith}
 use Rattle.std.proofs.lemmas.List.{take_more, take_all}
-use Rattle.thread_engine.specs.Noted.{IsNoted, HasNoteRoom}
+use Rattle.thread_engine.specs.Noted.{IsNoted}
 use Rattle.thread_engine.proofs.NotedAnswers.{noted_more, fewer_room, room_left}
 use Rattle.thread_engine.proofs.run_notes.RunNotes.note_all.Goals as goal
 

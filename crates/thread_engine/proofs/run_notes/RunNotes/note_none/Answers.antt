@@ -1,6 +1,6 @@
-use Rattle.std.proofs.Common.{◌≡◌, ◌+◌, ◌-◌, ◌++◌, [], ◌∷◌, suc, None, sym, ◌∙◌, ap, subst, append-nil, append_assoc, arith}
+use Rattle.std.proofs.Common.{◌≡◌, ◌-◌, ◌++◌, [], ◌∷◌, suc, None, sym, ◌∙◌, ap, subst, append-nil, append_assoc, arith}
 use Rattle.thread_engine.specs.Collected.{blanks}
-use Rattle.thread_engine.specs.Noted.{IsNoted, HasNoteRoom}
+use Rattle.thread_engine.specs.Noted.{IsNoted}
 use Rattle.thread_engine.proofs.NotedAnswers.{noted_more, fewer_room, room_left, blanks_more}
 use Rattle.thread_engine.proofs.run_notes.RunNotes.note_none.Goals as goal
 
