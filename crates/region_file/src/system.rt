@@ -100,8 +100,8 @@ impl FilePlace {
     }
 }
 
-/// The file of this name with its lock, which one it is, and whether it can be written. It is opened for reading alone, and its lock
-/// shared, where the right to write is missing or its file system can only be read.
+/// The file of this name with its lock, which one it is, and whether it can be written. It is opened for reading alone,
+/// and its lock shared, where the right to write is missing or its file system can only be read.
 pub fn locked_at_best<R: Files<File = File>>(
     rt: &R,
     path: &str,
