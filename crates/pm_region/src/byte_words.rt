@@ -6,6 +6,7 @@ ghost use Rattle.pm_region.specs.Split.{words_in};
 use crate::region_sizes::{MOST_BYTES, WORD_BYTES};
 use byteorder::{ByteOrder, LittleEndian};
 use std::alloc::{AllocError, Global};
+use std::simd::{u8x8, u64x1};
 
 /// How many words a region of so many bytes has.
 pub fn word_count(bytes: u64) -> u64
@@ -30,12 +31,13 @@ pub fn words_of(alloc: Global, bytes: &[u8]) -> Result<Vec<u64>, AllocError>
     Ok(words)
 }
 
-/// The word at a place.
+/// The word at a place. It is one load of the processor, where eight bytes one by one are some eighty instructions.
 pub fn word(bytes: &[u8], place: u64) -> u64
     requires { WORD_BYTES * place + WORD_BYTES ≤ length bytes.now }
     ensures { result ≡ word_at bytes.now place }
 {
-    LittleEndian::read_u64(&bytes[(WORD_BYTES * place) as usize..])
+    let low = (WORD_BYTES * place) as usize;
+    u64x1::from_le_bytes(u8x8::from_slice(&bytes[low..])).to_array()[0]
 }
 
 /// Stores a word.
