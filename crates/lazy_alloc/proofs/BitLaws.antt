@@ -1,13 +1,17 @@
 -- What is set of bits after one of them changes, and the lowest of them.
-use Rattle.std.proofs.Common.{◌≡◌, ◌≢◌, ⊎_elim, ℕ, ◌+◌, ◌-◌, ◌*◌, ◌/◌, ◌%◌, ◌^◌, ◌<◌, ◌≤◌, ◌==◌, ◌||◌, ◌&&◌, not, Bool, true, false, List, length, get_or, set, refl, sym, ◌∙◌, ap, arith, get_or-set_other, get_or-set_same}
+use Rattle.std.proofs.Common.{subst, ◌≡◌, ◌≢◌, ⊎_elim, ℕ, zero, suc, cond, count_by, ◌+◌, ◌-◌, ◌*◌, ◌/◌, ◌%◌, ◌^◌, ◌<◌, ◌≤◌, ◌==◌, ◌||◌, ◌&&◌, not, Bool, true, false, List, length, get_or, set, refl, sym, ◌∙◌, ap, arith, get_or-set_other, get_or-set_same}
 use Rattle.std.proofs.lemmas.List.{get_or_read}
 use Rattle.std.specs.Int.{w64, bit_at, trailing_zeros, trailing_ones}
 use Rattle.std.specs.Int.RustNames.{bit_or}
 use Rattle.std.specs.Int.Bits.{bit_and}
+use Rattle.std.specs.Int.Count.{ones}
 use Rattle.std.proofs.lemmas.Bool.{cases_eq, cases_lt, eq-eqb, ne_eqb, or_left, and_left, and_right}
-use Rattle.std.proofs.lemmas.Nat.{and_le_l}
-use Rattle.std.proofs.lemmas.Nat.Bits.{bit_at_set_same, bit_at_set_other, bit_at_clear_same, bit_at_clear_other, bit_at-zero, bit_at-trailing_zeros, bit_at-trailing_ones, bit_at_ones, bit_at_above, shr_and_one}
+use Rattle.std.proofs.Math.Nat.{mod-eq_of_lt}
+use Rattle.std.proofs.lemmas.Nat.{and_le_l, div-add-mod', mod_below, pow_pos, shr_below, ones_cat}
+use Rattle.std.proofs.lemmas.Nat.Bits.{bit_at_set_same, bit_at_set_other, bit_at_clear_same, bit_at_clear_other, bit_at-zero, bit_at-trailing_zeros, bit_at-trailing_ones, bit_at_ones, bit_at_above, shr_and_one, bit_at_cat_low, bit_at_cat_high, bit_at_lowest}
+use Rattle.chunk_map.specs.Layouts.{numbers}
 use Rattle.lazy_alloc.specs.Bits.{has, has_bit}
+use Rattle.lazy_alloc.proofs.CountLaws.{count_same, count_more}
 
 pub has_shifted : (n k : ℕ) → (bit_and (n / 2 ^ k) 1 == 1) ≡ has n k
 unfolding has
@@ -124,3 +128,30 @@ more_set words from i n word is le set so_far k lt = ⊎_elim
     let e : 64 * from + k ≡ 64 * from + (64 * i + b) = omega arith in
     ap (has_bit words) e ∙ bit_in words from i b word is (omega arith) ∙ set b (omega arith))
     (cases_lt k (64 * i))
+
+-- one bit, counted
+one_bit : (a b : ℕ) → a < 2 → b ≡ a → cond {A = ℕ} (b == 1) 1 0 ≡ ones a
+unfolding ones
+one_bit zero b lt is = ap (λ (x : ℕ). cond {A = ℕ} (x == 1) 1 0) is
+one_bit (suc zero) b lt is = ap (λ (x : ℕ). cond {A = ℕ} (x == 1) 1 0) is
+one_bit (suc (suc a)) b lt is = absurd (omega (arith, lt))
+
+-- so many of the lowest bits of a word are set as the word has ones
+pub ones_counted : (k n : ℕ) → n < 2 ^ k → count_by (has n) (numbers 0 k) ≡ ones n
+unfolding has ones
+ones_counted zero n lt = let e : n ≡ 0 = omega (arith, lt) in sym (ap ones e)
+ones_counted (suc k) n lt =
+    let a = n / 2 ^ k in
+    let r = n % 2 ^ k in
+    let parts : a * 2 ^ k + r ≡ n = div-add-mod' n (2 ^ k) in
+    let low : r < 2 ^ k = mod_below n (2 ^ k) (pow_pos k) in
+    let next : 1 + k ≡ suc k = omega arith in
+    let high : a < 2 ^ 1 = shr_below n 1 k (subst (λ (m : ℕ). n < 2 ^ m) (sym next) lt) in
+    let rest = ones_counted k r low in
+    let same = count_same (has n) (has r) 0 k (λ i from below. ap (λ (x : ℕ). x == 1) (ap (λ (x : ℕ). bit_at x i) (sym parts) ∙ bit_at_cat_low a k r i (omega (arith, below)))) in
+    let last : suc k ≡ k + 1 = omega arith in
+    let more = ap (λ (m : ℕ). count_by (has n) (numbers 0 m)) last ∙ count_more (has n) 0 k in
+    let sum : ones n ≡ ones a + ones r = ap ones (sym parts) ∙ ones_cat k a r low in
+    let at : bit_at n (0 + k) ≡ a = ap (λ (x : ℕ). bit_at x (0 + k)) (sym parts) ∙ bit_at_cat_high a k r (0 + k) low (omega arith) ∙ ap (bit_at a) (let e : 0 + k - k ≡ 0 = omega arith in e) ∙ bit_at_lowest a ∙ mod-eq_of_lt high in
+    let top = one_bit a (bit_at n (0 + k)) high at in
+    omega (arith, rest, same, more, sum, top)

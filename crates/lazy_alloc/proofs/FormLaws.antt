@@ -1,17 +1,18 @@
 -- What an allocator's form says of its sets.
-use Rattle.std.proofs.Common.{◌≡◌, ◌⊎◌, inl, inr, ⊎_elim, ℕ, ◌+◌, ◌-◌, ◌*◌, ◌/◌, ◌%◌, ◌^◌, ◌≤◌, ◌<◌, ◌==◌, ◌&&◌, nat_le, Bool, true, false, cond, List, length, get_or, replicate, Option, Some, None, refl, sym, ◌∙◌, ap, arith}
+use Rattle.std.proofs.Common.{count_by, ◌≡◌, ◌⊎◌, inl, inr, ⊎_elim, ℕ, ◌+◌, ◌-◌, ◌*◌, ◌/◌, ◌%◌, ◌^◌, ◌≤◌, ◌<◌, ◌==◌, ◌&&◌, nat_le, Bool, true, false, cond, List, length, get_or, replicate, Option, Some, None, refl, sym, ◌∙◌, ap, arith}
 use Rattle.std.specs.Prelude.{is_none, slice_get}
 use Rattle.std.specs.Option.{option_and_then, option_map_or}
 use Rattle.std.proofs.lemmas.List.{get_or_past, get_or_read, get_or-replicate, length-replicate}
 use Rattle.std.proofs.lemmas.Bool.{cases_lt, both_ways, le-leb, lt-leb, leb-true, and_parts, cond-true, cond-false, cond_both, and_left, and_right}
 use Rattle.chunk_map.specs.declared.layouts.Geometry.{Geometry}
-use Rattle.chunk_map.specs.Layouts.{is_class, IsLayout}
+use Rattle.chunk_map.specs.Layouts.{is_class, IsLayout, numbers}
+use Rattle.chunk_map.proofs.Clients.{numbers_of}
 use Rattle.store_image.specs.Parts.{chunk_units, chunk_at, unit_at, is_start}
 use Rattle.lazy_alloc.specs.Bits.{has, has_bit}
-use Rattle.lazy_alloc.specs.Sets.{Chunk, AreSets, start_in, chunk_is_free, chunk_class, chunk_is_due, class_at, block_is_used}
+use Rattle.lazy_alloc.specs.Sets.{Chunk, AreSets, start_in, chunk_is_free, chunk_class, chunk_is_due, class_at, block_is_used, free_chunk_count}
 use Rattle.lazy_alloc.specs.Form.{room_words, chunk_in, bit_of, class_in, class_of_block, is_marked, chunks_of, used_of, sets_of, IsForm}
 use Rattle.lazy_alloc.proofs.BitLaws.{has_bit_is, lowest_zero}
-use Rattle.lazy_alloc.proofs.CountLaws.{read_in, read_past}
+use Rattle.lazy_alloc.proofs.CountLaws.{read_in, read_past, count_split, count_none, count_same}
 use Rattle.lazy_alloc.proofs.PlaceLaws.{Lies, lies, in_part}
 
 pub there : (classes : List (Option ℕ)) (j c : ℕ) → class_in classes j ≡ Some c → j < length classes
@@ -35,6 +36,19 @@ module _ (l : Geometry) (part free due : ℕ) (classes : List (Option ℕ)) (bit
       none : (b : Bool) → has free j ≡ b → l.chunks ≤ j → b ≡ false
       none true e ge = let f = is.free_in j e in absurd (let g = f.0 in omega (arith, g, ge))
       none false e ge = refl
+
+  pub free_counted : count_by (has free) (numbers 0 64) ≡ free_chunk_count (sets_of l part free due classes bits)
+  free_counted =
+      let high = (numbers_of l is.layout).chunks_high in
+      let sum : l.chunks + (64 - l.chunks) ≡ 64 = omega (arith, high) in
+      let split = ap (λ (n : ℕ). count_by (has free) (numbers 0 n)) (sym sum) ∙ count_split (has free) 0 l.chunks (64 - l.chunks) in
+      let none = count_none (has free) (0 + l.chunks) (64 - l.chunks) (λ j above below. above_none (has free j) refl above) in
+      let same = count_same (has free) (chunk_is_free (sets_of l part free due classes bits)) 0 l.chunks (λ j above below. sym (free_is j)) in
+      omega (arith, split, none, same)
+    where
+      above_none : {j : ℕ} (b : Bool) → has free j ≡ b → 0 + l.chunks ≤ j → b ≡ false
+      above_none {j} true e ge = let f = is.free_in j e in absurd (let g = f.0 in omega (arith, g, ge))
+      above_none false e ge = refl
 
   pub class_is : (j : ℕ) → chunk_class (sets_of l part free due classes bits) j ≡ class_in classes j
   unfolding chunks_of

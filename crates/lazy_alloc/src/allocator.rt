@@ -13,7 +13,7 @@ ghost use Rattle.lazy_alloc.specs.Steps.{CutsChunk, WritesHead, UsesBlock, Lowes
 ghost use Rattle.lazy_alloc.specs.Heads.{is_free, class_in, is_free_there, class_there};
 ghost use Rattle.lazy_alloc.specs.Written.{PartLies, HasHead, KeepsOthers, WroteValue, head_of, HeadTurnsTo};
 
-use crate::bits::{clear, first_unset, has, is_set, lowest, set, with, with_if, without};
+use crate::bits::{clear, count, first_unset, has, is_set, lowest, set, with, with_if, without};
 use crate::block_places::{
     bit_of, block_at, blocks_in, chunk_in, first_block, is_full, is_in_part, is_start, room, units,
 };
@@ -21,9 +21,7 @@ use crate::class_chains::{Chains, no_links};
 use crate::counts::{add_to, count_of, take_from};
 use crate::values::value_in;
 use crate::written::write_block;
-use chunk_map::layout_sizes::{
-    FIRST_UNIT, GREATEST_CLASS, LEAST_CHUNKS, MOST_CHUNKS, UNIT_LINES, UNIT_WORDS,
-};
+use chunk_map::layout_sizes::{FIRST_UNIT, GREATEST_CLASS, UNIT_LINES, UNIT_WORDS};
 use chunk_map::{Head, Layout, set_head};
 use fs_model::{Memory, Value};
 use pm_region::{Region, RegionFault};
@@ -117,13 +115,7 @@ impl Allocator {
     pub fn free_chunks(&self) -> u32
         ensures { result ≡ free_chunk_count self.now }
     {
-        let mut count = 0;
-        for chunk in 0..self.chunks() {
-            if self.is_free(chunk) {
-                count += 1;
-            }
-        }
-        count
+        count(self.free)
     }
 
     /// How many blocks of a class are free.
@@ -252,22 +244,6 @@ impl Allocator {
             Head::Log { tail: _ } => {}
             Head::Data { class } => self.cut(chunk, class, false),
         }
-    }
-
-    // How many chunks the part has.
-    fn chunks(&self) -> u32
-        ensures value { result ≡ self.now.layout.chunks }
-        ensures low { LEAST_CHUNKS ≤ result }
-        ensures high { result ≤ MOST_CHUNKS }
-    {
-        self.layout.geometry().chunks
-    }
-
-    fn is_free(&self, chunk: u32) -> bool
-        requires { chunk < self.now.layout.chunks }
-        ensures { result ≡ chunk_is_free self.now chunk }
-    {
-        has(self.free, chunk)
     }
 
     // The class of the block that begins at a pointer.

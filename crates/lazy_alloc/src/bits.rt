@@ -1,5 +1,6 @@
 // Sets of numbers as bits: as many in one word as it has bits, and more in a list of words.
-ghost use Rattle.std.specs.Prelude.{◌≡◌, ℕ, ◌+◌, ◌*◌, ◌/◌, ◌%◌, ◌<◌, ◌≤◌, ◌==◌, ◌||◌, ◌&&◌, not, length, true, false, IfSome, MatchOption};
+ghost use Rattle.std.specs.Prelude.{◌≡◌, ℕ, ◌+◌, ◌*◌, ◌/◌, ◌%◌, ◌<◌, ◌≤◌, ◌==◌, ◌||◌, ◌&&◌, not, length, true, false, IfSome, MatchOption, count_by};
+ghost use Rattle.chunk_map.specs.Layouts.{numbers};
 ghost use Rattle.lazy_alloc.specs.Bits.{has, has_bit};
 
 /// How many numbers a set of one word may have.
@@ -35,6 +36,13 @@ pub fn without(word: u64, at: u32) -> u64
     ensures { (i : ℕ) → has result i ≡ (has word i && not (i == at)) }
 {
     word & !(1 << at)
+}
+
+/// How many numbers are in the set.
+pub fn count(word: u64) -> u32
+    ensures { result ≡ count_by (has word) (numbers 0 WORD_BITS) }
+{
+    word.count_ones()
 }
 
 /// The lowest bit that is set.

@@ -1,14 +1,7 @@
-use Rattle.std.proofs.Common.{sym, ◌∙◌, arith}
-use Rattle.lazy_alloc.specs.Sets.{chunk_is_free}
-use Rattle.lazy_alloc.proofs.CountLaws.{count_yes, count_no}
+use Rattle.std.proofs.Common.{◌∙◌, ap}
+use Rattle.lazy_alloc.specs.Sets.{free_chunk_count}
+use Rattle.lazy_alloc.proofs.FormLaws.{free_counted}
 use Rattle.lazy_alloc.proofs.allocator.Allocator.free_chunks.Goals as goal
-use Rattle.lazy_alloc.proofs.allocator.Allocator.free_chunks.Goals.{then-is_free, else-is_free}
 
-pub loop-chunk-preserved : goal.loop-chunk-preserved
-loop-chunk-preserved c =
-    let s = c.args.self.now in
-    let k = c.loop-chunk.chunk in
-    elim c.if-is_free.branch [
-      | then-is_free w ↦ (let more = count_yes (chunk_is_free s) 0 k k (sym c.is_free.ensures ∙ w.if-is_free.true) (omega arith) in record { low = omega arith; so_far = omega arith })
-      | else-is_free w ↦ (let more = count_no (chunk_is_free s) 0 k k (sym c.is_free.ensures ∙ w.if-is_free.false) (omega arith) in record { low = omega arith; so_far = omega arith })
-    ]
+pub returns : goal.returns
+returns c = let a = c.self.inside in c.count.ensures ∙ free_counted a.layout a.part a.free a.due a.classes.items a.bits.items c.self.invariant.form ∙ ap free_chunk_count c.self.view_is
