@@ -1,10 +1,12 @@
 -- Which entries wait to be told, after each change.
-use Rattle.std.proofs.Common.{◌≡◌, ◌≢◌, ◌⊎◌, inl, ⊎_elim, ℕ, zero, suc, ◌+◌, ◌≤◌, ◌==◌, Bool, true, false, cond, ◌&&◌, take, List, [], ◌∷◌, ◌++◌, Option, Some, None, option_map, length, inr, refl, sym, ◌∙◌, ap, subst, arith}
-use Rattle.std.specs.Prelude.{Result, Ok, Err, OnOk, OnErr, is_some}
+use Rattle.std.proofs.Common.{◌≡◌, ◌≢◌, ◌⊎◌, inl, ⊎_elim, ℕ, zero, suc, ◌+◌, ◌<◌, ◌≤◌, ◌==◌, Bool, true, false, cond, ◌&&◌, take, List, [], ◌∷◌, ◌++◌, Option, Some, None, length, inr, refl, sym, ◌∙◌, ap, subst, arith}
+use Rattle.std.specs.Prelude.{Result, Ok, Err, IfOk, OnOk, OnErr, is_some}
 use Rattle.std.specs.List.{AllByRecursion}
 use Rattle.std.proofs.lemmas.Bool.{cases_eq, eqb-true, eq-eqb, ne_eqb, cond-true, cond-false}
 use Rattle.std.proofs.lemmas.List.{append_assoc}
 use Rattle.log_entry.specs.declared.entry.EntryName.{EntryName}
+use Rattle.core_index.specs.declared.types.Fate.{Fate}
+use Rattle.core_index.specs.declared.types.Fate.TheVariants as fates
 use Rattle.core_index.specs.declared.types.Marked.{Marked}
 use Rattle.core_index.specs.declared.types.Record.{Record}
 use Rattle.core_index.specs.declared.types.Standee.{Standee}
@@ -12,19 +14,17 @@ use Rattle.core_index.specs.declared.types.StandingEntry.{StandingEntry}
 use Rattle.core_index.specs.declared.types.Tombstone.{Tombstone}
 use Rattle.core_index.specs.declared.types.TheConstants.{NAMES_OF_CHANGE}
 use Rattle.core_index.specs.Marks.{kept}
-use Rattle.core_index.specs.Records.{KeyRecord, Awaits, is_tombstone, is_dead, dies_of, standing_at, standing_of, standing_with, live_version, opened}
+use Rattle.core_index.specs.Records.{KeyRecord, Awaits, list_of, is_tombstone, is_dead, dies_of, standing_at, standing_of, standing_with, live_version, opened}
 use Rattle.core_index.specs.Slots.{Place, mortal, standee_with, count_dead, count_of, lone_deaths, alive_at, home_in, home_alive, OnlyDead}
 use Rattle.core_index.specs.Noted.{Book, Noted, NotedIfDead, count_dead_in, deaths_of, name_with}
 use Rattle.core_index.specs.declared.start_keys.StartKeys.{StartKeys}
-use Rattle.core_index.specs.declared.types.LiveKey.{LiveKey}
-use Rattle.core_index.specs.Lives.{entry_version, entry_home, live_key, live_place, bytes_in, placed_lives}
-use Rattle.core_index.specs.Starts.{started, IsAhead}
-use Rattle.core_index.specs.Tombs.{tomb_version, tomb_home, Tombs, key_of, name_of, left_of, place_of, tomb_places, found_at, passed_at, AreLess}
-use Rattle.log_entry.specs.declared.entry.Body.{Body}
-use Rattle.core_index.specs.Index.{place_at, known_in, room_in, known_at, room_at, mortal_in, all_mortal, all_untold, all_places, Step, Changes, ToldAt, TurnsAt, StartTurns, IsCompact, IsCompactLive, Admits, HasNoneAbove, EntersAs, Entering, opened_in, IsIndex}
-use Rattle.core_index.proofs.TombLaws.{placed_found, more_here, more_other, more_ahead, own_ahead, with_more, waits_own}
+use Rattle.core_index.specs.Lones.{lones, LoneAhead}
+use Rattle.core_index.specs.Starts.{started, joined, OfLast, twin_place, twins, IsAhead}
+use Rattle.core_index.specs.Tombs.{tomb_version, tomb_home, Tombs, Ahead, key_of, name_of, standing_left, standing_by, AreLess}
+use Rattle.core_index.specs.Index.{place_at, known_in, room_in, known_at, room_at, mortal_in, all_mortal, all_untold, all_places, Step, Changes, ToldAt, StartTurns, LoneAdded, OlderAdded, EntersLone, KeepsWaiting, Stays, DeadOrAhead, Admits, HasNoneAbove, EntersAs, Entering, opened_in, IsIndex}
+use Rattle.core_index.proofs.TombLaws.{less_missing}
+use Rattle.core_index.proofs.TwinLaws.{twins_missing, twins_kept, twin_waits}
 use Rattle.core_index.proofs.OverLaws.{first_place, both_kept}
-use Rattle.core_index.proofs.StartLaws.{value_waits}
 use Rattle.core_index.proofs.PlaceLaws.{place_there, place_else, place_kept, known_there, room_both}
 use Rattle.core_index.proofs.StandingLaws.{found_has}
 use Rattle.core_index.proofs.DeadLaws.{alive_is, alive_none}
@@ -44,13 +44,13 @@ still_waiting : (a d : StartKeys) (b c : Book) → KeepsNames b c → KeepsAhead
 still_waiting a d b c kept ahead h n waits = ⊎_elim (λ (noted : Noted b h n). inl (kept h n noted)) (λ (far : IsAhead a h n). inr (ahead h n far)) waits
 
 -- a change of one key, by which one entry may die
-pub index_step : (es fs : List (ℕ × Place)) (a d : StartKeys) (b c : Book) (k : ℕ) (dead : Option Standee) → IsIndex es a b → ((j : ℕ) → j ≢ k → known_at (all_places fs d) j ≡ known_at (all_places es a) j) → OnlyDead (known_at (all_places es a) k) (known_at (all_places fs d) k) dead
+pub index_step : (es fs : List (ℕ × Place)) (a d : StartKeys) (b c : Book) (k : ℕ) (dead : Option Standee) → IsIndex es a b → ((j : ℕ) → j ≢ k → known_at (all_places fs d) j ≡ known_at (all_places es a) j) → DeadOrAhead d k (known_at (all_places es a) k) (known_at (all_places fs d) k) dead
     → ((v h : ℕ) → dead ≡ Some (standee_with v h) → Noted c h (name_with k v)) → KeepsNames b c → KeepsAhead a d → all_mortal fs ≤ c.spare → IsIndex fs d c
 index_step es fs a d b c k dead is others only added kept ahead le = record {
   noted = λ j v h waits. ⊎_elim
       (λ (e : j ≡ k).
       let here : Awaits (known_at (all_places fs d) k) h v = subst (λ (i : ℕ). Awaits (known_at (all_places fs d) i) h v) e waits in
-      let noted : Waiting c d h (name_with k v) = ⊎_elim (λ (was : Awaits (known_at (all_places es a) k) h v). still_waiting a d b c kept ahead h (name_with k v) (is.noted k v h was)) (λ (died : dead ≡ Some (standee_with v h)). inl (added v h died)) (only v h here) in
+      let noted : Waiting c d h (name_with k v) = ⊎_elim (λ (was : Awaits (known_at (all_places es a) k) h v). still_waiting a d b c kept ahead h (name_with k v) (is.noted k v h was)) (λ (new : (dead ≡ Some (standee_with v h)) ⊎ IsAhead d h (name_with k v)). ⊎_elim (λ (died : dead ≡ Some (standee_with v h)). inl (added v h died)) (λ (far : IsAhead d h (name_with k v)). inr far) new) (only v h here) in
       subst (λ (i : ℕ). Waiting c d h (name_with i v)) (sym e) noted)
       (λ (ne : j ≢ k). still_waiting a d b c kept ahead h (name_with j v) (is.noted j v h (subst (λ (o : Option KeyRecord). Awaits o h v) (others j ne) waits)))
       (cases_eq j k);
@@ -73,7 +73,7 @@ settled_index es fs a b c k p now dead spared is at step only mortal added kept 
     let room = is.spare in
     index_step es fs a a b c k dead is
     (λ j ne. ap known_in (place_kept es fs a a j (step.others j ne) refl))
-    (λ v h after. ⊎_elim (λ (waits : Awaits (known_at es k) h v). inl (subst (λ (o : Option KeyRecord). Awaits o h v) (sym (known_there es a k p at)) waits)) (λ (died : dead ≡ Some (standee_with v h)). inr died) (only v h (subst (λ (o : Option KeyRecord). Awaits o h v) (known_there fs a k now step.here) after)))
+    (λ v h after. ⊎_elim (λ (waits : Awaits (known_at es k) h v). inl (subst (λ (o : Option KeyRecord). Awaits o h v) (sym (known_there es a k p at)) waits)) (λ (died : dead ≡ Some (standee_with v h)). inr (inl died)) (only v h (subst (λ (o : Option KeyRecord). Awaits o h v) (known_there fs a k now step.here) after)))
     added kept (λ h n far. far) (omega (arith, sum, same, mortal, spare, room))
 
 pub settled_change : (es fs : List (ℕ × Place)) (a : StartKeys) (k : ℕ) (now : Place) → Step es fs k (Some now) → Changes (all_places es a) (all_places fs a) k now.known
@@ -102,7 +102,7 @@ admits_others es fs a d k is j ne = ap room_in (place_kept es fs a d j (is.other
 pub same_places : (es fs : List (ℕ × Place)) (a d : StartKeys) → fs ≡ es → d ≡ a → all_places fs d ≡ all_places es a
 same_places es fs a d e f = λ i. all_places (e i) (f i)
 
-pub admitted_index : {T E : Type 0} (r : Result T E) (es fs : List (ℕ × Place)) (a d : StartKeys) (b c : Book) (k : ℕ) → IsIndex es a b → OnOk r (Admits es fs a d k) → OnErr r (fs ≡ es) → OnErr r (d ≡ a) → KeepsNames b c → c.spare ≡ b.spare + NAMES_OF_CHANGE → IsIndex fs d c
+pub admitted_index : {T E : Type 0} (r : Result T E) (es fs : List (ℕ × Place)) (a d : StartKeys) (b c : Book) (k : ℕ) → IsIndex es a b → OnOk r (Admits es fs a d k) → OnErr r (fs ≡ es) → OnErr r (d ≡ a) → KeepsNames b c → b.spare + NAMES_OF_CHANGE + lone_deaths (known_at (started a) k) ≤ c.spare → IsIndex fs d c
 admitted_index (Err e) es fs a d b c k is ok err left same spare = subst (λ (xs : List (ℕ × Place)). IsIndex xs d c) (sym err) (subst (λ (x : StartKeys). IsIndex es x c) (sym left) (roomier es a b c is same (omega (arith, spare))))
 admitted_index (Ok x) es fs a d b c k is admits err left same spare =
     let known = admits_known es fs a d k admits in
@@ -276,92 +276,156 @@ enters_as es fs a d k p known is step turns =
       room = λ j ne. ap room_in (same j ne);
     }
 
--- a deleted key that is put behind all others
-abbrev pub with_deleted : StartKeys → Tombstone → StartKeys
-with_deleted a t = record { live = a.live; deleted = with_more a.deleted t }
+-- Keys that are put into the lists of the start.
 
-more_places : (es : List (ℕ × Place)) (a : StartKeys) (k v : ℕ) (known : KeyRecord) (t : Tombstone) → IsCompact es a k v known t → (j : ℕ) → j ≢ k → place_at (all_places es (with_deleted a t)) j ≡ place_at (all_places es a) j
-more_places es a k v known t is j ne =
-    let ts = a.deleted.items in
-    let more : place_at (tomb_places (ts ++ t ∷ [])) j ≡ place_at (tomb_places ts) j = placed_found (ts ++ t ∷ []) j ∙ ap (option_map place_of) (more_other ts t j (λ e. ne (e ∙ is.key))) ∙ sym (placed_found ts j) in
-    place_kept es es a (with_deleted a t) j refl (both_kept (placed_lives a.live) (placed_lives a.live) (tomb_places ts) (tomb_places (ts ++ t ∷ [])) j refl more)
-
-more_known : (es : List (ℕ × Place)) (a : StartKeys) (k v : ℕ) (known : KeyRecord) (t : Tombstone) → IsCompact es a k v known t → place_at (all_places es (with_deleted a t)) k ≡ Some (place_of t)
-more_known es a k v known t is =
-    let ts = a.deleted.items in
-    let less : AreLess ts (key_of t) = subst (AreLess ts) (sym is.key) is.above in
-    place_else es (with_deleted a t) k is.new ∙ first_place (placed_lives a.live) (tomb_places (ts ++ t ∷ [])) k None is.apart ∙ placed_found (ts ++ t ∷ []) k ∙ ap (λ (j : ℕ). option_map place_of (found_at (ts ++ t ∷ []) j)) (sym is.key) ∙ ap (option_map place_of) (more_here ts t less)
-
-pub compact_enters : (es : List (ℕ × Place)) (a : StartKeys) (k v : ℕ) (known : KeyRecord) (t : Tombstone) → IsCompact es a k v known t → EntersAs (all_places es a) (all_places es (with_deleted a t)) k known
-compact_enters es a k v known t is =
-    let here = more_known es a k v known t is in
-    record {
-      change = record { here = ap known_in here ∙ is.left; others = λ j ne. ap known_in (more_places es a k v known t is j ne) };
-      none = ap room_in here;
-      room = λ j ne. ap room_in (more_places es a k v known t is j ne);
-    }
-
-pub compact_index : (es : List (ℕ × Place)) (a : StartKeys) (b : Book) (k v : ℕ) (known : KeyRecord) (t : Tombstone) → IsCompact es a k v known t → passed_at a.deleted (tomb_home t) ≤ length a.deleted.items → IsIndex es a b → IsIndex es (with_deleted a t) b
-compact_index es a b k v known t compact le is = record {
-  noted = λ j w h waits. ⊎_elim
-      (λ (e : j ≡ k).
-      let here : known_at (all_places es (with_deleted a t)) j ≡ left_of t = ap (known_at (all_places es (with_deleted a t))) e ∙ ap known_in (more_known es a k v known t compact) in
-      let own = waits_own t.fate (tomb_version t) (tomb_home t) h w (subst (λ (o : Option KeyRecord). Awaits o h w) here waits) in
-      let name : name_with (key_of t) (tomb_version t) ≡ name_with j w = λ i. name_with ((compact.key ∙ sym e) i) (own.version i) in
-      inr (subst (λ (x : ℕ). IsAhead (with_deleted a t) x (name_with j w)) own.home_is (subst (IsAhead (with_deleted a t) (tomb_home t)) name (own_ahead a.deleted t le))))
-      (λ (ne : j ≢ k). still_waiting a (with_deleted a t) b b (λ i n noted. noted) (more_ahead a.deleted t) h (name_with j w) (is.noted j w h (subst (λ (o : Option KeyRecord). Awaits o h w) (ap known_in (more_places es a k v known t compact j ne)) waits)))
-      (cases_eq j k);
+pub waiting_index : (es : List (ℕ × Place)) (a d : StartKeys) (b : Book) → KeepsWaiting es a d → IsIndex es a b → IsIndex es d b
+waiting_index es a d b keeps is = record {
+  noted = λ k v h waits. ⊎_elim
+      (λ (was : Awaits (known_at (all_places es a) k) h v). still_waiting a d b b (λ i n noted. noted) keeps.ahead h (name_with k v) (is.noted k v h was))
+      (λ (far : IsAhead d h (name_with k v)). inr far)
+      (keeps.waits k v h waits);
   spare = is.spare;
 }
 
-pub pushed_index : {T E : Type 0} (r : Result T E) (es : List (ℕ × Place)) (a d : StartKeys) (b : Book) (k v : ℕ) (known : KeyRecord) (t : Tombstone) → IsCompact es a k v known t → passed_at a.deleted (tomb_home t) ≤ length a.deleted.items → OnOk r (d ≡ with_deleted a t) → OnErr r (d ≡ a) → IsIndex es a b → IsIndex es d b
-pushed_index (Ok x) es a d b k v known t compact le ok err is = subst (λ (y : StartKeys). IsIndex es y b) (sym ok) (compact_index es a b k v known t compact le is)
-pushed_index (Err e) es a d b k v known t compact le ok err is = subst (λ (y : StartKeys). IsIndex es y b) (sym err) is
-
-pub pushed_enters : {T E : Type 0} (r : Result T E) (es : List (ℕ × Place)) (a d : StartKeys) (k v : ℕ) (known : KeyRecord) (t : Tombstone) → IsCompact es a k v known t → OnOk r (d ≡ with_deleted a t) → OnOk r (EntersAs (all_places es a) (all_places es d) k known)
-pushed_enters (Ok x) es a d k v known t compact ok = subst (λ (y : StartKeys). EntersAs (all_places es a) (all_places es y) k known) (sym ok) (compact_enters es a k v known t compact)
-pushed_enters (Err e) es a d k v known t compact ok = tt
-
--- a key with a value that is put behind all others
-abbrev pub TakesLive : StartKeys → StartKeys → LiveKey → Body → Type 0
-TakesLive a d x body = TurnsAt (started a) (started d) (live_key x) (Some (live_place (a.live.bytes ++ bytes_in body) x))
-
-live_there : (es : List (ℕ × Place)) (a d : StartKeys) (k : ℕ) (body : Body) (known : KeyRecord) (x : LiveKey) → IsCompactLive es a k body known x → TakesLive a d x body → place_at (all_places es d) k ≡ Some (live_place (a.live.bytes ++ bytes_in body) x)
-live_there es a d k body known x is turns = place_else es d k is.new ∙ ap (place_at (started d)) (sym is.fits.key) ∙ turns.here
-
-live_others : (es : List (ℕ × Place)) (a d : StartKeys) (k : ℕ) (body : Body) (known : KeyRecord) (x : LiveKey) → IsCompactLive es a k body known x → TakesLive a d x body → (j : ℕ) → j ≢ k → place_at (all_places es d) j ≡ place_at (all_places es a) j
-live_others es a d k body known x is turns j ne = place_kept es es a d j refl (turns.others j (λ e. ne (e ∙ is.fits.key)))
-
-live_enters : (es : List (ℕ × Place)) (a d : StartKeys) (k : ℕ) (body : Body) (known : KeyRecord) (x : LiveKey) → IsCompactLive es a k body known x → TakesLive a d x body → EntersAs (all_places es a) (all_places es d) k known
-live_enters es a d k body known x is turns =
-    let here = live_there es a d k body known x is turns in
-    record {
-      change = record { here = ap known_in here ∙ is.fits.valued_is; others = λ j ne. ap known_in (live_others es a d k body known x is turns j ne) };
-      none = ap room_in here;
-      room = λ j ne. ap room_in (live_others es a d k body known x is turns j ne);
-    }
-
-same_ahead : (a d : StartKeys) → d.deleted ≡ a.deleted → KeepsAhead a d
-same_ahead a d same = λ h n far. subst (λ (ts : Tombs). IsAhead (record { live = d.live; deleted = ts }) h n) (sym same) far
-
-live_index : (es : List (ℕ × Place)) (a d : StartKeys) (b : Book) (k : ℕ) (body : Body) (known : KeyRecord) (x : LiveKey) → IsCompactLive es a k body known x → TakesLive a d x body → d.deleted ≡ a.deleted → IsIndex es a b → IsIndex es d b
-live_index es a d b k body known x compact turns same is = index_same es es a d b b k is
-    (λ j ne. ap known_in (live_others es a d k body known x compact turns j ne))
-    (λ v h waits. absurd (value_waits (a.live.bytes ++ bytes_in body) x.held x.fate (entry_version x) (entry_home x) h v (subst (λ (o : Option KeyRecord). Awaits o h v) (ap known_in (live_there es a d k body known x compact turns)) waits)))
-    (λ h n noted. noted)
-    (same_ahead a d same)
-    is.spare
-
-pub added_index : {T E : Type 0} (r : Result T E) (es : List (ℕ × Place)) (a d : StartKeys) (b : Book) (k : ℕ) (body : Body) (known : KeyRecord) (x : LiveKey) → IsCompactLive es a k body known x → OnOk r (TakesLive a d x body) → OnErr r (started d ≡ started a) → d.deleted ≡ a.deleted → IsIndex es a b → IsIndex es d b
-added_index (Ok y) es a d b k body known x compact ok err same is = live_index es a d b k body known x compact ok same is
-added_index (Err e) es a d b k body known x compact ok err same is = record {
-  noted = λ j v h waits. still_waiting a d b b (λ i n noted. noted) (same_ahead a d same) h (name_with j v) (is.noted j v h (subst (λ (ps : List (ℕ × Place)). Awaits (known_at (es ++ ps) j) h v) err waits));
-  spare = is.spare;
+pub stays_waiting : (es : List (ℕ × Place)) (a d : StartKeys) → Stays a d → KeepsWaiting es a d
+stays_waiting es a d stays = record {
+  ahead = stays.ahead;
+  waits = λ k v h waits. inl (subst (λ (ps : List (ℕ × Place)). Awaits (known_at (es ++ ps) k) h v) stays.places waits);
 }
 
-pub added_enters : {T E : Type 0} (r : Result T E) (es : List (ℕ × Place)) (a d : StartKeys) (k : ℕ) (body : Body) (known : KeyRecord) (x : LiveKey) → IsCompactLive es a k body known x → OnOk r (TakesLive a d x body) → OnOk r (EntersAs (all_places es a) (all_places es d) k known)
-added_enters (Ok y) es a d k body known x compact ok = live_enters es a d k body known x compact ok
-added_enters (Err e) es a d k body known x compact ok = tt
+pub same_stays : (a d : StartKeys) → d ≡ a → Stays a d
+same_stays a d same = record { places = ap started same; ahead = λ h n far. subst (λ (x : StartKeys). IsAhead x h n) (sym same) far }
+
+pub then_waiting : (es : List (ℕ × Place)) (a b c : StartKeys) → KeepsWaiting es a b → KeepsWaiting es b c → KeepsWaiting es a c
+then_waiting es a b c one two = record {
+  ahead = λ h n far. two.ahead h n (one.ahead h n far);
+  waits = λ k v h waits. ⊎_elim
+      (λ (was : Awaits (known_at (all_places es b) k) h v). ⊎_elim (λ (first : Awaits (known_at (all_places es a) k) h v). inl first) (λ (far : IsAhead b h (name_with k v)). inr (two.ahead h (name_with k v) far)) (one.waits k v h was))
+      (λ (far : IsAhead c h (name_with k v)). inr far)
+      (two.waits k v h waits);
+}
+
+-- by the last version alone
+
+none_beside : (es : List (ℕ × Place)) (a d : StartKeys) (k : ℕ) (known : KeyRecord) → EntersLone es a d k known → place_at (twins d.older.items (lones d.lone)) k ≡ None
+none_beside es a d k known is = twins_missing d.older.items (lones d.lone) k (less_missing d.older.items k (let added = is.added in subst (λ (ts : Tombs). AreLess ts.items k) (sym added.older) is.above_older))
+
+lone_here : (es : List (ℕ × Place)) (a d : StartKeys) (k : ℕ) (known : KeyRecord) → EntersLone es a d k known → place_at (all_places es d) k ≡ Some (record { known = Some known; room = 0 })
+lone_here es a d k known is = let added = is.added in place_else es d k is.new_key ∙ first_place (twins d.older.items (lones d.lone)) (lones d.lone) k None (none_beside es a d k known is) ∙ added.here
+
+lone_kept : (es : List (ℕ × Place)) (a d : StartKeys) (k : ℕ) (p : Place) → LoneAdded a d k p → (j : ℕ) → j ≢ k → place_at (started d) j ≡ place_at (started a) j
+lone_kept es a d k p added j ne =
+    let same = added.others j ne in
+    both_kept (twins a.older.items (lones a.lone)) (twins d.older.items (lones d.lone)) (lones a.lone) (lones d.lone) j (ap (λ (ts : Tombs). place_at (twins ts.items (lones d.lone)) j) added.older ∙ twins_kept a.older.items (lones a.lone) (lones d.lone) j (ap known_in same)) same
+
+pub lone_enters : (es : List (ℕ × Place)) (a d : StartKeys) (k : ℕ) (known : KeyRecord) → EntersLone es a d k known → EntersAs (all_places es a) (all_places es d) k known
+lone_enters es a d k known is =
+    let here = lone_here es a d k known is in
+    let same : (j : ℕ) → j ≢ k → place_at (all_places es d) j ≡ place_at (all_places es a) j = λ j ne. place_kept es es a d j refl (lone_kept es a d k (record { known = Some known; room = 0 }) is.added j ne) in
+    record {
+      change = record { here = ap known_in here; others = λ j ne. ap known_in (same j ne) };
+      none = ap room_in here;
+      room = λ j ne. ap room_in (same j ne);
+    }
+
+lone_far : (a d : StartKeys) (k : ℕ) (p : Place) → LoneAdded a d k p → KeepsAhead a d
+lone_far a d k p added h n far = ⊎_elim
+    (λ (x : LoneAhead a.lone h n). inl (added.ahead h n x))
+    (λ (y : Ahead a.late h n ⊎ Ahead a.older h n). inr (⊎_elim (λ (z : Ahead a.late h n). inl (subst (λ (ts : Tombs). Ahead ts h n) (sym added.late) z)) (λ (z : Ahead a.older h n). inr (subst (λ (ts : Tombs). Ahead ts h n) (sym added.older) z)) y))
+    far
+
+pub lone_waiting : (es : List (ℕ × Place)) (a d : StartKeys) (k : ℕ) (known : KeyRecord) → EntersLone es a d k known → KeepsWaiting es a d
+lone_waiting es a d k known is =
+    let p : Place = record { known = Some known; room = 0 } in
+    record {
+      ahead = lone_far a d k p is.added;
+      waits = λ j v h waits. ⊎_elim
+          (λ (e : j ≡ k).
+          let here : known_at (all_places es d) j ≡ Some known = ap (known_at (all_places es d)) e ∙ ap known_in (lone_here es a d k known is) in
+          let added = is.added in
+          inr (subst (λ (i : ℕ). IsAhead d h (name_with i v)) (sym e) (inl (added.own h v (subst (λ (o : Option KeyRecord). Awaits o h v) here waits)))))
+          (λ (ne : j ≢ k). inl (subst (λ (o : Option KeyRecord). Awaits o h v) (ap known_in (place_kept es es a d j refl (lone_kept es a d k p is.added j ne))) waits))
+          (cases_eq j k);
+    }
+
+-- with an older entry too
+
+pub record EntersTwin (es : List (ℕ × Place)) (a d e : StartKeys) (k : ℕ) (r : KeyRecord) (t : Tombstone) : Type 0 where
+  pub lone : EntersLone es a d k r
+  pub key : key_of t ≡ k
+  pub added : OlderAdded d e t
+  pub entry : StandingEntry
+  pub entry_is : standing_left t ≡ Some entry
+  pub name : entry ≡ standing_with (tomb_version t) (tomb_home t) false
+  pub below : tomb_version t < r.version
+
+twin_known_now : (es : List (ℕ × Place)) (a d e : StartKeys) (k : ℕ) (r : KeyRecord) (t : Tombstone) (is : EntersTwin es a d e k r t) → place_at (all_places es e) k ≡ Some (record { known = Some (joined (is.entry ∷ []) r); room = 0 })
+twin_known_now es a d e k r t is =
+    let lone = is.lone in
+    let added = is.added in
+    let one = lone.added in
+    let last : known_at (lones d.lone) (key_of t) ≡ Some r = ap (known_at (lones d.lone)) is.key ∙ ap known_in one.here in
+    place_else es e k lone.new_key ∙ ap (place_at (started e)) (sym is.key) ∙ added.here ∙ ap (λ (o : Option KeyRecord). Some (twin_place o t)) last ∙ ap (λ (s : Option StandingEntry). Some (record { known = Some (joined (list_of s) r); room = 0 })) is.entry_is
+
+twin_kept : (es : List (ℕ × Place)) (a d e : StartKeys) (k : ℕ) (r : KeyRecord) (t : Tombstone) → EntersTwin es a d e k r t → (j : ℕ) → j ≢ k → place_at (all_places es e) j ≡ place_at (all_places es a) j
+twin_kept es a d e k r t is j ne =
+    let lone = is.lone in
+    let added = is.added in
+    place_kept es es a e j refl (added.others j (λ same. ne (same ∙ is.key)) ∙ lone_kept es a d k (record { known = Some r; room = 0 }) lone.added j ne)
+
+pub twin_enters : (es : List (ℕ × Place)) (a d e : StartKeys) (k : ℕ) (r : KeyRecord) (t : Tombstone) → (is : EntersTwin es a d e k r t) → EntersAs (all_places es a) (all_places es e) k (joined (is.entry ∷ []) r)
+twin_enters es a d e k r t is =
+    let here = twin_known_now es a d e k r t is in
+    record {
+      change = record { here = ap known_in here; others = λ j ne. ap known_in (twin_kept es a d e k r t is j ne) };
+      none = ap room_in here;
+      room = λ j ne. ap room_in (twin_kept es a d e k r t is j ne);
+    }
+
+pub twin_waiting : (es : List (ℕ × Place)) (a d e : StartKeys) (k : ℕ) (r : KeyRecord) (t : Tombstone) → OfLast (Some r) → EntersTwin es a d e k r t → KeepsWaiting es a e
+twin_waiting es a d e k r t last is =
+    let lone = is.lone in
+    let added = is.added in
+    record {
+      ahead = λ h n far. added.ahead h n (lone_far a d k (record { known = Some r; room = 0 }) lone.added h n far);
+      waits = λ j v h waits. ⊎_elim
+          (λ (same : j ≡ k).
+          let here : known_at (all_places es e) j ≡ Some (joined (is.entry ∷ []) r) = ap (known_at (all_places es e)) same ∙ ap known_in (twin_known_now es a d e k r t is) in
+          let version : is.entry.version ≡ tomb_version t = ap (λ (s : StandingEntry). s.version) is.name in
+          let below = is.below in
+          let own = twin_waits is.entry r h v (omega (arith, version, below)) last (subst (λ (o : Option KeyRecord). Awaits o h v) here waits) in
+          let entry : standing_with (tomb_version t) (tomb_home t) false ≡ standing_with v h false = sym is.name ∙ own.entry in
+          let at : tomb_version t ≡ v = ap (λ (s : StandingEntry). s.version) entry in
+          let home : tomb_home t ≡ h = ap (λ (s : StandingEntry). s.home) entry in
+          let name : name_with (key_of t) (tomb_version t) ≡ name_with j v = λ i. name_with ((is.key ∙ sym same) i) (at i) in
+          inr (subst (λ (x : ℕ). IsAhead e x (name_with j v)) home (subst (IsAhead e (tomb_home t)) name added.own)))
+          (λ (ne : j ≢ k). inl (subst (λ (o : Option KeyRecord). Awaits o h v) (ap known_in (twin_kept es a d e k r t is j ne)) waits))
+          (cases_eq j k);
+    }
+
+-- what was just made of an entry
+pub entry_name : (t : Tombstone) (s : StandingEntry) → standing_left t ≡ Some s → s.told ≡ false → s ≡ standing_with (tomb_version t) (tomb_home t) false
+entry_name t s is untold = by t.fate is
+  where
+    by : (f : Fate) → standing_by f (tomb_version t) (tomb_home t) ≡ Some s → s ≡ standing_with (tomb_version t) (tomb_home t) false
+    by fates.Untold at = (let one : standing_with (tomb_version t) (tomb_home t) false ≡ s = cc at in sym one)
+    by fates.Told at =
+        let one : standing_with (tomb_version t) (tomb_home t) true ≡ s = cc at in
+        let flag : true ≡ false = ap (λ (x : StandingEntry). x.told) one ∙ untold in
+        absurd (cc flag)
+    by fates.Gone at = absurd (cc at)
+    by fates.Moved at = absurd (cc at)
+
+-- What an entering says that may have failed.
+
+pub lone_entering : {E : Type 0} (r : Result Bool E) (es : List (ℕ × Place)) (a d : StartKeys) (k : ℕ) (known : KeyRecord) → IfOk r (λ there. there ≡ true → EntersLone es a d k known) → IfOk r (λ there. there ≡ true → EntersAs (all_places es a) (all_places es d) k known)
+lone_entering (Ok there) es a d k known enters = λ is. lone_enters es a d k known (enters is)
+lone_entering (Err e) es a d k known enters = tt
+
+pub lone_keeping : {E : Type 0} (r : Result Bool E) (es : List (ℕ × Place)) (a d : StartKeys) (k : ℕ) (known : KeyRecord) → IfOk r (λ there. there ≡ true → EntersLone es a d k known) → IfOk r (λ there. there ≡ false → d ≡ a) → OnErr r (Stays a d) → KeepsWaiting es a d
+lone_keeping (Ok true) es a d k known enters same stays = lone_waiting es a d k known (enters refl)
+lone_keeping (Ok false) es a d k known enters same stays = stays_waiting es a d (same_stays a d (same refl))
+lone_keeping (Err e) es a d k known enters same stays = stays_waiting es a d stays
 
 -- One record after another, from the last one on.
 

@@ -8,6 +8,8 @@ pub mod SlabLaws
 pub mod OverLaws
 pub mod TombLaws
 pub mod LiveLaws
+pub mod LoneLaws
+pub mod TwinLaws
 pub mod StartLaws
 pub mod PlaceLaws
 pub mod IndexLaws

@@ -17,10 +17,12 @@ use Rattle.core_index.specs.declared.types.LiveFate.{LiveFate}
 use Rattle.core_index.specs.declared.types.LiveFate.TheVariants.{Stands, Gone, Moved}
 use Rattle.core_index.specs.declared.types.LiveKey.{LiveKey}
 use Rattle.core_index.specs.declared.start_keys.StartKeys.{StartKeys}
-use Rattle.core_index.specs.Records.{live_version, is_tombstone}
+use Rattle.core_index.specs.declared.types.Tombstone.{Tombstone}
+use Rattle.core_index.specs.Records.{KeyRecord, live_version, is_tombstone}
 use Rattle.core_index.specs.Slots.{Place}
 use Rattle.core_index.specs.Lives.{entry_version, entry_home, live_key, live_at, valued, valued_by, body_in, KeysRise}
-use Rattle.core_index.specs.Starts.{started}
+use Rattle.core_index.specs.Lones.{lones}
+use Rattle.core_index.specs.Starts.{started, beside}
 use Rattle.core_index.specs.Listing.{version_by, version_left, start_names}
 use Rattle.core_index.specs.Noted.{name_with}
 use Rattle.core_index.specs.Index.{place_at, known_in, known_at, live_name, live_names}
@@ -28,7 +30,8 @@ use Rattle.core_index.proofs.StepLaws.{apart}
 use Rattle.core_index.proofs.TombLaws.{none_live}
 use Rattle.core_index.proofs.LiveLaws.{no_tombstone}
 use Rattle.core_index.proofs.OverLaws.{first_place, some_of}
-use Rattle.core_index.proofs.StartLaws.{known_live, known_deleted}
+use Rattle.core_index.proofs.LoneLaws.{known_live, known_deleted}
+use Rattle.core_index.proofs.StartLaws.{start_keeps}
 
 abbrev Among : List EntryName → EntryName → Type 0
 Among [] n = ⊥
@@ -271,34 +274,41 @@ listed_started es (x ∷ xs) k v rises has = ⊎_elim
       new = ap (place_at es) (sym e) ∙ at;
     }
 
-pub names_live : (es : List (ℕ × Place)) (a : StartKeys) (k v : ℕ) → IsStrictlySortedBy nat_cmp (keys_of es) → KeysRise a.live.items → Among (live_names es ++ start_names es a.live.items) (name_with k v) → live_version (known_at (es ++ started a) k) ≡ Some v
+live_keeps : (v : Option ℕ) (t : Tombstone) (o : Option KeyRecord) → live_version o ≡ v → live_version (beside t o) ≡ v
+live_keeps v t None is = is
+live_keeps v t (Some r) is = is
+
+start_live : (a : StartKeys) (k : ℕ) → live_version (known_at (started a) k) ≡ live_version (known_at (lones a.lone) k)
+start_live a k = start_keeps (λ (o : Option KeyRecord). live_version o ≡ live_version (known_at (lones a.lone) k)) a k (live_keeps (live_version (known_at (lones a.lone) k))) refl
+
+pub names_live : (es : List (ℕ × Place)) (a : StartKeys) (k v : ℕ) → IsStrictlySortedBy nat_cmp (keys_of es) → KeysRise a.lone.live.items → Among (live_names es ++ start_names es a.lone.live.items) (name_with k v) → live_version (known_at (es ++ started a) k) ≡ Some v
 names_live es a k v sorted rises has = ⊎_elim
     (λ (own : Among (live_names es) (name_with k v)).
     let is = lists es k v sorted own in
     let there = some_of (place_at es k) (place_lives (place_at es k) v is) in
     ap (λ (o : Option Place). live_version (known_in o)) (first_place es (started a) k (Some there.0) there.1) ∙ ap (λ (o : Option Place). live_version (known_in o)) (sym there.1) ∙ is)
-    (λ (rest : Among (start_names es a.live.items) (name_with k v)).
-    let is = listed_started es a.live.items k v rises rest in
-    ap (λ (o : Option Place). live_version (known_in o)) (first_place es (started a) k None is.new) ∙ ap live_version (known_live a k is.found is.has) ∙ live_valued a.live.bytes is.found ∙ is.version)
-    (among_parts (live_names es) (start_names es a.live.items) (name_with k v) has)
+    (λ (rest : Among (start_names es a.lone.live.items) (name_with k v)).
+    let is = listed_started es a.lone.live.items k v rises rest in
+    ap (λ (o : Option Place). live_version (known_in o)) (first_place es (started a) k None is.new) ∙ start_live a k ∙ ap live_version (known_live a.lone k is.found is.has) ∙ live_valued a.lone.live.bytes is.found ∙ is.version)
+    (among_parts (live_names es) (start_names es a.lone.live.items) (name_with k v) has)
 
-pub live_names_all : (es : List (ℕ × Place)) (a : StartKeys) (k v : ℕ) → live_version (known_at (es ++ started a) k) ≡ Some v → Among (live_names es ++ start_names es a.live.items) (name_with k v)
-live_names_all es a k v is = by (place_at es k) refl (live_at a.live.items k) refl
+pub live_names_all : (es : List (ℕ × Place)) (a : StartKeys) (k v : ℕ) → live_version (known_at (es ++ started a) k) ≡ Some v → Among (live_names es ++ start_names es a.lone.live.items) (name_with k v)
+live_names_all es a k v is = by (place_at es k) refl (live_at a.lone.live.items k) refl
   where
-    by : (o : Option Place) → place_at es k ≡ o → (q : Option LiveKey) → q ≡ live_at a.live.items k → Among (live_names es ++ start_names es a.live.items) (name_with k v)
-    by (Some p) at q found = among_left (live_names es) (start_names es a.live.items) (name_with k v) (listed es k v (ap (λ (o : Option Place). live_version (known_in o)) at ∙ sym (ap (λ (o : Option Place). live_version (known_in o)) (first_place es (started a) k (Some p) at)) ∙ is))
-    by None at (Some x) found = among_right (live_names es) (start_names es a.live.items) (name_with k v) (started_listed es a.live.items k v (record {
+    by : (o : Option Place) → place_at es k ≡ o → (q : Option LiveKey) → q ≡ live_at a.lone.live.items k → Among (live_names es ++ start_names es a.lone.live.items) (name_with k v)
+    by (Some p) at q found = among_left (live_names es) (start_names es a.lone.live.items) (name_with k v) (listed es k v (ap (λ (o : Option Place). live_version (known_in o)) at ∙ sym (ap (λ (o : Option Place). live_version (known_in o)) (first_place es (started a) k (Some p) at)) ∙ is))
+    by None at (Some x) found = among_right (live_names es) (start_names es a.lone.live.items) (name_with k v) (started_listed es a.lone.live.items k v (record {
       found = x;
       has = found;
-      version = sym (ap (λ (o : Option Place). live_version (known_in o)) (first_place es (started a) k None at) ∙ ap live_version (known_live a k x found) ∙ live_valued a.live.bytes x) ∙ is;
+      version = sym (ap (λ (o : Option Place). live_version (known_in o)) (first_place es (started a) k None at) ∙ start_live a k ∙ ap live_version (known_live a.lone k x found) ∙ live_valued a.lone.live.bytes x) ∙ is;
       new = at;
     }))
-    by None at None found = let none : live_version (known_at (es ++ started a) k) ≡ None = ap (λ (o : Option Place). live_version (known_in o)) (first_place es (started a) k None at) ∙ ap live_version (known_deleted a k found) ∙ none_live a.deleted.items k in absurd (cc (none, is))
+    by None at None found = let none : live_version (known_at (es ++ started a) k) ≡ None = ap (λ (o : Option Place). live_version (known_in o)) (first_place es (started a) k None at) ∙ start_live a k ∙ ap live_version (known_deleted a.lone k found) ∙ none_live a.lone.deleted.items k in absurd (cc (none, is))
 
-pub sorted_each : (es : List (ℕ × Place)) (a : StartKeys) (ms ns : List EntryName) (k v : ℕ) → IsStrictlySortedBy nat_cmp (keys_of es) → KeysRise a.live.items → ms ≡ live_names es ++ start_names es a.live.items → IsPermutation ms ns → (Contains ns (name_with k v) → live_version (known_at (es ++ started a) k) ≡ Some v) × (live_version (known_at (es ++ started a) k) ≡ Some v → Contains ns (name_with k v))
+pub sorted_each : (es : List (ℕ × Place)) (a : StartKeys) (ms ns : List EntryName) (k v : ℕ) → IsStrictlySortedBy nat_cmp (keys_of es) → KeysRise a.lone.live.items → ms ≡ live_names es ++ start_names es a.lone.live.items → IsPermutation ms ns → (Contains ns (name_with k v) → live_version (known_at (es ++ started a) k) ≡ Some v) × (live_version (known_at (es ++ started a) k) ≡ Some v → Contains ns (name_with k v))
 sorted_each es a ms ns k v sorted rises is moved = (
   λ has. names_live es a k v sorted rises (subst (λ (xs : List EntryName). Among xs (name_with k v)) is (contains_among ms (name_with k v) (Contains-permutation ns ms (name_with k v) (IsPermutation-sym ms ns moved) has))),
-  λ lives. Contains-permutation ms ns (name_with k v) moved (subst (λ (xs : List EntryName). Contains xs (name_with k v)) (sym is) (among_contains (live_names es ++ start_names es a.live.items) (name_with k v) (live_names_all es a k v lives))),
+  λ lives. Contains-permutation ms ns (name_with k v) moved (subst (λ (xs : List EntryName). Contains xs (name_with k v)) (sym is) (among_contains (live_names es ++ start_names es a.lone.live.items) (name_with k v) (live_names_all es a k v lives))),
 )
 
 pub start_step : (es : List (ℕ × Place)) (xs : List LiveKey) (i : ℕ) (d : LiveKey) (old names new : List EntryName) → i < length xs → names ≡ old ++ start_names es (take i xs) → new ≡ names ++ live_name (live_key (get_or xs i d)) (version_left es (get_or xs i d)) → new ≡ old ++ start_names es (take (i + 1) xs)

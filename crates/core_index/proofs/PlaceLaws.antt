@@ -1,5 +1,5 @@
 -- The map of keys beside the keys of the start.
-use Rattle.std.proofs.Common.{◌≡◌, ◌≢◌, inl, inr, ⊎_elim, ℕ, ◌+◌, ◌-◌, ◌*◌, ◌<◌, ◌≤◌, true, List, Option, Some, None, option_map, refl, sym, ◌∙◌, ap, subst, arith}
+use Rattle.std.proofs.Common.{◌≡◌, ◌≢◌, ◌⊎◌, inl, inr, ⊎_elim, ℕ, ◌+◌, ◌-◌, ◌*◌, ◌<◌, ◌≤◌, true, List, Option, Some, None, option_map, refl, sym, ◌∙◌, ap, subst, arith}
 use Rattle.std.specs.Prelude.{is_some, IfSome, IsTrue}
 use Rattle.std.proofs.lemmas.Bool.{cases_eq}
 use Rattle.log_entry.specs.declared.entry.EntryName.{EntryName}
@@ -9,10 +9,12 @@ use Rattle.core_index.specs.declared.types.TheConstants.{NAMES_OF_CHANGE}
 use Rattle.core_index.specs.Records.{KeyRecord, Awaits, settled, told_in, without, is_forgettable}
 use Rattle.core_index.specs.Slots.{Place, mortal, lone_deaths, OnlyDead, standee_with}
 use Rattle.core_index.specs.declared.start_keys.StartKeys.{StartKeys}
-use Rattle.core_index.specs.Starts.{started}
-use Rattle.core_index.specs.Index.{IsCompact, place_at, known_in, room_in, known_at, room_at, mortal_in, untold_of, untold_by, all_untold, over, all_places, gone_place, Step, Changes, SameRoom, ToldAt, StartTurns, Forgets, GivesBack, Admits}
+use Rattle.core_index.specs.Noted.{name_with}
+use Rattle.core_index.specs.Starts.{started, IsAhead}
+use Rattle.core_index.specs.Index.{IsCompact, place_at, known_in, room_in, known_at, room_at, mortal_in, untold_of, untold_by, all_untold, over, all_places, gone_place, Step, Changes, SameRoom, ToldAt, StartTurns, Forgets, GivesBack, Admits, DeadOrAhead}
 use Rattle.core_index.proofs.OverLaws.{place_both, untold_both, some_of}
-use Rattle.core_index.proofs.StartLaws.{start_no_room, start_calm, live_found}
+use Rattle.core_index.proofs.LoneLaws.{live_found}
+use Rattle.core_index.proofs.StartLaws.{start_no_room}
 use Rattle.core_index.proofs.LiveLaws.{less_absent}
 use Rattle.core_index.proofs.StandingLaws.{count_added, fewer_others}
 use Rattle.log_entry.specs.declared.entry.Body.{Body}
@@ -207,8 +209,7 @@ admits_moved es fs a b k p none is step turns fewer =
           let sum = step.count in
           let old : mortal_in (place_at es k) ≡ 0 = ap mortal_in none in
           let new : mortal_in (Some p) ≡ NAMES_OF_CHANGE * 1 + lone_deaths (known_at (started a) k) = ap mortal is in
-          let none_dies = start_calm a k in
-          omega (arith, sum, old, new, none_dies);
+          omega (arith, sum, old, new);
       untold =
           let sum = step.untold in
           let old : untold_of (place_at es k) ≡ 0 = ap untold_of none in
@@ -224,25 +225,32 @@ forgets_none es k none = record { here = ap known_in none; others = λ j ne. ref
 pub forgettable_there : (es : List (ℕ × Place)) (a : StartKeys) (k : ℕ) → IsTrue (is_forgettable (known_at (all_places es a) k)) → is_some (place_at es k) ≡ true → IsTrue (is_forgettable (known_at es k))
 forgettable_there es a k is some = let there = some_of (place_at es k) some in subst (λ (o : Option KeyRecord). IsTrue (is_forgettable o)) (known_there es a k there.0 there.1) is
 
--- who dies by an entry that is gone from one part
-pub only_there : (es fs : List (ℕ × Place)) (a : StartKeys) (k v : ℕ) (p : Place) (dead : Option Standee) → place_at es k ≡ Some p → Step es fs k (option_map (gone_place v) (place_at es k)) → OnlyDead (known_at es k) (known_at fs k) dead → OnlyDead (known_at (all_places es a) k) (known_at (all_places fs a) k) dead
-only_there es fs a k v p dead at step only = λ w home after.
+-- Who dies by an entry that is gone from one part.
+
+pub only_or : (a : StartKeys) (k : ℕ) (old new : Option KeyRecord) (dead : Option Standee) → OnlyDead old new dead → DeadOrAhead a k old new dead
+only_or a k old new dead only v home waits = ⊎_elim (λ (was : Awaits old home v). inl was) (λ (died : dead ≡ Some (standee_with v home)). inr (inl died)) (only v home waits)
+
+pub only_there : (es fs : List (ℕ × Place)) (a : StartKeys) (k v : ℕ) (p : Place) (dead : Option Standee) → place_at es k ≡ Some p → Step es fs k (option_map (gone_place v) (place_at es k)) → OnlyDead (known_at es k) (known_at fs k) dead → DeadOrAhead a k (known_at (all_places es a) k) (known_at (all_places fs a) k) dead
+only_there es fs a k v p dead at step only = only_or a k (known_at (all_places es a) k) (known_at (all_places fs a) k) dead (λ w home after.
     let here : place_at fs k ≡ Some (gone_place v p) = step.here ∙ ap (option_map (gone_place v)) at in
     let was = known_there es a k p at in
     let now = known_there fs a k (gone_place v p) here in
-    ⊎_elim (λ (waits : Awaits (known_at es k) home w). inl (subst (λ (o : Option KeyRecord). Awaits o home w) (sym was) waits)) (λ (died : dead ≡ Some (standee_with w home)). inr died) (only w home (subst (λ (o : Option KeyRecord). Awaits o home w) now after))
+    ⊎_elim (λ (waits : Awaits (known_at es k) home w). inl (subst (λ (o : Option KeyRecord). Awaits o home w) (sym was) waits)) (λ (died : dead ≡ Some (standee_with w home)). inr died) (only w home (subst (λ (o : Option KeyRecord). Awaits o home w) now after)))
 
-pub only_else : (es : List (ℕ × Place)) (a b : StartKeys) (k : ℕ) (dead : Option Standee) → place_at es k ≡ None → ((home v : ℕ) → Awaits (known_at (started b) k) home v → Awaits (known_at (started a) k) home v) → OnlyDead (known_at (all_places es a) k) (known_at (all_places es b) k) dead
-only_else es a b k dead none kept = λ w home after.
-    inl (subst (λ (o : Option KeyRecord). Awaits o home w) (sym (known_else es a k none)) (kept home w (subst (λ (o : Option KeyRecord). Awaits o home w) (known_else es b k none) after)))
+pub only_else : (es : List (ℕ × Place)) (a b : StartKeys) (k : ℕ) (dead : Option Standee) → place_at es k ≡ None → ((home v : ℕ) → Awaits (known_at (started b) k) home v → Awaits (known_at (started a) k) home v ⊎ IsAhead b home (name_with k v)) → DeadOrAhead b k (known_at (all_places es a) k) (known_at (all_places es b) k) dead
+only_else es a b k dead none kept = λ w home after. ⊎_elim
+    (λ (was : Awaits (known_at (started a) k) home w). inl (subst (λ (o : Option KeyRecord). Awaits o home w) (sym (known_else es a k none)) was))
+    (λ (far : IsAhead b home (name_with k w)). inr (inr far))
+    (kept home w (subst (λ (o : Option KeyRecord). Awaits o home w) (known_else es b k none) after))
 
 -- what fits into the list of deleted keys
-pub all_fit : (r : Option Tombstone) (es : List (ℕ × Place)) (a : StartKeys) (k v : ℕ) (known : KeyRecord) → place_at es k ≡ None → AllLess a.live.items k → AreLess a.deleted.items k → IfSome r (λ t. key_of t ≡ k) → IfSome r (λ t. tomb_home t < 16) → IfSome r (λ t. left_of t ≡ Some known) → IfSome r (λ t. tomb_version t ≡ v) → IfSome r (IsCompact es a k v known)
-all_fit None es a k v known new apart above key home left version = tt
-all_fit (Some t) es a k v known new apart above key home left version = record {
+pub all_fit : (r : Option Tombstone) (es : List (ℕ × Place)) (a : StartKeys) (k v : ℕ) (known : KeyRecord) → place_at es k ≡ None → AllLess a.lone.live.items k → AreLess a.lone.deleted.items k → AreLess a.older.items k → IfSome r (λ t. key_of t ≡ k) → IfSome r (λ t. tomb_home t < 16) → IfSome r (λ t. left_of t ≡ Some known) → IfSome r (λ t. tomb_version t ≡ v) → IfSome r (IsCompact es a k v known)
+all_fit None es a k v known new apart above older key home left version = tt
+all_fit (Some t) es a k v known new apart above older key home left version = record {
   new = new;
-  apart = live_found a k None (sym (less_absent a.live.items k apart));
+  apart = live_found a.lone k None (sym (less_absent a.lone.live.items k apart));
   above = above;
+  above_older = older;
   key = key;
   home = home;
   version = version;

@@ -1,323 +1,238 @@
--- The slots of all keys in one list.
-use Rattle.std.proofs.Common.{◌≡◌, ◌≢◌, ⊎_elim, ℕ, ◌+◌, ◌<◌, ◌≤◌, ◌==◌, nat_lt, Bool, true, false, cond, List, [], ◌∷◌, ◌++◌, length, get_or, slice_set, Option, Some, None, option_map, refl, sym, ◌∙◌, ap, subst, arith}
-use Rattle.std.specs.Prelude.{IfNone, IfSome, IsSome}
-use Rattle.std.specs.BTreeMap.{is_at, insert_entry}
-use Rattle.std.specs.Cmp.{unsigned_tied, nat_cmp_total}
+-- The slots of all keys by rising key, whatever the order in which a map keeps them.
+use Rattle.std.proofs.Common.{◌≡◌, ◌≢◌, ⊎_elim, ℕ, ◌&&◌, nat_eq, Bool, true, false, cond, List, [], ◌∷◌, ◌++◌, Bor, Option, Some, None, refl, sym, ◌∙◌, ap, subst}
+use Rattle.std.specs.Prelude.{T, IfSome, IsSome, is_some}
+use Rattle.std.specs.Option.{option_copied}
+use Rattle.std.specs.HashMap.{HashMap, get_by, UpdatesBy, WritesThrough}
 use Rattle.std.proofs.lemmas.Cmp.{eq_by_cmp_equiv}
-use Rattle.std.specs.Map.{keys_of, lookup, set_value, remove_entry}
-use Rattle.std.specs.List.{AllByRecursion}
-use Rattle.std.specs.List.Sorted.{IsStrictlySortedBy}
-use Rattle.std.specs.Ordering.{nat_cmp, is_eq, match_ordering}
+use Rattle.std.proofs.lemmas.Map.{lookup-remove_entry}
+use Rattle.std.proofs.lemmas.Map.Steps.{set_value_same}
+use Rattle.std.proofs.lemmas.Map.Keys.{IsDistinct-from_sorted, IsDistinct-head, IsDistinct-tail}
+use Rattle.std.specs.Ordering.{nat_cmp, is_eq, is_lt, match_ordering}
 use Rattle.std.specs.declared.cmp.Ordering.{Ordering}
 use Rattle.std.specs.declared.cmp.Ordering.TheVariants.{Less, Equal, Greater}
-use Rattle.std.proofs.lemmas.Bool.{eqb-true, eq-eqb, ne_eqb, le-ltb, cond-true, cond-false, cases_eq, cases_lt}
-use Rattle.std.proofs.lemmas.Map.{lookup-set_value}
-use Rattle.std.proofs.lemmas.List.{get_or-set_same, get_or-set_other, length-set, set-get_or}
+use Rattle.std.specs.Cmp.{unsigned_tied, nat_cmp_total}
+use Rattle.std.specs.BTreeMap.{is_at, insert_entry}
+use Rattle.std.specs.FinMap.{entries, from_entries, entries_sorted, get-entries, get-from_entries, entries-insert, nat_cmp-IsAntisymmetric, find, put, is_sorted}
+use Rattle.std.specs.FinMap.Entries.{same_entries, is_sorted-put, find-put, by_order, below_all}
+use Rattle.std.specs.List.{AllByRecursion, IsDistinct}
+use Rattle.std.specs.List.Sorted.{IsPermutation, IsStrictlySortedBy}
+use Rattle.std.proofs.lemmas.List.{append_assoc}
+use Rattle.std.proofs.lemmas.List.Sorted.{IsPermutation-refl, IsPermutation-sym, IsPermutation-trans, IsPermutation-append_left, IsPermutation-append_right, IsPermutation-append_comm}
+use Rattle.log_entry.specs.declared.entry.EntryName.{EntryName}
+use Rattle.core_index.specs.Records.{live_version}
+use Rattle.std.specs.Map.{keys_of, lookup, remove_entry}
+use Rattle.std.proofs.lemmas.Bool.{eqb-true, eq-eqb, ne_eqb, cond-true, cond-false, cases_eq}
 use Rattle.core_index.specs.Slots.{Place}
-use Rattle.core_index.specs.Slabs.{bare, slots_at, one_at, count_keys, count_free, IsSlab}
-use Rattle.core_index.specs.Index.{place_at, Step}
-use Rattle.core_index.proofs.StepLaws.{step_set, step_insert, step_remove}
+use Rattle.core_index.specs.Slabs.{by_key}
+use Rattle.core_index.specs.Index.{place_at, live_name, live_names, Step}
+use Rattle.core_index.proofs.StepLaws.{step_insert, step_remove}
 
--- What stands in the map of places.
+-- What a search finds.
 
-pub found_slot : (xs : List Place) (es : List (ℕ × ℕ)) (test : ℕ → Bool) → lookup test (slots_at xs es) ≡ option_map (λ i. get_or xs i bare) (lookup test es)
-found_slot xs [] test = refl
-found_slot xs (e ∷ es) test = by (test e.0) (found_slot xs es test)
+finds : (es : List (ℕ × Place)) (k : ℕ) → find nat_cmp k es ≡ place_at es k
+finds [] k = refl
+finds (e ∷ es) k = ap (cond (is_eq (nat_cmp k e.0)) (Some e.1)) (finds es k)
+
+looks : (es : List (ℕ × Place)) (k : ℕ) → place_at es k ≡ lookup (nat_eq k) es
+looks [] k = refl
+looks (e ∷ es) k = λ i. cond (unsigned_tied k e.0 i) (Some e.1) (looks es k i)
+
+pub found_by_key : (es : List (ℕ × Place)) (k : ℕ) → place_at (by_key es) k ≡ lookup (nat_eq k) es
+unfolding by_key
+found_by_key es k = sym (finds (entries (from_entries {R = nat_cmp} es)) k) ∙ sym (get-entries (from_entries {R = nat_cmp} es) k) ∙ get-from_entries nat_cmp_total es k ∙ finds es k ∙ looks es k
+
+-- Their order.
+
+is_less : (o : Ordering) → T (is_lt o) → o ≡ Less
+is_less Less h = refl
+is_less Equal h = absurd h
+is_less Greater h = absurd h
+
+first : (a b : Bool) → T (a && b) → T a
+first true b h = tt
+first false b h = absurd h
+
+second : (a b : Bool) → T (a && b) → T b
+second true b h = h
+second false b h = absurd h
+
+both : (a b : Bool) → T a → T b → T (a && b)
+both true b p q = q
+both false b p q = p
+
+all_below : (k : ℕ) (es : List (ℕ × Place)) → T (below_all nat_cmp k es) → AllByRecursion (λ y. nat_cmp k y ≡ Less) (keys_of es)
+all_below k [] h = tt
+all_below k (e ∷ es) h = (is_less (nat_cmp k e.0) (first (is_lt (nat_cmp k e.0)) (below_all nat_cmp k es) h), all_below k es (second (is_lt (nat_cmp k e.0)) (below_all nat_cmp k es) h))
+
+sorted_keys : (es : List (ℕ × Place)) → T (is_sorted nat_cmp es) → IsStrictlySortedBy nat_cmp (keys_of es)
+unfolding IsStrictlySortedBy
+sorted_keys [] h = tt
+sorted_keys (e ∷ es) h = (all_below e.0 es (first (below_all nat_cmp e.0 es) (is_sorted nat_cmp es) h), sorted_keys es (second (below_all nat_cmp e.0 es) (is_sorted nat_cmp es) h))
+
+in_order : (es : List (ℕ × Place)) → T (is_sorted nat_cmp (by_key es))
+unfolding by_key
+in_order es = entries_sorted (from_entries {R = nat_cmp} es)
+
+pub sorted_by_key : (es : List (ℕ × Place)) → IsStrictlySortedBy nat_cmp (keys_of (by_key es))
+sorted_by_key es = sorted_keys (by_key es) (in_order es)
+
+-- two such lists in which a search finds the same
+same_found : (es fs : List (ℕ × Place)) → T (is_sorted nat_cmp es) → T (is_sorted nat_cmp fs) → ((q : ℕ) → place_at es q ≡ place_at fs q) → es ≡ fs
+same_found es fs one two same = same_entries nat_cmp nat_cmp_total nat_cmp-IsAntisymmetric es fs one two (λ q. finds es q ∙ same q ∙ sym (finds fs q))
+
+pub none_by_key : by_key [] ≡ []
+none_by_key = same_found (by_key []) [] (in_order []) tt (λ q. found_by_key [] q)
+
+-- A key that gets a slot.
+
+put_in : (es : List (ℕ × Place)) (k : ℕ) (w : Place) → insert_entry nat_cmp es k w ≡ put nat_cmp k w es
+put_in [] k w = refl
+put_in (e ∷ es) k w = by (nat_cmp k e.0) (put_in es k w)
   where
-    by : (b : Bool) → lookup test (slots_at xs es) ≡ option_map (λ i. get_or xs i bare) (lookup test es) → cond b (Some (get_or xs e.1 bare)) (lookup test (slots_at xs es)) ≡ option_map (λ i. get_or xs i bare) (cond b (Some e.1) (lookup test es))
-    by true rest = refl
-    by false rest = rest
+    by : (o : Ordering) → insert_entry nat_cmp es k w ≡ put nat_cmp k w es → match_ordering o ((k, w) ∷ e ∷ es) ((e.0, w) ∷ es) (e ∷ insert_entry nat_cmp es k w) ≡ by_order o ((k, w) ∷ e ∷ es) ((e.0, w) ∷ es) (e ∷ put nat_cmp k w es)
+    by Less rest = refl
+    by Equal rest = refl
+    by Greater rest = ap (λ (s : List (ℕ × Place)). e ∷ s) rest
 
-pub same_keys : (xs : List Place) (es : List (ℕ × ℕ)) → keys_of (slots_at xs es) ≡ keys_of es
-same_keys xs [] = refl
-same_keys xs (e ∷ es) = ap (λ (ks : List ℕ). e.0 ∷ ks) (same_keys xs es)
+flips : (k q : ℕ) → is_at (nat_cmp q) k ≡ is_at (nat_cmp k) q
+flips k q = ⊎_elim
+    (λ (e : k ≡ q). unsigned_tied q k ∙ eq-eqb q k (sym e) ∙ sym (unsigned_tied k q ∙ eq-eqb k q e))
+    (λ (ne : k ≢ q). unsigned_tied q k ∙ ne_eqb q k (λ e. ne (sym e)) ∙ sym (unsigned_tied k q ∙ ne_eqb k q ne))
+    (cases_eq k q)
 
-one_here : (i j : ℕ) → j ≡ i → one_at i j ≡ 1
-one_here i j is = cond-true {A = ℕ} (j == i) 1 0 (eq-eqb j i is)
+-- The key has this in the second list, and every other key what it has in the first.
+abbrev Gets : List (ℕ × Place) → List (ℕ × Place) → ℕ → Option Place → Type 0
+Gets es fs k w = (q : ℕ) → lookup (nat_eq q) fs ≡ cond (nat_eq k q) w (lookup (nat_eq q) es)
 
-one_else : (i j : ℕ) → j ≢ i → one_at i j ≡ 0
-one_else i j ne = cond-false {A = ℕ} (j == i) 1 0 (ne_eqb j i ne)
+abbrev Turns : List (ℕ × Place) → List (ℕ × Place) → ℕ → Option Place → Type 0
+Turns es fs k w = (q : ℕ) → place_at fs q ≡ cond (is_at (nat_cmp k) q) w (place_at es q)
 
-pub count_found : (es : List (ℕ × ℕ)) (test : ℕ → Bool) (i : ℕ) → lookup test es ≡ Some i → 1 ≤ count_keys i es
-count_found [] test i at = absurd (cc at)
-count_found (e ∷ es) test i at = by (test e.0) (count_found es test i) at
-  where
-    by : (b : Bool) → (lookup test es ≡ Some i → 1 ≤ count_keys i es) → cond b (Some e.1) (lookup test es) ≡ Some i → 1 ≤ one_at i e.1 + count_keys i es
-    by true rest at = let same : e.1 ≡ i = cc at in let one = one_here i e.1 same in omega (arith, one)
-    by false rest at = let le = rest at in omega (arith, le)
+put_found : (es : List (ℕ × Place)) (k : ℕ) (w : Place) → Turns es (insert_entry nat_cmp es k w) k (Some w)
+put_found es k w q = ap (λ (s : List (ℕ × Place)). place_at s q) (put_in es k w) ∙ sym (finds (put nat_cmp k w es) q) ∙ find-put nat_cmp nat_cmp_total q k w es ∙ (λ i. cond (flips k q i) (Some w) (finds es q i))
 
--- A slot that no key has may be any.
+turns : (es fs : List (ℕ × Place)) (k : ℕ) (w : Option Place) → Gets es fs k w → Turns (by_key es) (by_key fs) k w
+turns es fs k w gets q = found_by_key fs q ∙ gets q ∙ (λ i. cond (sym (unsigned_tied k q) i) w (sym (found_by_key es q) i))
 
-pub unused : (xs : List Place) (es : List (ℕ × ℕ)) (i : ℕ) (w : Place) → count_keys i es ≡ 0 → slots_at (slice_set xs i w) es ≡ slots_at xs es
-unused xs [] i w none = refl
-unused xs (e ∷ es) i w none = ⊎_elim
-    (λ (same : e.1 ≡ i). let one = one_here i e.1 same in absurd (omega (arith, one, none)))
-    (λ (ne : e.1 ≢ i).
-    let zero = one_else i e.1 ne in
-    let rest = unused xs es i w (omega (arith, zero, none)) in
-    let here = get_or-set_other xs i e.1 w bare ne in
-    λ n. (e.0, here n) ∷ rest n)
-    (cases_eq e.1 i)
-
--- A slot that is written.
-
-pub wrote : (xs : List Place) (es : List (ℕ × ℕ)) (test : ℕ → Bool) (i : ℕ) (w : Place) → i < length xs → lookup test es ≡ Some i → count_keys i es ≤ 1 → slots_at (slice_set xs i w) es ≡ set_value test (slots_at xs es) w
-wrote xs [] test i w within at one = refl
-wrote xs (e ∷ es) test i w within at one = by (test e.0) (wrote xs es test i w within) (count_found es test i) at
-  where
-    by : (b : Bool) → (lookup test es ≡ Some i → count_keys i es ≤ 1 → slots_at (slice_set xs i w) es ≡ set_value test (slots_at xs es) w) → (lookup test es ≡ Some i → 1 ≤ count_keys i es) → cond b (Some e.1) (lookup test es) ≡ Some i
-        → slots_at (slice_set xs i w) (e ∷ es) ≡ cond b ((e.0, w) ∷ slots_at xs es) ((e.0, get_or xs e.1 bare) ∷ set_value test (slots_at xs es) w)
-    by true rest found at =
-        let same : e.1 ≡ i = cc at in
-        let here : get_or (slice_set xs i w) e.1 bare ≡ w = ap (λ (n : ℕ). get_or (slice_set xs i w) n bare) same ∙ get_or-set_same xs i w bare within in
-        let first = one_here i e.1 same in
-        let none : count_keys i es ≡ 0 = omega (arith, first, one) in
-        let others = unused xs es i w none in
-        λ n. (e.0, here n) ∷ others n
-    by false rest found at =
-        let some = found at in
-        let ne : e.1 ≢ i = λ same. let first = one_here i e.1 same in omega (arith, first, some, one) in
-        let here = get_or-set_other xs i e.1 w bare ne in
-        let others = rest at (omega (arith, one)) in
-        λ n. (e.0, here n) ∷ others n
+pub put_by_key : (es fs : List (ℕ × Place)) (k : ℕ) (w : Place) → Gets es fs k (Some w) → by_key fs ≡ insert_entry nat_cmp (by_key es) k w
+put_by_key es fs k w gets = same_found (by_key fs) (insert_entry nat_cmp (by_key es) k w) (in_order fs)
+    (subst (λ (s : List (ℕ × Place)). T (is_sorted nat_cmp s)) (sym (put_in (by_key es) k w)) (is_sorted-put nat_cmp nat_cmp_total k w (by_key es) (in_order es)))
+    (λ q. turns es fs k (Some w) gets q ∙ sym (put_found (by_key es) k w q))
 
 at_key : (k : ℕ) → is_at (nat_cmp k) k ≡ true
 at_key k = unsigned_tied k k ∙ eq-eqb k k refl
 
+here_of : (es fs : List (ℕ × Place)) (k : ℕ) (w : Option Place) → Turns es fs k w → place_at fs k ≡ w
+here_of es fs k w turn = turn k ∙ cond-true (is_at (nat_cmp k) k) w (place_at es k) (at_key k)
+
+others_of : (es fs : List (ℕ × Place)) (k : ℕ) (w : Option Place) → Turns es fs k w → (q : ℕ) → is_at (nat_cmp k) q ≡ false → place_at fs q ≡ place_at es q
+others_of es fs k w turn q isnt = turn q ∙ cond-false (is_at (nat_cmp k) q) w (place_at es q) isnt
+
+put_step : (es fs : List (ℕ × Place)) (k : ℕ) (w : Place) → Gets es fs k (Some w) → Step (by_key es) (by_key fs) k (Some w)
+put_step es fs k w gets =
+    let turn = turns es fs k (Some w) gets in
+    step_insert (by_key es) (by_key fs) k w (sorted_by_key es) (put_by_key es fs k w gets) (here_of (by_key es) (by_key fs) k (Some w) turn) (others_of (by_key es) (by_key fs) k (Some w) turn)
+
+-- The names of live keys do not depend on the order.
+
+moved_on : (own head rest more : List EntryName) → IsPermutation (own ++ rest) more → IsPermutation (own ++ (head ++ rest)) (head ++ more)
+moved_on own head rest more moved =
+    let swapped = IsPermutation-append_left rest (own ++ head) (head ++ own) (IsPermutation-append_comm own head) in
+    let parted = subst (λ (ns : List EntryName). IsPermutation ns ((head ++ own) ++ rest)) (append_assoc own head rest) swapped in
+    let joined = subst (IsPermutation (own ++ (head ++ rest))) (append_assoc head own rest) parted in
+    IsPermutation-trans (own ++ (head ++ rest)) (head ++ (own ++ rest)) (head ++ more) joined (IsPermutation-append_right head (own ++ rest) more moved)
+
+put_names : (es : List (ℕ × Place)) (k : ℕ) (w : Place) → place_at es k ≡ None → IsPermutation (live_name k (live_version w.known) ++ live_names es) (live_names (insert_entry nat_cmp es k w))
+put_names [] k w none = IsPermutation-refl (live_name k (live_version w.known) ++ [])
+put_names (e ∷ es) k w none = by (nat_cmp k e.0) (put_names es k w) none
+  where
+    by : (o : Ordering) → (place_at es k ≡ None → IsPermutation (live_name k (live_version w.known) ++ live_names es) (live_names (insert_entry nat_cmp es k w))) → cond (is_eq o) (Some e.1) (place_at es k) ≡ None
+        → IsPermutation (live_name k (live_version w.known) ++ live_names (e ∷ es)) (live_names (match_ordering o ((k, w) ∷ e ∷ es) ((e.0, w) ∷ es) (e ∷ insert_entry nat_cmp es k w)))
+    by Less rest at = IsPermutation-refl (live_name k (live_version w.known) ++ live_names (e ∷ es))
+    by Equal rest at = absurd (cc at)
+    by Greater rest at = moved_on (live_name k (live_version w.known)) (live_name e.0 (live_version e.1.known)) (live_names es) (live_names (insert_entry nat_cmp es k w)) (rest at)
+
+not_found : (k : ℕ) (es : List (ℕ × Place)) → AllByRecursion (λ y. nat_eq k y ≡ false) (keys_of es) → lookup (nat_eq k) es ≡ None
+not_found k [] none = refl
+not_found k (e ∷ es) none = cond-false (nat_eq k e.0) (Some e.1) (lookup (nat_eq k) es) none.0 ∙ not_found k es none.1
+
+first_by_key : (e : ℕ × Place) (es : List (ℕ × Place)) → by_key (e ∷ es) ≡ insert_entry nat_cmp (by_key es) e.0 e.1
+unfolding by_key
+first_by_key e es = entries-insert nat_cmp_total (from_entries {R = nat_cmp} es) e.0 e.1 ∙ sym (put_in (entries (from_entries {R = nat_cmp} es)) e.0 e.1)
+
+pub names_by_key : (es : List (ℕ × Place)) → IsDistinct nat_eq (keys_of es) → IsPermutation (live_names (by_key es)) (live_names es)
+names_by_key [] once = subst (λ (fs : List (ℕ × Place)). IsPermutation (live_names fs) []) (sym none_by_key) (IsPermutation-refl [])
+names_by_key (e ∷ es) once =
+    let own = live_name e.0 (live_version e.1.known) in
+    let new : place_at (by_key es) e.0 ≡ None = found_by_key es e.0 ∙ not_found e.0 es (IsDistinct-head nat_eq e.0 (keys_of es) once) in
+    let rest = IsPermutation-append_right own (live_names (by_key es)) (live_names es) (names_by_key es (IsDistinct-tail nat_eq e.0 (keys_of es) once)) in
+    let put : IsPermutation (own ++ live_names (by_key es)) (live_names (by_key (e ∷ es))) = subst (λ (fs : List (ℕ × Place)). IsPermutation (own ++ live_names (by_key es)) (live_names fs)) (sym (first_by_key e es)) (put_names (by_key es) e.0 e.1 new) in
+    IsPermutation-trans (live_names (by_key (e ∷ es))) (own ++ live_names (by_key es)) (own ++ live_names es) (IsPermutation-sym (own ++ live_names (by_key es)) (live_names (by_key (e ∷ es))) put) rest
+
+-- A key that is taken out.
+
+less_below : (k : ℕ) (test : ℕ → Bool) (es : List (ℕ × Place)) → T (below_all nat_cmp k es) → T (below_all nat_cmp k (remove_entry test es))
+less_below k test [] h = tt
+less_below k test (e ∷ es) h = by (test e.0) (less_below k test es (second (is_lt (nat_cmp k e.0)) (below_all nat_cmp k es) h))
+  where
+    by : (b : Bool) → T (below_all nat_cmp k (remove_entry test es)) → T (below_all nat_cmp k (cond b es (e ∷ remove_entry test es)))
+    by true rest = second (is_lt (nat_cmp k e.0)) (below_all nat_cmp k es) h
+    by false rest = both (is_lt (nat_cmp k e.0)) (below_all nat_cmp k (remove_entry test es)) (first (is_lt (nat_cmp k e.0)) (below_all nat_cmp k es) h) rest
+
+less_sorted : (test : ℕ → Bool) (es : List (ℕ × Place)) → T (is_sorted nat_cmp es) → T (is_sorted nat_cmp (remove_entry test es))
+less_sorted test [] h = tt
+less_sorted test (e ∷ es) h = by (test e.0) (less_sorted test es (second (below_all nat_cmp e.0 es) (is_sorted nat_cmp es) h))
+  where
+    by : (b : Bool) → T (is_sorted nat_cmp (remove_entry test es)) → T (is_sorted nat_cmp (cond b es (e ∷ remove_entry test es)))
+    by true rest = second (below_all nat_cmp e.0 es) (is_sorted nat_cmp es) h
+    by false rest = both (below_all nat_cmp e.0 (remove_entry test es)) (is_sorted nat_cmp (remove_entry test es)) (less_below e.0 test es (first (below_all nat_cmp e.0 es) (is_sorted nat_cmp es) h)) rest
+
 one_key : (k x y : ℕ) → is_at (nat_cmp k) x ≡ true → is_at (nat_cmp k) y ≡ is_at (nat_cmp x) y
 one_key k x y is = ap (λ (n : ℕ). is_at (nat_cmp n) y) (eqb-true k x (sym (unsigned_tied k x) ∙ is))
 
-set_step : (es fs : List (ℕ × Place)) (k : ℕ) (v w : Place) → place_at es k ≡ Some v → fs ≡ set_value (is_at (nat_cmp k)) es w → Step es fs k (Some w)
-set_step es fs k v w at is = step_set es fs k v w at is (find k ∙ cond-true (is_at (nat_cmp k) k) (Some w) (place_at es k) (at_key k)) (λ q isnt. find q ∙ cond-false (is_at (nat_cmp k) q) (Some w) (place_at es q) isnt)
-  where
-    find : (q : ℕ) → place_at fs q ≡ cond (is_at (nat_cmp k) q) (Some w) (place_at es q)
-    find q = ap (λ (xs : List (ℕ × Place)). place_at xs q) is ∙ lookup-set_value (eq_by_cmp_equiv nat_cmp_total) (is_at (nat_cmp k)) (one_key k) q w es (some_at (place_at es k) at)
-      where
-        some_at : (o : Option Place) → o ≡ Some v → IsSome o
-        some_at None at = absurd (cc at)
-        some_at (Some p) at = refl
+taken_found : (es : List (ℕ × Place)) (k : ℕ) → IsStrictlySortedBy nat_cmp (keys_of es) → Turns es (remove_entry (is_at (nat_cmp k)) es) k None
+taken_found es k sorted q = lookup-remove_entry (eq_by_cmp_equiv nat_cmp_total) (is_at (nat_cmp k)) (one_key k) q es (IsDistinct-from_sorted nat_cmp (keys_of es) sorted)
 
--- the place of a key is one of the list, and has no other key
-pub place_within : (es : List (ℕ × ℕ)) (xs : List Place) (free : List ℕ) (capacity i : ℕ) (test : ℕ → Bool) → IsSlab es xs free capacity → lookup test es ≡ Some i → i < length xs
-place_within es xs free capacity i test is at =
-    let some = count_found es test i at in
-    let each = is.each i in
-    ⊎_elim (λ (lt : i < length xs). lt) (λ (ge : length xs ≤ i). let none = cond-false {A = ℕ} (nat_lt i (length xs)) 1 0 (le-ltb i (length xs) ge) in absurd (omega (arith, some, each, none))) (cases_lt i (length xs))
+pub taken_by_key : (es fs : List (ℕ × Place)) (k : ℕ) → Gets es fs k None → by_key fs ≡ remove_entry (is_at (nat_cmp k)) (by_key es)
+taken_by_key es fs k gets = same_found (by_key fs) (remove_entry (is_at (nat_cmp k)) (by_key es)) (in_order fs) (less_sorted (is_at (nat_cmp k)) (by_key es) (in_order es))
+    (λ q. turns es fs k None gets q ∙ sym (taken_found (by_key es) k (sorted_by_key es) q))
 
-at_most_one : (n i : ℕ) → cond (nat_lt i n) 1 0 ≤ 1
-at_most_one n i = elim (nat_lt i n) as (λ b. cond b 1 0 ≤ 1) [ true ↦ omega arith | false ↦ omega arith ]
-
-pub place_once : (es : List (ℕ × ℕ)) (xs : List Place) (free : List ℕ) (capacity i : ℕ) → IsSlab es xs free capacity → count_keys i es ≤ 1
-place_once es xs free capacity i is = let each = is.each i in let le = at_most_one (length xs) i in omega (arith, each, le)
-
-pub here_slot : (es : List (ℕ × ℕ)) (xs : List Place) (k i : ℕ) → lookup (is_at (nat_cmp k)) es ≡ Some i → place_at (slots_at xs es) k ≡ Some (get_or xs i bare)
-here_slot es xs k i at = found_slot xs es (is_at (nat_cmp k)) ∙ ap (option_map (λ (n : ℕ). get_or xs n bare)) at
-
-pub none_slot : (es : List (ℕ × ℕ)) (xs : List Place) (k : ℕ) → lookup (is_at (nat_cmp k)) es ≡ None → place_at (slots_at xs es) k ≡ None
-none_slot es xs k none = found_slot xs es (is_at (nat_cmp k)) ∙ ap (option_map (λ (n : ℕ). get_or xs n bare)) none
-
-pub wrote_step : (es : List (ℕ × ℕ)) (xs : List Place) (free : List ℕ) (capacity k i : ℕ) (w : Place) → IsSlab es xs free capacity → lookup (is_at (nat_cmp k)) es ≡ Some i → Step (slots_at xs es) (slots_at (slice_set xs i w) es) k (Some w)
-wrote_step es xs free capacity k i w is at = set_step (slots_at xs es) (slots_at (slice_set xs i w) es) k (get_or xs i bare) w (here_slot es xs k i at) (wrote xs es (is_at (nat_cmp k)) i w (place_within es xs free capacity i (is_at (nat_cmp k)) is at) at (place_once es xs free capacity i is))
+taken_step : (es fs : List (ℕ × Place)) (k : ℕ) → Gets es fs k None → Step (by_key es) (by_key fs) k None
+taken_step es fs k gets =
+    let turn = turns es fs k None gets in
+    step_remove (by_key es) (by_key fs) k (taken_by_key es fs k gets) (here_of (by_key es) (by_key fs) k None turn) (others_of (by_key es) (by_key fs) k None turn)
 
 -- The same by what callers see.
 
-pub here : (olds : List (ℕ × Place)) (es : List (ℕ × ℕ)) (xs : List Place) (k i : ℕ) (v : Place) → slots_at xs es ≡ olds → lookup (is_at (nat_cmp k)) es ≡ Some i → v ≡ get_or xs i bare → place_at olds k ≡ Some v
-here olds es xs k i v view at is = ap (λ (s : List (ℕ × Place)). place_at s k) (sym view) ∙ here_slot es xs k i at ∙ ap (λ (p : Place). Some p) (sym is)
+module _ {S : Type 0} (olds : List (ℕ × Place)) (m : HashMap ℕ Place S) (k : ℕ) (view : by_key m.entries ≡ olds) where
+  pub here : (o : Option Place) → get_by (nat_eq k) m ≡ o → place_at olds k ≡ o
+  here o at = ap (λ (s : List (ℕ × Place)). place_at s k) (sym view) ∙ found_by_key m.entries k ∙ at
 
-pub nothing : (olds : List (ℕ × Place)) (es : List (ℕ × ℕ)) (xs : List Place) (k : ℕ) → slots_at xs es ≡ olds → lookup (is_at (nat_cmp k)) es ≡ None → place_at olds k ≡ None
-nothing olds es xs k view none = ap (λ (s : List (ℕ × Place)). place_at s k) (sym view) ∙ none_slot es xs k none
+  pub updated : (n : HashMap ℕ Place S) (w : Place) → UpdatesBy nat_eq (nat_eq k) m n (Some w) → Step olds (by_key n.entries) k (Some w)
+  updated n w updates = subst (λ (s : List (ℕ × Place)). Step s (by_key n.entries) k (Some w)) view (put_step m.entries n.entries k w updates.0)
 
-pub wrote_value : (olds : List (ℕ × Place)) (es : List (ℕ × ℕ)) (xs : List Place) (free : List ℕ) (room k i : ℕ) (w : Place) → IsSlab es xs free room → slots_at xs es ≡ olds → lookup (is_at (nat_cmp k)) es ≡ Some i → slots_at (slice_set xs i w) es ≡ set_value (is_at (nat_cmp k)) olds w
-wrote_value olds es xs free room k i w is view at = wrote xs es (is_at (nat_cmp k)) i w (place_within es xs free room i (is_at (nat_cmp k)) is at) at (place_once es xs free room i is) ∙ ap (λ (s : List (ℕ × Place)). set_value (is_at (nat_cmp k)) s w) view
+  pub taken : (n : HashMap ℕ Place S) → UpdatesBy nat_eq (nat_eq k) m n None → Step olds (by_key n.entries) k None
+  taken n updates = subst (λ (s : List (ℕ × Place)). Step s (by_key n.entries) k None) view (taken_step m.entries n.entries k updates.0)
 
-pub stepped : (olds : List (ℕ × Place)) (es : List (ℕ × ℕ)) (xs : List Place) (free : List ℕ) (room k i : ℕ) (w : Place) → IsSlab es xs free room → slots_at xs es ≡ olds → lookup (is_at (nat_cmp k)) es ≡ Some i → Step olds (slots_at (slice_set xs i w) es) k (Some w)
-stepped olds es xs free room k i w is view at = subst (λ (s : List (ℕ × Place)). Step s (slots_at (slice_set xs i w) es) k (Some w)) view (wrote_step es xs free room k i w is at)
+  pub taken_entries : (n : HashMap ℕ Place S) → UpdatesBy nat_eq (nat_eq k) m n None → by_key n.entries ≡ remove_entry (is_at (nat_cmp k)) olds
+  taken_entries n updates = taken_by_key m.entries n.entries k updates.0 ∙ ap (remove_entry (is_at (nat_cmp k))) view
 
-pub same_wrote : (olds : List (ℕ × Place)) (es : List (ℕ × ℕ)) (xs : List Place) (i : ℕ) (v w : Place) → slots_at xs es ≡ olds → v ≡ get_or xs i bare → w ≡ v → slots_at (slice_set xs i w) es ≡ olds
-same_wrote olds es xs i v w view is same = ap (λ (p : Place). slots_at (slice_set xs i p) es) (same ∙ is) ∙ ap (λ (ys : List Place). slots_at ys es) (set-get_or xs i bare) ∙ view
+  pub wrote : (n : HashMap ℕ Place S) (v w : Place) → get_by (nat_eq k) m ≡ Some v → WritesThrough nat_eq (nat_eq k) m w n → Step olds (by_key n.entries) k (Some w)
+  wrote n v w at writes = updated n w (writes.3 (some_at (get_by (nat_eq k) m) at))
+    where
+      some_at : (o : Option Place) → o ≡ Some v → IsSome o
+      some_at None at = absurd (cc at)
+      some_at (Some p) at = refl
 
--- A key that gets a free place.
+  pub put_entries : (n : HashMap ℕ Place S) (w : Place) → UpdatesBy nat_eq (nat_eq k) m n (Some w) → by_key n.entries ≡ insert_entry nat_cmp olds k w
+  put_entries n w updates = put_by_key m.entries n.entries k w updates.0 ∙ ap (λ (s : List (ℕ × Place)). insert_entry nat_cmp s k w) view
 
-count_added : (es : List (ℕ × ℕ)) (k n i : ℕ) → lookup (is_at (nat_cmp k)) es ≡ None → count_keys i (insert_entry nat_cmp es k n) ≡ count_keys i es + one_at i n
-count_added [] k n i none = omega arith
-count_added (e ∷ es) k n i none = by (nat_cmp k e.0) (count_added es k n i) none
-  where
-    by : (o : Ordering) → (lookup (is_at (nat_cmp k)) es ≡ None → count_keys i (insert_entry nat_cmp es k n) ≡ count_keys i es + one_at i n) → cond (is_eq o) (Some e.1) (lookup (is_at (nat_cmp k)) es) ≡ None
-        → count_keys i (match_ordering o ((k, n) ∷ e ∷ es) ((e.0, n) ∷ es) (e ∷ insert_entry nat_cmp es k n)) ≡ count_keys i (e ∷ es) + one_at i n
-    by Less rest at = omega arith
-    by Equal rest at = absurd (cc at)
-    by Greater rest at = let more = rest at in omega (arith, more)
+  pub wrote_same : (n : HashMap ℕ Place S) (v w : Place) → get_by (nat_eq k) m ≡ Some v → WritesThrough nat_eq (nat_eq k) m w n → w ≡ v → by_key n.entries ≡ olds
+  wrote_same n v w at writes same = ap by_key (writes.0 ∙ set_value_same (nat_eq k) m.entries w (at ∙ ap (λ (p : Place). Some p) (sym same))) ∙ view
 
-longer : (es : List (ℕ × ℕ)) (k n : ℕ) → lookup (is_at (nat_cmp k)) es ≡ None → length (insert_entry nat_cmp es k n) ≡ length es + 1
-longer [] k n none = refl
-longer (e ∷ es) k n none = by (nat_cmp k e.0) (longer es k n) none
-  where
-    by : (o : Ordering) → (lookup (is_at (nat_cmp k)) es ≡ None → length (insert_entry nat_cmp es k n) ≡ length es + 1) → cond (is_eq o) (Some e.1) (lookup (is_at (nat_cmp k)) es) ≡ None
-        → length (match_ordering o ((k, n) ∷ e ∷ es) ((e.0, n) ∷ es) (e ∷ insert_entry nat_cmp es k n)) ≡ length (e ∷ es) + 1
-    by Less rest at = omega arith
-    by Equal rest at = absurd (cc at)
-    by Greater rest at = let more = rest at in omega (arith, more)
-
-added_slots : (ys : List Place) (es : List (ℕ × ℕ)) (k n : ℕ) → slots_at ys (insert_entry nat_cmp es k n) ≡ insert_entry nat_cmp (slots_at ys es) k (get_or ys n bare)
-added_slots ys [] k n = refl
-added_slots ys (e ∷ es) k n = by (nat_cmp k e.0) (added_slots ys es k n)
-  where
-    by : (o : Ordering) → slots_at ys (insert_entry nat_cmp es k n) ≡ insert_entry nat_cmp (slots_at ys es) k (get_or ys n bare)
-        → slots_at ys (match_ordering o ((k, n) ∷ e ∷ es) ((e.0, n) ∷ es) (e ∷ insert_entry nat_cmp es k n)) ≡ match_ordering o ((k, get_or ys n bare) ∷ slots_at ys (e ∷ es)) ((e.0, get_or ys n bare) ∷ slots_at ys es) ((e.0, get_or ys e.1 bare) ∷ insert_entry nat_cmp (slots_at ys es) k (get_or ys n bare))
-    by Less rest = refl
-    by Equal rest = refl
-    by Greater rest = ap (λ (s : List (ℕ × Place)). (e.0, get_or ys e.1 bare) ∷ s) rest
-
-count_last : (ns : List ℕ) (n i : ℕ) → count_free i (ns ++ n ∷ []) ≡ count_free i ns + one_at i n
-count_last [] n i = omega arith
-count_last (m ∷ ns) n i = let rest = count_last ns n i in omega (arith, rest)
-
-length_last : (ns : List ℕ) (n : ℕ) → length (ns ++ n ∷ []) ≡ length ns + 1
-length_last [] n = refl
-length_last (m ∷ ns) n = let rest = length_last ns n in omega (arith, rest)
-
-one_self : (n : ℕ) → one_at n n ≡ 1
-one_self n = one_here n n refl
-
--- the last free place is in the list, and no key has it
-pub free_within : (es : List (ℕ × ℕ)) (xs : List Place) (free less : List ℕ) (room n : ℕ) → IsSlab es xs free room → free ≡ less ++ n ∷ [] → n < length xs
-free_within es xs free less room n is last =
-    let each = is.each n in
-    let count = ap (count_free n) last ∙ count_last less n n in
-    let one = one_self n in
-    ⊎_elim (λ (lt : n < length xs). lt) (λ (ge : length xs ≤ n). let none = cond-false {A = ℕ} (nat_lt n (length xs)) 1 0 (le-ltb n (length xs) ge) in absurd (omega (arith, each, count, one, none))) (cases_lt n (length xs))
-
-free_unused : (es : List (ℕ × ℕ)) (xs : List Place) (free less : List ℕ) (room n : ℕ) → IsSlab es xs free room → free ≡ less ++ n ∷ [] → count_keys n es ≡ 0
-free_unused es xs free less room n is last =
-    let each = is.each n in
-    let count = ap (count_free n) last ∙ count_last less n n in
-    let one = one_self n in
-    let most = at_most_one (length xs) n in
-    omega (arith, each, count, one, most)
-
-pub added_slab : (es fs : List (ℕ × ℕ)) (xs : List Place) (free less : List ℕ) (room k n : ℕ) (w : Place) → IsSlab es xs free room → free ≡ less ++ n ∷ [] → lookup (is_at (nat_cmp k)) es ≡ None → fs ≡ insert_entry nat_cmp es k n → IsSlab fs (slice_set xs n w) less room
-added_slab es fs xs free less room k n w is last none more =
-    let same : length (slice_set xs n w) ≡ length xs = length-set xs n w in
-    record {
-      each = λ i.
-          let each = is.each i in
-          let keys = ap (count_keys i) more ∙ count_added es k n i none in
-          let frees = ap (count_free i) last ∙ count_last less n i in
-          let sum : count_keys i fs + count_free i less ≡ cond (nat_lt i (length xs)) 1 0 = omega (arith, each, keys, frees) in
-          sum ∙ ap (λ (m : ℕ). cond (nat_lt i m) 1 0) (sym same);
-      all =
-          let all = is.all in
-          let a = ap length more ∙ longer es k n none in
-          let b = ap length last ∙ length_last less n in
-          omega (arith, all, a, b, same);
-      capacity = let le = is.capacity in omega (arith, le, same);
-    }
-
-pub added_step : (olds : List (ℕ × Place)) (es fs : List (ℕ × ℕ)) (xs : List Place) (free less : List ℕ) (room k n : ℕ) (w : Place) → IsSlab es xs free room → slots_at xs es ≡ olds → free ≡ less ++ n ∷ [] → IsStrictlySortedBy nat_cmp (keys_of es) → fs ≡ insert_entry nat_cmp es k n → lookup (is_at (nat_cmp k)) fs ≡ Some n → ((q : ℕ) → is_at (nat_cmp k) q ≡ false → lookup (is_at (nat_cmp q)) fs ≡ lookup (is_at (nat_cmp q)) es)
-    → Step olds (slots_at (slice_set xs n w) fs) k (Some w)
-added_step olds es fs xs free less room k n w is view last sorted more at others = subst (λ (s : List (ℕ × Place)). Step s (slots_at (slice_set xs n w) fs) k (Some w)) view
-    (step_insert (slots_at xs es) (slots_at (slice_set xs n w) fs) k w (subst (IsStrictlySortedBy nat_cmp) (sym (same_keys xs es)) sorted)
-    (ap (slots_at (slice_set xs n w)) more ∙ added_slots (slice_set xs n w) es k n ∙ (λ i. insert_entry nat_cmp (rest i) k (put i)))
-    (here_slot fs (slice_set xs n w) k n at ∙ ap (λ (p : Place). Some p) put)
-    (λ q isnt. found_slot (slice_set xs n w) fs (is_at (nat_cmp q)) ∙ ap (option_map (λ (m : ℕ). get_or (slice_set xs n w) m bare)) (others q isnt) ∙ sym (found_slot (slice_set xs n w) es (is_at (nat_cmp q))) ∙ ap (λ (s : List (ℕ × Place)). place_at s q) rest))
-  where
-    put : get_or (slice_set xs n w) n bare ≡ w
-    put = get_or-set_same xs n w bare (free_within es xs free less room n is last)
-
-    rest : slots_at (slice_set xs n w) es ≡ slots_at xs es
-    rest = unused xs es n w (free_unused es xs free less room n is last)
-
--- A key whose place is free then.
-
-count_gone : (es : List (ℕ × ℕ)) (test : ℕ → Bool) (n i : ℕ) → lookup test es ≡ Some n → count_keys i (remove_entry test es) + one_at i n ≡ count_keys i es
-count_gone [] test n i at = absurd (cc at)
-count_gone (e ∷ es) test n i at = by (test e.0) (count_gone es test n i) at
-  where
-    by : (b : Bool) → (lookup test es ≡ Some n → count_keys i (remove_entry test es) + one_at i n ≡ count_keys i es) → cond b (Some e.1) (lookup test es) ≡ Some n → count_keys i (cond b es (e ∷ remove_entry test es)) + one_at i n ≡ count_keys i (e ∷ es)
-    by true rest at = let same : e.1 ≡ n = cc at in let one = ap (one_at i) same in omega (arith, one)
-    by false rest at = let less = rest at in omega (arith, less)
-
-shorter : (es : List (ℕ × ℕ)) (test : ℕ → Bool) (n : ℕ) → lookup test es ≡ Some n → length (remove_entry test es) + 1 ≡ length es
-shorter [] test n at = absurd (cc at)
-shorter (e ∷ es) test n at = by (test e.0) (shorter es test n) at
-  where
-    by : (b : Bool) → (lookup test es ≡ Some n → length (remove_entry test es) + 1 ≡ length es) → cond b (Some e.1) (lookup test es) ≡ Some n → length (cond b es (e ∷ remove_entry test es)) + 1 ≡ length (e ∷ es)
-    by true rest at = omega arith
-    by false rest at = let less = rest at in omega (arith, less)
-
-gone_slots : (ys : List Place) (es : List (ℕ × ℕ)) (test : ℕ → Bool) → slots_at ys (remove_entry test es) ≡ remove_entry test (slots_at ys es)
-gone_slots ys [] test = refl
-gone_slots ys (e ∷ es) test = elim (test e.0) as (λ b. slots_at ys (cond b es (e ∷ remove_entry test es)) ≡ cond b (slots_at ys es) ((e.0, get_or ys e.1 bare) ∷ remove_entry test (slots_at ys es))) [
-  | true ↦ refl
-  | false ↦ ap (λ (s : List (ℕ × Place)). (e.0, get_or ys e.1 bare) ∷ s) (gone_slots ys es test)
-]
-
-pub removed_slab : (es fs : List (ℕ × ℕ)) (xs : List Place) (free more : List ℕ) (room kept n : ℕ) (test : ℕ → Bool) (w : Place) → IsSlab es xs free room → lookup test es ≡ Some n → fs ≡ remove_entry test es → more ≡ free ++ n ∷ [] → room ≤ kept → IsSlab fs (slice_set xs n w) more kept
-removed_slab es fs xs free more room kept n test w is at less last same_room =
-    let same : length (slice_set xs n w) ≡ length xs = length-set xs n w in
-    record {
-      each = λ i.
-          let each = is.each i in
-          let keys = ap (count_keys i) less in
-          let one = count_gone es test n i at in
-          let frees = ap (count_free i) last ∙ count_last free n i in
-          let sum : count_keys i fs + count_free i more ≡ cond (nat_lt i (length xs)) 1 0 = omega (arith, each, keys, one, frees) in
-          sum ∙ ap (λ (m : ℕ). cond (nat_lt i m) 1 0) (sym same);
-      all =
-          let all = is.all in
-          let a = ap length less in
-          let c = shorter es test n at in
-          let b = ap length last ∙ length_last free n in
-          omega (arith, all, a, b, c, same);
-      capacity = let le = is.capacity in omega (arith, le, same, same_room);
-    }
-
-pub removed_step : (olds : List (ℕ × Place)) (es fs : List (ℕ × ℕ)) (xs : List Place) (free : List ℕ) (room k n : ℕ) (w : Place) → IsSlab es xs free room → slots_at xs es ≡ olds → lookup (is_at (nat_cmp k)) es ≡ Some n → fs ≡ remove_entry (is_at (nat_cmp k)) es → lookup (is_at (nat_cmp k)) fs ≡ None → ((q : ℕ) → is_at (nat_cmp k) q ≡ false → lookup (is_at (nat_cmp q)) fs ≡ lookup (is_at (nat_cmp q)) es)
-    → Step olds (slots_at (slice_set xs n w) fs) k None
-removed_step olds es fs xs free room k n w is view at less none others =
-    let once = place_once es xs free room n is in
-    let one = count_gone es (is_at (nat_cmp k)) n n at in
-    let self = one_self n in
-    let keys = ap (count_keys n) less in
-    let rest : slots_at (slice_set xs n w) fs ≡ slots_at xs fs = unused xs fs n w (omega (arith, once, one, self, keys)) in
-    subst (λ (s : List (ℕ × Place)). Step s (slots_at (slice_set xs n w) fs) k None) view
-    (step_remove (slots_at xs es) (slots_at (slice_set xs n w) fs) k
-    (rest ∙ ap (slots_at xs) less ∙ gone_slots xs es (is_at (nat_cmp k)))
-    (none_slot fs (slice_set xs n w) k none)
-    (λ q isnt. ap (λ (s : List (ℕ × Place)). place_at s q) rest ∙ found_slot xs fs (is_at (nat_cmp q)) ∙ ap (option_map (λ (m : ℕ). get_or xs m bare)) (others q isnt) ∙ sym (found_slot xs es (is_at (nat_cmp q)))))
-
--- each place is one of the list
-pub slab_within : (es : List (ℕ × ℕ)) (xs : List Place) (free : List ℕ) (room : ℕ) → IsSlab es xs free room → AllByRecursion (λ (e : ℕ × ℕ). e.1 < length xs) es
-slab_within es xs free room is = counted es (λ i some. let each = is.each i in
-    ⊎_elim (λ (lt : i < length xs). lt) (λ (ge : length xs ≤ i). let none = cond-false {A = ℕ} (nat_lt i (length xs)) 1 0 (le-ltb i (length xs) ge) in absurd (omega (arith, some, each, none))) (cases_lt i (length xs)))
-  where
-    counted : (fs : List (ℕ × ℕ)) → ((i : ℕ) → 1 ≤ count_keys i fs → i < length xs) → AllByRecursion (λ (e : ℕ × ℕ). e.1 < length xs) fs
-    counted [] each = tt
-    counted (f ∷ fs) each = (each f.1 (let one = one_here f.1 f.1 refl in omega (arith, one)), counted fs (λ i some. each i (omega (arith, some))))
-
-pub unheld : (olds : List (ℕ × Place)) (es : List (ℕ × ℕ)) (xs : List Place) (k : ℕ) → slots_at xs es ≡ olds → place_at olds k ≡ None → lookup (is_at (nat_cmp k)) es ≡ None
-unheld olds es xs k view none = by (lookup (is_at (nat_cmp k)) es) (sym (found_slot xs es (is_at (nat_cmp k))) ∙ ap (λ (s : List (ℕ × Place)). place_at s k) view ∙ none)
-  where
-    by : (o : Option ℕ) → option_map (λ (i : ℕ). get_or xs i bare) o ≡ None → o ≡ None
-    by None is = refl
-    by (Some i) is = absurd (cc is)
-
--- what stands in the map then
-pub removed_entries : (olds : List (ℕ × Place)) (es fs : List (ℕ × ℕ)) (xs : List Place) (free : List ℕ) (room k n : ℕ) (w : Place) → IsSlab es xs free room → slots_at xs es ≡ olds → lookup (is_at (nat_cmp k)) es ≡ Some n → fs ≡ remove_entry (is_at (nat_cmp k)) es → slots_at (slice_set xs n w) fs ≡ remove_entry (is_at (nat_cmp k)) olds
-removed_entries olds es fs xs free room k n w is view at less =
-    let once = place_once es xs free room n is in
-    let one = count_gone es (is_at (nat_cmp k)) n n at in
-    let self = one_self n in
-    let keys = ap (count_keys n) less in
-    unused xs fs n w (omega (arith, once, one, self, keys)) ∙ ap (slots_at xs) less ∙ gone_slots xs es (is_at (nat_cmp k)) ∙ ap (remove_entry (is_at (nat_cmp k))) view
-
-pub none_removed : (es : List (ℕ × Place)) (test : ℕ → Bool) → lookup test es ≡ None → remove_entry test es ≡ es
-none_removed [] test none = refl
-none_removed (e ∷ es) test none = by (test e.0) (none_removed es test) none
-  where
-    by : (b : Bool) → (lookup test es ≡ None → remove_entry test es ≡ es) → cond b (Some e.1) (lookup test es) ≡ None → cond b es (e ∷ remove_entry test es) ≡ e ∷ es
-    by true rest at = absurd (cc at)
-    by false rest at = ap (λ (s : List (ℕ × Place)). e ∷ s) (rest at)
+-- what is found is there
+pub within : (o : Option Place) (r : Option (Bor Place)) → option_copied r ≡ o → IfSome r (λ x. is_some o ≡ true)
+within o None is = tt
+within o (Some x) is = sym (ap is_some is)
 
 -- a key that was put in and is taken out again
 pub taken_back : (es : List (ℕ × Place)) (k : ℕ) (w : Place) → place_at es k ≡ None → remove_entry (is_at (nat_cmp k)) (insert_entry nat_cmp es k w) ≡ es
@@ -332,18 +247,3 @@ taken_back (e ∷ es) k w none = by (nat_cmp k e.0) refl (taken_back es k w) non
     by Less is rest at = cond-true (is_at (nat_cmp k) k) (e ∷ es) ((k, w) ∷ remove_entry (is_at (nat_cmp k)) (e ∷ es)) here
     by Equal is rest at = absurd (cc at)
     by Greater is rest at = cond-false (is_at (nat_cmp k) e.0) (insert_entry nat_cmp es k w) (e ∷ remove_entry (is_at (nat_cmp k)) (insert_entry nat_cmp es k w)) (ap is_eq is) ∙ ap (λ (s : List (ℕ × Place)). e ∷ s) (rest at)
-
--- a key that gets a free place, in the map
-pub added_entries : (olds : List (ℕ × Place)) (es fs : List (ℕ × ℕ)) (xs : List Place) (free less : List ℕ) (room k n : ℕ) (w : Place) → IsSlab es xs free room → slots_at xs es ≡ olds → free ≡ less ++ n ∷ [] → fs ≡ insert_entry nat_cmp es k n → slots_at (slice_set xs n w) fs ≡ insert_entry nat_cmp olds k w
-added_entries olds es fs xs free less room k n w is view last more =
-    let put : get_or (slice_set xs n w) n bare ≡ w = get_or-set_same xs n w bare (free_within es xs free less room n is last) in
-    let rest : slots_at (slice_set xs n w) es ≡ slots_at xs es = unused xs es n w (free_unused es xs free less room n is last) in
-    ap (slots_at (slice_set xs n w)) more ∙ added_slots (slice_set xs n w) es k n ∙ (λ i. insert_entry nat_cmp ((rest ∙ view) i) k (put i))
-
-pub if_none : {A P : Type 0} (o : Option A) → o ≡ None → IfNone o P → P
-if_none None is p = p
-if_none (Some x) is p = absurd (cc is)
-
-pub if_some : {A P : Type 0} (o : Option A) (x : A) → o ≡ Some x → IfSome o (λ y. P) → P
-if_some None x is p = absurd (cc is)
-if_some (Some y) x is p = p

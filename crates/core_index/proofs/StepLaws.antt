@@ -2,16 +2,15 @@
 use Rattle.std.proofs.Common.{◌≡◌, ◌≢◌, ⊎_elim, ℕ, ◌+◌, ◌-◌, ◌*◌, ◌<◌, ◌≤◌, ◌==◌, ◌&&◌, true, false, List, Option, Some, None, is_none, option_map, refl, sym, ◌∙◌, ap, subst, arith}
 use Rattle.std.specs.List.{sum_by}
 use Rattle.std.specs.Option.{unwrap_or}
-use Rattle.std.specs.Map.{values_of, keys_of, set_value, remove_entry}
+use Rattle.std.specs.Map.{values_of, keys_of, remove_entry}
 use Rattle.std.specs.BTreeMap.{is_at, insert_entry}
 use Rattle.std.specs.Ordering.{nat_cmp}
 use Rattle.std.specs.Cmp.{unsigned_tied, nat_cmp_total}
 use Rattle.std.specs.List.Sorted.{IsStrictlySortedBy}
-use Rattle.std.proofs.lemmas.Map.Entries.{sum_by-set_value, sum_by-insert_entry, sum_by-remove_entry}
+use Rattle.std.proofs.lemmas.Map.Entries.{sum_by-insert_entry, sum_by-remove_entry}
 use Rattle.std.proofs.lemmas.Bool.{ne_eqb, eqb-true}
-use Rattle.std.specs.Prelude.{Result, Ok, Err, OnOk, OnErr}
+use Rattle.std.specs.Prelude.{Result, Ok, Err, IfOk, OnOk, OnErr}
 use Rattle.std.proofs.lemmas.Bool.{cases_eq}
-use Rattle.std.proofs.lemmas.Map.Steps.{set_value_same}
 use Rattle.log_entry.specs.declared.entry.EntryName.{EntryName}
 use Rattle.core_index.specs.declared.types.TheConstants.{NAMES_OF_CHANGE}
 use Rattle.core_index.specs.Records.{KeyRecord, Awaits, with_told, told_in, count_untold, standing_of}
@@ -29,23 +28,6 @@ count_in (Some p) = refl
 untold_count : (o : Option Place) → unwrap_or (option_map untold_in o) 0 ≡ untold_of o
 untold_count None = refl
 untold_count (Some p) = refl
-
--- a value that is written to the key
-pub step_set : (es fs : List (ℕ × Place)) (k : ℕ) (v w : Place) → place_at es k ≡ Some v → fs ≡ set_value (is_at (nat_cmp k)) es w → place_at fs k ≡ Some w → ((q : ℕ) → is_at (nat_cmp k) q ≡ false → place_at fs q ≡ place_at es q) → Step es fs k (Some w)
-step_set es fs k v w at is here others = record {
-  here = here;
-  others = λ j ne. others j (apart k j ne);
-  count =
-      let sum = sum_by-set_value mortal (is_at (nat_cmp k)) es v w at in
-      let a : all_mortal fs ≡ sum_by mortal (values_of (set_value (is_at (nat_cmp k)) es w)) = ap all_mortal is in
-      let b : mortal_in (place_at es k) ≡ mortal v = ap mortal_in at in
-      omega (arith, sum, a, b);
-  untold =
-      let sum = sum_by-set_value untold_in (is_at (nat_cmp k)) es v w at in
-      let a : all_untold fs ≡ sum_by untold_in (values_of (set_value (is_at (nat_cmp k)) es w)) = ap all_untold is in
-      let b : untold_of (place_at es k) ≡ untold_in v = ap untold_of at in
-      omega (arith, sum, a, b);
-}
 
 -- a key that is put in, or gets another value
 pub step_insert : (es fs : List (ℕ × Place)) (k : ℕ) (w : Place) → IsStrictlySortedBy nat_cmp (keys_of es) → fs ≡ insert_entry nat_cmp es k w → place_at fs k ≡ Some w → ((q : ℕ) → is_at (nat_cmp k) q ≡ false → place_at fs q ≡ place_at es q) → Step es fs k (Some w)
@@ -85,13 +67,13 @@ step_remove es fs k is here others = record {
 pub step_none : (es : List (ℕ × Place)) (k : ℕ) → Step es es k (place_at es k)
 step_none es k = record { here = refl; others = λ j ne. refl; count = refl; untold = refl }
 
--- a value that is written back changes nothing
-pub same_set : (es fs : List (ℕ × Place)) (k : ℕ) (v w : Place) → place_at es k ≡ Some v → fs ≡ set_value (is_at (nat_cmp k)) es w → w ≡ v → fs ≡ es
-same_set es fs k v w at is same = is ∙ set_value_same (is_at (nat_cmp k)) es w (at ∙ ap (λ (p : Place). Some p) (sym same))
-
 pub on_ok : {T E P Q : Type 0} (r : Result T E) → (P → Q) → OnOk r P → OnOk r Q
 on_ok (Ok x) f p = f p
 on_ok (Err e) f p = tt
+
+pub if_ok_is : {T E P : Type 0} (r : Result T E) → P → IfOk r (λ x. P)
+if_ok_is (Ok x) p = p
+if_ok_is (Err e) p = tt
 
 pub err_is : {T E P : Type 0} (r : Result T E) → P → OnErr r P
 err_is (Ok x) p = tt
@@ -119,8 +101,8 @@ fewer_of v w home n one =
     let less = fewer_untold waits.found.standing n home waits.stands in
     omega (arith, now, before, less)
 
-pub told_at : (es fs : List (ℕ × Place)) (home : ℕ) (n : EntryName) (v w : Place) → place_at es n.key ≡ Some v → fs ≡ set_value (is_at (nat_cmp n.key)) es w → Step es fs n.key (Some w) → TellsOne v w home n.version → ToldAt es fs home n
-told_at es fs home n v w at is step one =
+pub told_at : (es fs : List (ℕ × Place)) (home : ℕ) (n : EntryName) (v w : Place) → place_at es n.key ≡ Some v → Step es fs n.key (Some w) → TellsOne v w home n.version → ToldAt es fs home n
+told_at es fs home n v w at step one =
     let known : known_at es n.key ≡ v.known = ap known_in at in
     let room : room_at es n.key ≡ v.room = ap room_in at in
     let now : known_at fs n.key ≡ w.known = ap known_in step.here in
@@ -135,8 +117,8 @@ told_at es fs home n v w at is step one =
           let both = one.others v' h (subst (λ (o : Option KeyRecord). Awaits o h v') now after) in
           (both.0, subst (λ (o : Option KeyRecord). Awaits o h v') (sym known) both.1);
       fewer =
-          let sum = sum_by-set_value untold_in (is_at (nat_cmp n.key)) es v w at in
-          let a : all_untold fs ≡ sum_by untold_in (values_of (set_value (is_at (nat_cmp n.key)) es w)) = ap all_untold is in
+          let sum = step.untold in
+          let a : untold_of (place_at es n.key) ≡ untold_in v = ap untold_of at in
           let e = fewer_of v w home n.version one in
           omega (arith, sum, a, e);
     }

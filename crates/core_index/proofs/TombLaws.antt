@@ -18,7 +18,7 @@ use Rattle.core_index.specs.declared.types.Tombstone.{Tombstone}
 use Rattle.core_index.specs.Records.{KeyRecord, Awaits, Shows, standing_at, standing_with, told_in, without, live_version, count_untold, standing_of}
 use Rattle.core_index.specs.Slots.{Place}
 use Rattle.core_index.specs.Noted.{name_with}
-use Rattle.core_index.specs.Tombs.{tomb_home, tomb_version, Tombs, key_of, left_of, left_by, deleted, IsThere, place_of, tomb_places, found_at, fated, with_fate, AreLess, Rising, IsMissing, AreTombs, Ahead, passed_at, bare_tombstone}
+use Rattle.core_index.specs.Tombs.{tomb_home, tomb_version, Tombs, key_of, left_of, left_by, deleted, IsThere, place_of, tomb_places, found_at, fated, with_fate, AreLess, Rising, IsMissing, AreTombs, AreLate, Ahead, passed_at, bare_tombstone}
 use Rattle.core_index.specs.Index.{place_at, known_in, room_in, known_at, room_at, untold_in, untold_of, all_untold, ToldAt, Turns}
 use Rattle.core_index.proofs.StepLaws.{apart}
 
@@ -100,7 +100,7 @@ spot_found (t ∷ ts) k (suc i) d rises lt is =
     let ne = ne_eqb (key_of t) k (λ e. omega (arith, e, is, less)) in
     cond-false (key_of t == k) (Some t) (found_at ts k) ne ∙ spot_found ts k i d rises.1 (omega (arith, lt)) is
 
-hit : (k q : ℕ) → k ≡ q → is_at (nat_cmp k) q ≡ true
+pub hit : (k q : ℕ) → k ≡ q → is_at (nat_cmp k) q ≡ true
 hit k q e = unsigned_tied k q ∙ eq-eqb k q e
 
 -- the same among all that the index keeps
@@ -360,13 +360,13 @@ own_ahead a t le =
 abbrev pub passing : Tombs → ℕ → Tombs
 passing a home = record { items = a.items; passed = slice_set a.passed home (passed_at a home + 1) }
 
+all_within : (ts : List Tombstone) (ps : List ℕ) (i n : ℕ) → AllByRecursion (λ (x : ℕ). x ≤ length ts) ps → n ≤ length ts → AllByRecursion (λ (x : ℕ). x ≤ length ts) (slice_set ps i n)
+all_within ts [] i n all le = tt
+all_within ts (x ∷ ps) zero n all le = (le, all.1)
+all_within ts (x ∷ ps) (suc i) n all le = (all.0, all_within ts ps i n all.1 le)
+
 pub passed_tombs : (ts : List Tombstone) (passed : List ℕ) (home : ℕ) → AreTombs ts passed → get_or passed home 0 < length ts → AreTombs ts (slice_set passed home (get_or passed home 0 + 1))
-passed_tombs ts passed home is lt = record { rising = is.rising; homes = is.homes; within = by passed home (get_or passed home 0 + 1) is.within (omega (arith, lt)) }
-  where
-    by : (ps : List ℕ) (i n : ℕ) → AllByRecursion (λ (x : ℕ). x ≤ length ts) ps → n ≤ length ts → AllByRecursion (λ (x : ℕ). x ≤ length ts) (slice_set ps i n)
-    by [] i n all le = tt
-    by (x ∷ ps) zero n all le = (le, all.1)
-    by (x ∷ ps) (suc i) n all le = (all.0, by ps i n all.1 le)
+passed_tombs ts passed home is lt = record { rising = is.rising; homes = is.homes; within = all_within ts passed home (get_or passed home 0 + 1) is.within (omega (arith, lt)) }
 
 pub none_far : (a : Tombs) (home : ℕ) (n : EntryName) → AllByRecursion (λ (t : Tombstone). (tomb_home t) < 16) a.items → 16 ≤ home → Ahead a home n → ⊥
 none_far a home n homes far is = let lt = all_at (λ (t : Tombstone). (tomb_home t) < 16) a.items is.at bare_tombstone homes is.within in let e = is.home_is in omega (arith, lt, e, far)
@@ -502,3 +502,73 @@ shows_deleted Untold v home ne = refl
 shows_deleted Told v home ne = refl
 shows_deleted Gone v home ne = refl
 shows_deleted Moved v home ne = absurd (ne refl)
+
+-- Each home is asked about all again.
+
+abbrev pub zeros : List ℕ
+zeros = 0 ∷ 0 ∷ 0 ∷ 0 ∷ 0 ∷ 0 ∷ 0 ∷ 0 ∷ 0 ∷ 0 ∷ 0 ∷ 0 ∷ 0 ∷ 0 ∷ 0 ∷ 0 ∷ []
+
+no_zero : (xs : List ℕ) (i : ℕ) → AllByRecursion (λ (x : ℕ). x ≡ 0) xs → get_or xs i 0 ≡ 0
+no_zero [] i all = refl
+no_zero (x ∷ xs) zero all = all.0
+no_zero (x ∷ xs) (suc i) all = no_zero xs i all.1
+
+zeros_at : (i : ℕ) → get_or zeros i 0 ≡ 0
+zeros_at i = no_zero zeros i (refl, (refl, (refl, (refl, (refl, (refl, (refl, (refl, (refl, (refl, (refl, (refl, (refl, (refl, (refl, (refl, tt))))))))))))))))
+
+pub found_key : (ts : List Tombstone) (k : ℕ) (t : Tombstone) → found_at ts k ≡ Some t → key_of t ≡ k
+found_key [] k t is = absurd (cc is)
+found_key (x ∷ ts) k t is = by (key_of x == k) refl is (found_key ts k t)
+  where
+    by : (b : Bool) → (key_of x == k) ≡ b → cond b (Some x) (found_at ts k) ≡ Some t → (found_at ts k ≡ Some t → key_of t ≡ k) → key_of t ≡ k
+    by true same at rest = let e : x ≡ t = cc at in ap key_of (sym e) ∙ eqb-true (key_of x) k same
+    by false other at rest = rest at
+
+record FoundThere (ts : List Tombstone) (t : Tombstone) : Type 0 where
+  at : ℕ
+  within : at < length ts
+  there : get_or ts at bare_tombstone ≡ t
+
+found_there : (ts : List Tombstone) (k : ℕ) (t : Tombstone) → found_at ts k ≡ Some t → FoundThere ts t
+found_there [] k t is = absurd (cc is)
+found_there (x ∷ ts) k t is = by (key_of x == k) is (found_there ts k t)
+  where
+    by : (b : Bool) → cond b (Some x) (found_at ts k) ≡ Some t → (found_at ts k ≡ Some t → FoundThere ts t) → FoundThere (x ∷ ts) t
+    by true at rest = record { at = 0; within = omega arith; there = cc at }
+    by false at rest = let is = rest at in record { at = suc is.at; within = (let lt = is.within in omega (arith, lt)); there = is.there }
+
+abbrev pub rewound : List Tombstone → Tombs
+rewound ts = record { items = ts; passed = zeros }
+
+pub rewound_ahead : (a : Tombs) (h : ℕ) (n : EntryName) → Ahead a h n → Ahead (rewound a.items) h n
+rewound_ahead a h n is = record {
+  at = is.at;
+  from = let zero = zeros_at h in omega (arith, zero);
+  within = is.within;
+  key = is.key;
+  version = is.version;
+  home_is = is.home_is;
+}
+
+pub rewound_own : (ts : List Tombstone) (k : ℕ) (t : Tombstone) → found_at ts k ≡ Some t → Ahead (rewound ts) (tomb_home t) (name_with (key_of t) (tomb_version t))
+rewound_own ts k t is =
+    let there = found_there ts k t is in
+    record {
+      at = there.at;
+      from = let zero = zeros_at (tomb_home t) in omega (arith, zero);
+      within = there.within;
+      key = ap key_of there.there;
+      version = ap tomb_version there.there;
+      home_is = ap tomb_home there.there;
+    }
+
+-- A list of such keys in any order.
+
+pub pushed_late : (ts : List Tombstone) (passed : List ℕ) (t : Tombstone) → AreLate ts passed → (tomb_home t) < 16 → AreLate (ts ++ t ∷ []) passed
+pushed_late ts passed t is home = record {
+  homes = all_more (λ (x : Tombstone). (tomb_home x) < 16) ts t is.homes home;
+  within = let longer = length-append ts (t ∷ []) in within_more passed (length ts) (length (ts ++ t ∷ [])) (omega (arith, longer)) is.within;
+}
+
+pub passed_late : (ts : List Tombstone) (passed : List ℕ) (home : ℕ) → AreLate ts passed → get_or passed home 0 < length ts → AreLate ts (slice_set passed home (get_or passed home 0 + 1))
+passed_late ts passed home is lt = record { homes = is.homes; within = all_within ts passed home (get_or passed home 0 + 1) is.within (omega (arith, lt)) }

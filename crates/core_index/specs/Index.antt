@@ -1,41 +1,24 @@
 -- The index as its callers see it: a map from keys to records, with room for so many changes of a key to come.
-use Rattle.std.specs.Prelude.{◌≡◌, ◌≢◌, ◌⊎◌, ◌<◌, ℕ, ◌+◌, ◌-◌, ◌≤◌, ◌==◌, List, [], ◌∷◌, ◌++◌, if◌then◌else◌, Option, Some, None, option_map}
+use Rattle.std.specs.Prelude.{◌≡◌, ◌≢◌, ◌⊎◌, ◌<◌, ℕ, ◌+◌, ◌-◌, ◌≤◌, ◌==◌, List, [], ◌∷◌, ◌++◌, length, if◌then◌else◌, Option, Some, None, option_map}
 use Rattle.std.specs.List.{sum_by, AllByRecursion}
-use Rattle.std.specs.Map.{lookup, values_of}
-use Rattle.std.specs.BTreeMap.{is_at}
-use Rattle.std.specs.Ordering.{nat_cmp}
+use Rattle.std.specs.Map.{values_of}
 use Rattle.log_entry.specs.declared.entry.Body.{Body}
 use Rattle.log_entry.specs.declared.entry.EntryName.{EntryName}
 use Rattle.core_index.specs.declared.types.Record.{Record}
+use Rattle.core_index.specs.declared.types.Standee.{Standee}
 use Rattle.core_index.specs.declared.types.LiveKey.{LiveKey}
 use Rattle.core_index.specs.declared.types.Tombstone.{Tombstone}
 use Rattle.core_index.specs.Records.{KeyRecord, Awaits, told_in, count_untold, standing_of, without, live_version, opened}
-use Rattle.core_index.specs.Slots.{Place, mortal}
+use Rattle.core_index.specs.Slots.{Place, mortal, lone_deaths, standee_with}
 use Rattle.core_index.specs.declared.types.TheConstants.{NAMES_OF_CHANGE}
 use Rattle.core_index.specs.Noted.{Book, Noted, name_with}
 use Rattle.core_index.specs.declared.start_keys.StartKeys.{StartKeys}
 use Rattle.core_index.specs.Lives.{FitsLive, placed_lives}
-use Rattle.core_index.specs.Starts.{started, IsAhead}
-use Rattle.core_index.specs.Tombs.{tomb_home, tomb_version, Tombs, Ahead, AreLess, key_of, left_of, tomb_places}
-
-abbrev pub place_at : List (ℕ × Place) → ℕ → Option Place
-place_at es k = lookup (is_at (nat_cmp k)) es
-
-abbrev pub known_in : Option Place → Option KeyRecord
-known_in None = None
-known_in (Some p) = p.known
-
-abbrev pub room_in : Option Place → ℕ
-room_in None = 0
-room_in (Some p) = p.room
-
--- the key's record, where it has one
-abbrev pub known_at : List (ℕ × Place) → ℕ → Option KeyRecord
-known_at es k = known_in (place_at es k)
-
--- for how many changes of the key there is room
-abbrev pub room_at : List (ℕ × Place) → ℕ → ℕ
-room_at es k = room_in (place_at es k)
+use Rattle.core_index.specs.declared.lone_keys.LoneKeys.{LoneKeys}
+use Rattle.core_index.specs.Lones.{lones, LoneAhead}
+use Rattle.core_index.specs.Starts.{started, twin_place, IsAhead}
+use Rattle.core_index.specs.Tombs.{tomb_home, tomb_version, passed_at, Tombs, Ahead, AreLess, key_of, name_of, left_of, tomb_places}
+pub use Rattle.core_index.specs.Places.{place_at, known_in, room_in, known_at, room_at}
 
 abbrev pub mortal_in : Option Place → ℕ
 mortal_in None = 0
@@ -140,8 +123,9 @@ pub record Turns (old new : Tombs) (k : ℕ) (now : Option KeyRecord) : Type 0 w
 pub record IsCompact (es : List (ℕ × Place)) (a : StartKeys) (k v : ℕ) (known : KeyRecord)
     (t : Tombstone) : Type 0 where
   pub new : place_at es k ≡ None
-  pub apart : place_at (placed_lives a.live) k ≡ None
-  pub above : AreLess a.deleted.items k
+  pub apart : place_at (placed_lives a.lone.live) k ≡ None
+  pub above : AreLess a.lone.deleted.items k
+  pub above_older : AreLess a.older.items k
   pub key : key_of t ≡ k
   pub home : tomb_home t < 16
   pub version : tomb_version t ≡ v
@@ -151,7 +135,8 @@ pub record IsCompact (es : List (ℕ × Place)) (a : StartKeys) (k v : ℕ) (kno
 pub record IsCompactLive (es : List (ℕ × Place)) (a : StartKeys) (k : ℕ) (body : Body)
     (known : KeyRecord) (x : LiveKey) : Type 0 where
   pub new : place_at es k ≡ None
-  pub fits : FitsLive a.live k body known x
+  pub above_older : AreLess a.older.items k
+  pub fits : FitsLive a.lone.live k body known x
 
 -- The key has room for one more change, and is in the map.
 pub record Admits (es fs : List (ℕ × Place)) (a b : StartKeys) (k : ℕ) : Type 0 where
@@ -162,7 +147,7 @@ pub record Admits (es fs : List (ℕ × Place)) (a b : StartKeys) (k : ℕ) : Ty
   pub others : (j : ℕ) → j ≢ k → place_at fs j ≡ place_at es j
   pub others_left : (j : ℕ) → j ≢ k → place_at (started b) j ≡ place_at (started a) j
   pub ahead : (home : ℕ) (n : EntryName) → IsAhead a home n → IsAhead b home n
-  pub count : all_mortal fs ≤ all_mortal es + NAMES_OF_CHANGE
+  pub count : all_mortal fs ≤ all_mortal es + NAMES_OF_CHANGE + lone_deaths (known_at (started a) k)
   pub untold : all_untold (all_places fs b) ≤ all_untold (all_places es a)
 
 -- What is true of the index's fields between two calls: each entry that waits to be told is noted, or its home will be
@@ -206,6 +191,59 @@ pub record TurnsAt (old new : List (ℕ × Place)) (k : ℕ) (now : Option Place
 -- the place of a key that has no record any more
 abbrev pub cleared : Place → Place
 cleared p = record { known = None; room = p.room }
+
+-- The same of the keys by their last versions alone.
+pub record LoneTurns (old new : LoneKeys) (k : ℕ) (now : Option KeyRecord) : Type 0 where
+  pub here : known_at (lones new) k ≡ now
+  pub others : (j : ℕ) → j ≢ k → place_at (lones new) j ≡ place_at (lones old) j
+  pub ahead : (home : ℕ) (n : EntryName) → LoneAhead old home n → LoneAhead new home n
+
+-- A key is there now by the entry of its last version, and every other one as it was. Who waits by this is asked about.
+pub record LoneAdded (old new : StartKeys) (k : ℕ) (p : Place) : Type 0 where
+  pub here : place_at (lones new.lone) k ≡ Some p
+  pub others : (j : ℕ) → j ≢ k → place_at (lones new.lone) j ≡ place_at (lones old.lone) j
+  pub older : new.older ≡ old.older
+  pub late : new.late ≡ old.late
+  pub ahead : (home : ℕ) (n : EntryName) → LoneAhead old.lone home n → LoneAhead new.lone home n
+  pub own : (home v : ℕ) → Awaits p.known home v → LoneAhead new.lone home (name_with k v)
+
+-- Nothing that the index keeps of these keys changed, and no home was asked about more of them.
+pub record Stays (old new : StartKeys) : Type 0 where
+  pub places : started new ≡ started old
+  pub ahead : (home : ℕ) (n : EntryName) → IsAhead old home n → IsAhead new home n
+
+-- An older entry of a key stands too now, and its home will be asked about it. Every other key is as it was.
+pub record OlderAdded (old new : StartKeys) (t : Tombstone) : Type 0 where
+  pub here : place_at (started new) (key_of t) ≡ Some (twin_place (known_at (lones old.lone) (key_of t)) t)
+  pub others : (j : ℕ) → j ≢ key_of t → place_at (started new) j ≡ place_at (started old) j
+  pub ahead : (home : ℕ) (n : EntryName) → IsAhead old home n → IsAhead new home n
+  pub own : IsAhead new (tomb_home t) (name_of t)
+
+-- The key fits into the lists by its last version alone, and is there now.
+pub record EntersLone (es : List (ℕ × Place)) (old new : StartKeys) (k : ℕ) (known : KeyRecord) : Type 0 where
+  pub new_key : place_at es k ≡ None
+  pub above_older : AreLess old.older.items k
+  pub added : LoneAdded old new k (record { known = Some known; room = 0 })
+
+-- No home was asked about more of the keys of the start, and who waits now waited before or its home will be asked about it.
+pub record KeepsWaiting (es : List (ℕ × Place)) (old new : StartKeys) : Type 0 where
+  pub ahead : (home : ℕ) (n : EntryName) → IsAhead old home n → IsAhead new home n
+  pub waits : (k v home : ℕ) → Awaits (known_at (all_places es new) k) home v
+      → Awaits (known_at (all_places es old) k) home v ⊎ IsAhead new home (name_with k v)
+
+-- how many of a list a home was not asked about
+abbrev pub left_to_ask : Tombs → ℕ → ℕ
+left_to_ask b home = length b.items - passed_at b home
+
+-- of all lists
+abbrev pub to_ask : StartKeys → ℕ → ℕ
+to_ask a home = left_to_ask a.lone.deleted home + left_to_ask a.late home + left_to_ask a.older home
+
+-- Which entries of a key wait to be told: none that did not, but for the one that died, and for one that its home will be asked
+-- about.
+abbrev pub DeadOrAhead : StartKeys → ℕ → Option KeyRecord → Option KeyRecord → Option Standee → Type 0
+DeadOrAhead a k old new dead = (v home : ℕ) → Awaits new home v → Awaits old home v
+    ⊎ ((dead ≡ Some (standee_with v home)) ⊎ IsAhead a home (name_with k v))
 
 -- A key has this record now, and every other one what it had. No home was asked about more of them.
 pub record StartTurns (old new : StartKeys) (k : ℕ) (now : Option KeyRecord) : Type 0 where

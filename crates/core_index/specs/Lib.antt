@@ -8,6 +8,8 @@ pub mod Noted
 pub mod Short
 pub mod Tombs
 pub mod Lives
+pub mod Places
+pub mod Lones
 pub mod Starts
 pub mod Index
 pub mod Listing

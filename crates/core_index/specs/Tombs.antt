@@ -121,3 +121,8 @@ pub record AreTombs (ts : List Tombstone) (passed : List ℕ) : Type 0 where
   pub rising : Rising ts
   pub homes : AllByRecursion (λ t. tomb_home t < 16) ts
   pub within : AllByRecursion (λ n. n ≤ length ts) passed
+
+-- What is true of the fields of a list of such keys in any order.
+pub record AreLate (ts : List Tombstone) (passed : List ℕ) : Type 0 where
+  pub homes : AllByRecursion (λ t. tomb_home t < 16) ts
+  pub within : AllByRecursion (λ n. n ≤ length ts) passed

@@ -2,9 +2,9 @@
 ghost use Rattle.std.specs.Prelude.{◌≡◌, ◌≢◌, ℕ, ◌+◌, ◌<◌, ◌≤◌, true, false, Some, IsTrue, IfOk, IfSome, OnOk, OnErr, option_map};
 ghost use Rattle.log_entry.specs.declared.entry.EntryName.{EntryName};
 ghost use Rattle.core_index.specs.Records.{Awaits, opened_with, without, is_forgettable};
-ghost use Rattle.core_index.specs.Slots.{count_dead, OnlyDead};
+ghost use Rattle.core_index.specs.Slots.{count_dead};
 ghost use Rattle.core_index.specs.Starts.{IsAhead};
-ghost use Rattle.core_index.specs.Index.{Admits, Changes, LessRoom, SameRoom, room_at, IsCompact, IsCompactLive, ToldAt, all_places, all_mortal, all_untold, known_at};
+ghost use Rattle.core_index.specs.Index.{Admits, Changes, DeadOrAhead, LessRoom, SameRoom, room_at, IsCompact, IsCompactLive, ToldAt, all_places, all_mortal, all_untold, known_at};
 
 use crate::slot_map::{
     SlotMap, forget_there, give_back_at, gone_at, has, replace_at, reserve_at, take_back, tell_at,
@@ -41,10 +41,10 @@ pub fn compact(
 {
     // The search in the map comes last, since it takes longest.
     let tombstone = tombstone_of(key, version, body, standing);
-    if tombstone.is_none() || !start.live.is_below(key) || !start.deleted.is_below(key) {
+    if tombstone.is_none() || !start.lone.live.is_below(key) || !start.lone.deleted.is_below(key) {
         return None;
     }
-    if has(slots, key) {
+    if !start.older.is_below(key) || has(slots, key) {
         return None;
     }
     tombstone
@@ -62,8 +62,8 @@ pub fn compact_live(
     ensures { IfSome result (IsCompactLive slots.now.entries start.now key body.now
         (opened_with version body.now standing.now)) }
 {
-    let live = start.live.fit(key, version, body, standing);
-    if live.is_none() || has(slots, key) {
+    let live = start.lone.live.fit(key, version, body, standing);
+    if live.is_none() || !start.older.is_below(key) || has(slots, key) {
         return None;
     }
     live
@@ -122,7 +122,8 @@ pub fn gone_in(slots: &mut SlotMap, start: &mut StartKeys, name: EntryName) -> G
         (known_at (all_places slots.old.entries start.old) name.key)) }
     ensures room { SameRoom (all_places slots.old.entries start.old)
         (all_places slots.new.entries start.new) }
-    ensures dead { OnlyDead (known_at (all_places slots.old.entries start.old) name.key)
+    ensures dead { DeadOrAhead start.new name.key
+        (known_at (all_places slots.old.entries start.old) name.key)
         (known_at (all_places slots.new.entries start.new) name.key) result.dead }
     ensures mortal { all_mortal slots.new.entries + count_dead result.dead + result.spared
         ≡ all_mortal slots.old.entries }

@@ -1,9 +1,9 @@
 // The entries of one key that stand in a log, by rising version, in place or in a list.
-ghost use Rattle.std.specs.Prelude.{◌≡◌, ℕ, ◌+◌, ◌-◌, ◌<◌, ◌≤◌, ◌++◌, ◌∷◌, [], false, IfOk, OnOk, OnErr, length};
+ghost use Rattle.std.specs.Prelude.{◌≡◌, ℕ, ◌+◌, ◌-◌, ◌<◌, ◌≤◌, ◌++◌, ◌∷◌, [], Some, false, IfOk, OnOk, OnErr, length};
 ghost use Rattle.std.specs.List.{AllByRecursion};
 ghost use Rattle.core_index.specs.Records.{list_of, standing_at, standing_with, stands_alone, with_told, others, by_version};
 ghost use Rattle.core_index.specs.Marks.{kept};
-ghost use Rattle.core_index.specs.Pairs.{in_pair, top_of, IsRising};
+ghost use Rattle.core_index.specs.Pairs.{in_pair, top_by, top_of, IsRising, Rise};
 ghost use Rattle.core_index.specs.Helds.{entry_in, pair_in, IsFew, Holds};
 
 use crate::entry_list::EntryList;
@@ -114,15 +114,6 @@ fn with_room(alloc: Global, pair: Pair, room: u32) -> Result<Held, Memory>
 }
 
 impl Entries {
-    /// No entries, and no room.
-    pub fn empty() -> Entries
-        ensures { result ≡ record { items = []; room = 0; top = 0 } }
-    {
-        Entries {
-            held: few(Pair::empty(), 0),
-        }
-    }
-
     /// One entry at most, and room for one more.
     pub fn of_one(only: Option<StandingEntry>) -> Entries
         ensures items { result.items ≡ list_of only }
@@ -134,6 +125,26 @@ impl Entries {
             second: None,
         };
         Entries { held: few(pair, 1) }
+    }
+
+    /// An entry, a later one at most, and room for one more.
+    pub fn of_two(
+        alloc: Global,
+        older: StandingEntry,
+        only: Option<StandingEntry>,
+    ) -> Result<Entries, Memory>
+        requires { Rise (Some older) only }
+        ensures items { IfOk result (λ entries. entries.items ≡ older ∷ list_of only) }
+        ensures room { IfOk result (λ entries. entries.room ≡ 1) }
+        ensures top { IfOk result (λ entries. entries.top ≡ top_by (Some older) only) }
+    {
+        let pair = Pair {
+            first: Some(older),
+            second: only,
+        };
+        Ok(Entries {
+            held: with_room(alloc, pair, 1)?,
+        })
     }
 
     /// The entries of a start, of which none is above `top`, and no room.

@@ -7,9 +7,10 @@ ghost use Rattle.core_index.specs.Records.{Awaits, Shows, opened, opened_with, s
 ghost use Rattle.core_index.specs.Noted.{name_with};
 ghost use Rattle.core_index.specs.Index.{known_at, room_at, Changes, LessRoom, SameRoom, Tells, HasNoneAbove, EntersAs, all_untold, opened_in};
 
-use crate::compact::{admit_at, compact, compact_live, copy_of, forget_in, give_back_in, gone_in};
+use crate::compact::{admit_at, copy_of, forget_in, give_back_in, gone_in};
 use crate::death_notes::{next_dead, note_dead};
 use crate::death_notices::DeathNotices;
+use crate::entering::enter_start;
 use crate::key_slot::KeySlot;
 use crate::live_keys::live_in;
 use crate::slot_map::{SlotMap, enter_at, settle_at};
@@ -21,8 +22,9 @@ use std::alloc::Global;
 use std::marker::Model;
 
 /// The keys of one core: for each its last version, the value or block that this left, and the entries that
-/// stand in a log. A key without a record has last version 0. A key of the start of which one entry stands, that of
-/// its last version, takes twelve bytes until it is changed where it was deleted, and 24 beside its value else.
+/// stand in a log. A key without a record has last version 0. A key of the start with the entry of its last version
+/// takes twelve bytes until it is changed where it was deleted, and 24 beside its value else; with one older entry
+/// twelve more.
 #[derive(Drop)]
 pub struct CoreIndex {
     slots: SlotMap,
@@ -79,8 +81,9 @@ impl CoreIndex {
     }
 
     /// Puts in what is known of a key at the start, in place of anything that it has. No death was told yet, and where
-    /// a version stands twice, the first one counts. Keys that come in rising order and of which the last version alone
-    /// stands take twelve bytes where they were deleted, and 24 beside their value else.
+    /// a version stands twice, the first one counts. Keys that come in rising order and of which the last version
+    /// stands, and one older one at most, take twelve bytes where they were deleted, 24 beside their value else, and
+    /// twelve more for the older one.
     pub fn enter(
         &mut self,
         alloc: Global,
@@ -93,11 +96,8 @@ impl CoreIndex {
         ensures { OnOk result (EntersAs self.old self.new key
             (opened_with version body.now standing.now)) }
     {
-        if let Some(tombstone) = compact(&self.slots, &self.start, key, version, body, standing) {
-            return self.start.add_deleted(tombstone);
-        }
-        if let Some(live) = compact_live(&self.slots, &self.start, key, version, body, standing) {
-            return self.start.add_live(live, body);
+        if enter_start(&self.slots, &mut self.start, key, version, body, standing)? {
+            return Ok(());
         }
         let copy = copy_of(alloc, body)?;
         self.enter_known(alloc, key, version, copy, standing)
@@ -132,7 +132,8 @@ impl CoreIndex {
         ensures untold { all_untold self.new ≤ all_untold self.old }
         ensures err { OnErr result (self.new ≡ self.old) }
     {
-        self.notices.reserve(NAMES_OF_CHANGE)?;
+        let more = self.start.lone_deaths(key);
+        self.notices.reserve(NAMES_OF_CHANGE + more)?;
         admit_at(alloc, &mut self.slots, &mut self.start, key)
     }
 

@@ -7,6 +7,7 @@ ghost use Rattle.core_index.specs.Marks.{kept};
 ghost use Rattle.core_index.specs.Noted.{Noted, NotedIfDead, count_dead_in, deaths_of, name_with};
 ghost use Rattle.core_index.specs.Records.{Awaits, KeyRecord, list_of, dies_of, is_dead_in, is_deleted, standing_of, Shows, settled, opened_with, told_in, without, last_of, block_of, is_forgettable, live_version};
 ghost use Rattle.core_index.specs.Pairs.{in_pair};
+ghost use Rattle.core_index.specs.Starts.{joined, OfLast};
 ghost use Rattle.core_index.specs.Tombs.{left_of, standing_left};
 ghost use Rattle.core_index.specs.Slots.{alive_at, change_in, mortal, lone_deaths, count_dead, dead_by, died, is_bare, OnlyDead, TellsOne};
 
@@ -45,16 +46,6 @@ impl Model for KeySlot {
 }
 
 impl KeySlot {
-    /// Neither a record nor room.
-    pub fn bare() -> KeySlot
-        ensures { result ≡ record { known = None; room = 0 } }
-    {
-        KeySlot {
-            head: Head::Absent,
-            standing: Entries::empty(),
-        }
-    }
-
     /// No record, and room for one change.
     pub fn with_room() -> KeySlot
         ensures { result ≡ record { known = None; room = 1 } }
@@ -110,6 +101,24 @@ impl KeySlot {
                 standing_of(tombstone),
             ),
         }
+    }
+
+    /// The same with an older entry beside the one that stands at most, and room for one change.
+    pub fn beside(self, alloc: Global, older: StandingEntry) -> Result<KeySlot, Memory>
+        requires room { self.room ≡ 1 }
+        requires lone { OfLast self.known }
+        requires below { older.version < last_of self.known }
+        ensures { IfOk result (λ slot. slot ≡ record {
+          known = option_map (joined (older ∷ [])) self.known;
+          room = 1;
+        }) }
+    {
+        let only = self.standing.find(self.last());
+        let KeySlot { head, .. } = self;
+        Ok(KeySlot {
+            standing: Entries::of_two(alloc, older, only)?,
+            head,
+        })
     }
 
     /// Makes room for one more change.

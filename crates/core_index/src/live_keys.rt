@@ -1,7 +1,7 @@
 // The keys that have a value.
 ghost use Rattle.std.specs.Prelude.{◌≡◌, ◌++◌, ℕ, ◌↔◌, Some, IfOk, OnOk, map};
 ghost use Rattle.std.specs.List.{Contains};
-ghost use Rattle.std.specs.List.Sorted.{IsStrictlyIncreasing, IsStrictlySortedBy};
+ghost use Rattle.std.specs.List.Sorted.{IsPermutation, IsStrictlyIncreasing, IsStrictlySortedBy};
 ghost use Rattle.std.specs.Map.{keys_of};
 ghost use Rattle.std.specs.Ordering.{nat_cmp};
 ghost use Rattle.core_index.specs.Index.{known_at, live_name, live_names};
@@ -59,8 +59,8 @@ fn add_started(names: &mut Vec<EntryName>, slots: &SlotMap, items: &[LiveKey]) -
 
 // All live keys, those of the map first.
 fn live_unsorted(alloc: Global, slots: &SlotMap, live: &LiveList) -> Result<Vec<EntryName>, Memory>
-    ensures names { IfOk result (λ names. names.items ≡ live_names slots.now.entries
-        ++ start_names slots.now.entries live.now.items) }
+    ensures names { IfOk result (λ names. IsPermutation (live_names slots.now.entries
+        ++ start_names slots.now.entries live.now.items) names.items) }
     ensures ordered { IfOk result (λ _. IsStrictlySortedBy nat_cmp (keys_of slots.now.entries)) }
     ensures rising { IfOk result (λ _. KeysRise live.now.items) }
 {
@@ -75,7 +75,7 @@ pub fn live_in(alloc: Global, slots: &SlotMap, start: &StartKeys) -> Result<Vec<
     ensures each { IfOk result (λ names. (k v : ℕ) → Contains names.items (name_with k v)
         ↔ (live_version (known_at (slots.now.entries ++ started start.now) k) ≡ Some v)) }
 {
-    let mut names = live_unsorted(alloc, slots, &start.live)?;
+    let mut names = live_unsorted(alloc, slots, &start.lone.live)?;
     names.sort_unstable_by_key(|n| n.key);
     Ok(names)
 }

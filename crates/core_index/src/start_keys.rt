@@ -1,28 +1,33 @@
-// The keys that are as they were at the start.
+// The keys that are as they were at the start, of each the entry of its last version and one older entry at most.
 ghost use Rattle.std.specs.Prelude.{◌≡◌, ◌≢◌, ◌⊎◌, ℕ, ◌+◌, ◌<◌, ◌≤◌, ◌++◌, ◌∷◌, [], Some, None, option_map, true, false, IfOk, IfSome, IfNone, OnOk, OnErr, length};
 ghost use Rattle.log_entry.specs.declared.entry.EntryName.{EntryName};
-ghost use Rattle.core_index.specs.Index.{all_untold, known_at, place_at, untold_by, ToldAt, TurnsAt, StartTurns};
+ghost use Rattle.core_index.specs.Index.{all_untold, known_at, place_at, untold_by, to_ask, ToldAt, StartTurns, LoneAdded, OlderAdded, Stays};
+ghost use Rattle.core_index.specs.Noted.{name_with};
 ghost use Rattle.core_index.specs.Records.{Awaits, Shows, without, last_of, is_dead_in, is_forgettable};
-ghost use Rattle.core_index.specs.Starts.{started, IsAhead};
-ghost use Rattle.core_index.specs.Tombs.{tomb_home, key_of, name_of, AreLess, passed_at};
-ghost use Rattle.core_index.specs.Lives.{live_key, live_place, bytes_in, AllLess, IsWithin};
+ghost use Rattle.core_index.specs.Slots.{lone_deaths};
+ghost use Rattle.core_index.specs.Lones.{lones};
+ghost use Rattle.core_index.specs.Starts.{started, is_older, IsTwin, IsLone, IsAhead};
+ghost use Rattle.core_index.specs.Tombs.{tomb_home, key_of, name_of, place_of, AreLess, Rising};
+ghost use Rattle.core_index.specs.Lives.{live_key, live_place, placed_lives, bytes_in, AllLess, IsWithin};
 
 use crate::key_slot::KeySlot;
-use crate::live_list::{LiveList, last_of};
-use crate::tombstones::Tombstones;
-use crate::types::{LiveKey, Look, Tombstone};
+use crate::late_tombstones::LateTombstones;
+use crate::lone_keys::LoneKeys;
+use crate::tombstones::{Tombstones, awaits, is_standing, standing_entry, version_of};
+use crate::types::{Fate, LiveKey, Look, Tombstone};
 use fs_model::{Key, Memory, Version};
 use log_entry::{Body, EntryName};
 use std::alloc::Global;
 
-/// The keys that are as they were at the start: those with a value, and those that were deleted. What the first list
-/// has of a key counts. Only the calls that add a key and `slot` take memory.
+/// The keys that are as they were at the start. Only the calls that add a key and `slot` take memory.
 #[derive(Drop)]
 pub struct StartKeys {
-    /// Those with a value.
-    pub live: LiveList,
-    /// Those that were deleted.
-    pub deleted: Tombstones,
+    /// Each with the entry of its last version.
+    pub lone: LoneKeys,
+    /// An older entry of some of them, which is dead since the start.
+    pub older: Tombstones,
+    /// Deleted keys whose older entry is gone. There is room for each.
+    pub late: LateTombstones,
 }
 
 impl StartKeys {
@@ -31,66 +36,82 @@ impl StartKeys {
         ensures { started result ≡ [] }
     {
         StartKeys {
-            live: LiveList::empty(alloc),
-            deleted: Tombstones::empty(alloc),
+            lone: LoneKeys::empty(alloc),
+            older: Tombstones::empty(alloc),
+            late: LateTombstones::empty(alloc),
         }
+    }
+
+    // The older entry of a key, where it stands.
+    fn older_of(&self, key: Key) -> Option<Tombstone>
+        ensures twin { IfSome result (IsTwin self.now key) }
+        ensures lone { IfNone result (IsLone self.now key) }
+        ensures rising { Rising self.now.older.items }
+    {
+        let Some(older) = self.older.find(key) else {
+            return None;
+        };
+        if !is_standing(&older) || version_of(&older) >= self.lone.last(key) {
+            return None;
+        }
+        Some(older)
     }
 
     /// Adds a deleted key that is above all others.
     pub fn add_deleted(&mut self, tombstone: Tombstone) -> Result<(), Memory>
-        requires above { AreLess self.old.deleted.items (key_of tombstone) }
+        requires apart { place_at (placed_lives self.old.lone.live) (key_of tombstone) ≡ None }
+        requires above { AreLess self.old.lone.deleted.items (key_of tombstone) }
         requires home { tomb_home tombstone < 16 }
-        ensures ok { OnOk result (self.new ≡ record {
-          live = self.old.live;
-          deleted = record {
-            items = self.old.deleted.items ++ tombstone ∷ [];
-            passed = self.old.deleted.passed;
-          };
-        }) }
-        ensures room { (h : ℕ) → passed_at self.old.deleted h ≤ length self.old.deleted.items }
+        ensures ok { OnOk result (LoneAdded self.old self.new (key_of tombstone)
+            (place_of tombstone)) }
         ensures err { OnErr result (self.new ≡ self.old) }
     {
-        self.deleted.push(tombstone)
+        self.lone.add_deleted(tombstone)
     }
 
     /// Adds a key with a value that is above all others of this kind.
     pub fn add_live(&mut self, live: LiveKey, body: &Body) -> Result<(), Memory>
-        requires above { AllLess self.old.live.items (live_key live) }
-        requires within { IsWithin (self.old.live.bytes ++ bytes_in body.now) live.held }
-        ensures ok { OnOk result (TurnsAt (started self.old) (started self.new) (live_key live)
-            (Some (live_place (self.old.live.bytes ++ bytes_in body.now) live))) }
-        ensures err { OnErr result (started self.new ≡ started self.old) }
-        ensures deleted { self.new.deleted ≡ self.old.deleted }
+        requires above { AllLess self.old.lone.live.items (live_key live) }
+        requires within { IsWithin (self.old.lone.live.bytes ++ bytes_in body.now) live.held }
+        ensures ok { OnOk result (LoneAdded self.old self.new (live_key live)
+            (live_place (self.old.lone.live.bytes ++ bytes_in body.now) live)) }
+        ensures err { OnErr result (Stays self.old self.new) }
     {
-        self.live.push(live, body)
+        self.lone.add_live(live, body)
+    }
+
+    /// Adds an older entry of a key that is here, above all others that have one.
+    pub fn add_older(&mut self, older: Tombstone) -> Result<(), Memory>
+        requires above { AreLess self.old.older.items (key_of older) }
+        requires home { tomb_home older < 16 }
+        requires stands { is_older older (known_at (lones self.old.lone) (key_of older)) ≡ true }
+        ensures ok { OnOk result (OlderAdded self.old self.new older) }
+        ensures err { OnErr result (self.new ≡ self.old) }
+    {
+        self.late.reserve(self.older.len().saturating_add(1))?;
+        self.older.push(older)
     }
 
     /// The last version of a key, or 0 where it is not among these.
     pub fn last(&self, key: Key) -> Version
         ensures { result ≡ last_of (known_at (started self.now) key) }
     {
-        match self.live.find(key) {
-            None => self.deleted.last(key),
-            Some(live) => last_of(&live),
-        }
+        self.lone.last(key)
     }
 
     /// What a key has.
     pub fn look(&self, key: Key) -> Look<'_>
         ensures { Shows (known_at (started self.now) key) result }
     {
-        match self.live.find(key) {
-            None => self.deleted.look(key),
-            Some(live) => self.live.look(&live),
-        }
+        self.lone.look(key)
     }
 
     /// Whether a key of these is deleted and nothing of it stands.
     pub fn is_forgettable(&self, key: Key) -> bool
         ensures { result ≡ is_forgettable (known_at (started self.now) key) }
     {
-        match self.live.find(key) {
-            None => self.deleted.is_forgettable(key),
+        match self.older_of(key) {
+            None => self.lone.is_forgettable(key),
             Some(_) => false,
         }
     }
@@ -99,13 +120,23 @@ impl StartKeys {
     pub fn is_dead(&self, name: EntryName) -> bool
         ensures { result ≡ is_dead_in (known_at (started self.now) name.key) name.version }
     {
-        // Few entries are dead at the start, so the longer list is looked at for these alone.
-        if !self.deleted.is_dead(name) {
-            return false;
+        match self.older_of(name.key) {
+            None => self.lone.is_dead(name),
+            Some(older) => version_of(&older) == name.version,
         }
-        match self.live.find(name.key) {
-            None => true,
-            Some(_) => false,
+    }
+
+    /// For how many entries of a key a name may have to be noted once it is in the map, without a change to come.
+    pub fn lone_deaths(&self, key: Key) -> u64
+        ensures deaths { lone_deaths (known_at (started self.now) key) ≤ result }
+        ensures few { result ≤ 1 }
+    {
+        let Some(_) = self.older_of(key) else {
+            return 0;
+        };
+        match self.lone.look(key) {
+            Look::Deleted => 1,
+            _ => 0,
         }
     }
 
@@ -118,13 +149,13 @@ impl StartKeys {
         ensures none { IfOk result (λ found. IfNone found (known_at (started self.now) key
             ≡ None)) }
     {
-        if let Some(live) = self.live.find(key) {
-            return Ok(Some(self.live.slot(alloc, &live)?));
-        }
-        let Some(tombstone) = self.deleted.find(key) else {
+        let Some(slot) = self.lone.slot(alloc, key)? else {
             return Ok(None);
         };
-        Ok(Some(KeySlot::of_tombstone(&tombstone)))
+        match self.older_of(key) {
+            None => Ok(Some(slot)),
+            Some(older) => Ok(Some(slot.beside(alloc, standing_entry(&older))?)),
+        }
     }
 
     /// Tells a home of a dead entry, where it waits to be told.
@@ -135,9 +166,15 @@ impl StartKeys {
         ensures unchanged { result ≡ false → self.new ≡ self.old }
         ensures ahead { (h : ℕ) (n : EntryName) → IsAhead self.old h n → IsAhead self.new h n }
     {
-        match self.live.find(name.key) {
-            None => self.deleted.tell(name, home),
-            Some(_) => false,
+        match self.older_of(name.key) {
+            None => self.lone.tell(name, home),
+            Some(older) => {
+                if !awaits(&older, name.version, home) {
+                    return false;
+                }
+                self.older.set(name.key, Fate::Told);
+                true
+            }
         }
     }
 
@@ -146,12 +183,37 @@ impl StartKeys {
         ensures gone { StartTurns self.old self.new name.key
             (option_map (without name.version) (known_at (started self.old) name.key)) }
         ensures untold { all_untold (started self.new) ≤ all_untold (started self.old) }
-        ensures none { (home v : ℕ) → Awaits (known_at (started self.new) name.key) home v
-            → Awaits (known_at (started self.old) name.key) home v }
+        ensures waits { (home v : ℕ) → Awaits (known_at (started self.new) name.key) home v
+            → Awaits (known_at (started self.old) name.key) home v
+            ⊎ IsAhead self.new home (name_with name.key v) }
     {
-        match self.live.find(name.key) {
-            None => self.deleted.gone(name),
-            Some(_) => self.live.gone(name),
+        let Some(older) = self.older_of(name.key) else {
+            self.lone.gone(name);
+            return;
+        };
+        if version_of(&older) != name.version {
+            self.lone.gone(name);
+            return;
+        }
+        self.older.set(name.key, Fate::Gone);
+        self.stands_alone(name.key);
+    }
+
+    // Of a key whose older entry is gone the home of the other one is to be asked about it, where the key was deleted. Where
+    // there is no room for it, every home is asked about all deleted keys again.
+    fn stands_alone(&mut self, key: Key)
+        ensures lones { lones self.new.lone ≡ lones self.old.lone }
+        ensures older { self.new.older ≡ self.old.older }
+        ensures ahead { (h : ℕ) (n : EntryName) → IsAhead self.old h n → IsAhead self.new h n }
+        ensures own { (home v : ℕ) → Awaits (known_at (lones self.old.lone) key) home v
+            → IsAhead self.new home (name_with key v) }
+    {
+        let Some(tombstone) = self.lone.deleted.find(key) else {
+            return;
+        };
+        match self.late.push(tombstone) {
+            Ok(()) => {}
+            Err(_) => self.lone.deleted.rewind(),
         }
     }
 
@@ -161,11 +223,10 @@ impl StartKeys {
         ensures untold { all_untold (started self.new)
             + untold_by (known_at (started self.old) key) ≤ all_untold (started self.old) }
     {
-        self.live.clear(key);
-        self.deleted.clear(key);
+        self.lone.clear(key);
     }
 
-    /// The next deleted key that this home was not asked about.
+    /// The next dead entry that this home was not asked about.
     pub fn pass(&mut self, home: u32) -> Option<Tombstone>
         ensures none { IfNone result ((n : EntryName) → ¬ IsAhead self.old home n) }
         ensures unchanged { IfNone result (self.new ≡ self.old) }
@@ -173,11 +234,14 @@ impl StartKeys {
             → ((h ≡ home) × (n ≡ name_of t) × (tomb_home t ≡ home))
             ⊎ IsAhead self.new h n) }
         ensures same { started self.new ≡ started self.old }
-        ensures items { self.new.deleted.items ≡ self.old.deleted.items }
-        ensures more { IfSome result (λ _. (passed_at self.old.deleted home
-            < length self.old.deleted.items)
-            × (passed_at self.new.deleted home ≡ passed_at self.old.deleted home + 1)) }
+        ensures more { IfSome result (λ _. to_ask self.new home + 1 ≡ to_ask self.old home) }
     {
-        self.deleted.pass(home)
+        match self.lone.pass(home) {
+            Some(tombstone) => Some(tombstone),
+            None => match self.late.pass(home) {
+                Some(tombstone) => Some(tombstone),
+                None => self.older.pass(home),
+            },
+        }
     }
 }

@@ -1,19 +1,20 @@
-// The keys that were deleted before the start, each by an entry that stands alone.
-ghost use Rattle.std.specs.Prelude.{◌≡◌, ◌≢◌, ◌⊎◌, ℕ, ◌+◌, ◌<◌, ◌≤◌, ◌++◌, ◌∷◌, [], Some, None, option_map, true, false, IfSome, IfNone, OnOk, OnErr, length};
+// Entries of keys of the start in twelve bytes each: those that deleted a key, or older ones.
+ghost use Rattle.std.specs.Prelude.{◌≡◌, ◌≢◌, ◌⊎◌, ℕ, ◌+◌, ◌<◌, ◌≤◌, ◌++◌, ◌∷◌, [], Some, None, option_map, true, false, is_some, IfSome, IfNone, OnOk, OnErr, length};
 ghost use Rattle.std.specs.Bool.{Decides};
 ghost use Rattle.log_entry.specs.declared.entry.EntryName.{EntryName};
 ghost use Rattle.core_index.specs.Index.{all_untold, known_at, place_at, untold_of, ToldAt, Turns};
-ghost use Rattle.core_index.specs.Records.{Awaits, Shows, without, opened_with, last_of, is_dead_in, is_forgettable};
-ghost use Rattle.core_index.specs.Tombs.{tomb_home, tomb_version, key_of, name_of, left_of, tomb_places, found_at, fated, AreLess, Rising, IsSpot, IsMissing, StandsAs, passed_at, Ahead};
+ghost use Rattle.core_index.specs.Records.{untold, Awaits, Shows, without, opened_with, last_of, is_dead_in, is_forgettable};
+ghost use Rattle.core_index.specs.declared.types.Tombstone.{Tombstone};
+ghost use Rattle.core_index.specs.Tombs.{tomb_home, tomb_version, key_of, name_of, left_of, standing_left, tomb_places, found_at, fated, AreLess, Rising, IsSpot, IsMissing, StandsAs, passed_at, Ahead};
 
 use crate::short_names::{self, HOMES, short_of};
-use crate::types::{Fate, Look, SHARE, Standee, Tombstone};
+use crate::types::{Fate, Look, SHARE, Standee, StandingEntry, Tombstone};
 use fs_model::{Key, Memory, Version};
 use log_entry::{Body, EntryName};
 use std::alloc::Global;
 use std::marker::Model;
 
-/// The keys that were deleted before the start, by rising key. For each home the first `passed` of them need not be
+/// Keys of the start by rising key, each with the entry that deleted it, or with an older entry. For each home the first `passed` of them need not be
 /// looked at to tell it of a death. Only `push` takes memory.
 #[derive(Drop)]
 pub struct Tombstones {
@@ -37,7 +38,7 @@ fn key_of(tombstone: &Tombstone) -> Key
     u64::from(tombstone.high) * SHARE + u64::from(tombstone.low)
 }
 
-/// The version of the entry that deleted the key.
+/// The version of the entry.
 pub fn version_of(tombstone: &Tombstone) -> Version
     ensures { result ≡ tomb_version tombstone.now }
 {
@@ -93,6 +94,23 @@ pub fn tombstone_of(
     })
 }
 
+/// An older entry of a key, where it fits.
+pub fn older_entry(key: Key, older: &Standee) -> Option<Tombstone>
+    ensures key { IfSome result (λ t. key_of t ≡ key) }
+    ensures home { IfSome result (λ t. tomb_home t < 16) }
+    ensures version { IfSome result (λ t. tomb_version t ≡ older.now.version) }
+    ensures standing { IfSome result (λ t. standing_left t ≡ Some (untold older.now)) }
+{
+    let (version_low, version_and_home) = short_of(older.version, older.home)?;
+    Some(Tombstone {
+        high: (key / SHARE) as u32,
+        low: (key % SHARE) as u32,
+        version_low,
+        version_and_home,
+        fate: Fate::Untold,
+    })
+}
+
 fn last_of(tombstone: &Tombstone) -> Version
     ensures { result ≡ last_of (left_of tombstone.now) }
 {
@@ -124,8 +142,32 @@ fn is_dead(tombstone: &Tombstone, version: Version) -> bool
     }
 }
 
-// Whether its entry has this version and home, and its death was not told.
-fn awaits(tombstone: &Tombstone, version: Version, home: u32) -> bool
+/// Whether the entry stands.
+pub fn is_standing(tombstone: &Tombstone) -> bool
+    ensures { result ≡ is_some (standing_left tombstone.now) }
+{
+    match tombstone.fate {
+        Fate::Untold | Fate::Told => true,
+        _ => false,
+    }
+}
+
+/// The entry, as it stands among those of its key.
+pub fn standing_entry(tombstone: &Tombstone) -> StandingEntry
+    ensures { IfSome (standing_left tombstone.now) (λ s. result ≡ s) }
+{
+    StandingEntry {
+        version: version_of(tombstone),
+        home: home_of(tombstone),
+        told: match tombstone.fate {
+            Fate::Told => true,
+            _ => false,
+        },
+    }
+}
+
+/// Whether its entry has this version and home, and its death was not told.
+pub fn awaits(tombstone: &Tombstone, version: Version, home: u32) -> bool
     ensures { Decides result (Awaits (left_of tombstone.now) home version) }
 {
     match tombstone.fate {
@@ -180,6 +222,23 @@ impl Tombstones {
         ensures { result ≡ true → AreLess self.now.items key }
     {
         are_less(&self.items, key)
+    }
+
+    /// How many.
+    pub fn len(&self) -> usize
+        ensures { result ≡ length self.now.items }
+    {
+        self.items.len()
+    }
+
+    /// Each home is asked about all of them again.
+    pub fn rewind(&mut self)
+        ensures items { self.new.items ≡ self.old.items }
+        ensures ahead { (h : ℕ) (n : EntryName) → Ahead self.old h n → Ahead self.new h n }
+        ensures own { (k : ℕ) (t : Tombstone) → found_at self.old.items k ≡ Some t
+            → Ahead self.new (tomb_home t) (name_of t) }
+    {
+        self.passed = [0; 16];
     }
 
     /// Adds a key that is above all others.
@@ -241,12 +300,14 @@ impl Tombstones {
 
     /// What there is of a key.
     pub fn find(&self, key: Key) -> Option<Tombstone>
-        ensures { result ≡ found_at self.now.items key }
+        ensures found { result ≡ found_at self.now.items key }
+        ensures home { IfSome result (λ t. tomb_home t < 16) }
+        ensures rising { Rising self.now.items }
     {
-        match self.spot(key) {
-            None => None,
-            Some(spot) => Some(self.at(spot)),
-        }
+        let Some(spot) = spot_of(&self.items, key) else {
+            return None;
+        };
+        Some(self.items[spot])
     }
 
     /// The last version of a key, or 0 where its record is not here.

@@ -147,7 +147,7 @@ pub const NAMES_OF_CHANGE: u64 = 2;
 /// A key is parted in two halves by this. Pointers and places of values that are kept in half a word are below it.
 pub const SHARE: u64 = 4_294_967_296;
 
-/// What became of the one entry of a key that was deleted before the start.
+/// What became of an entry in a list of tombstones.
 #[derive(Clone, Copy)]
 pub enum Fate {
     /// It stands, and its death was not told.
@@ -160,8 +160,8 @@ pub enum Fate {
     Moved,
 }
 
-/// A key that was deleted before the start, by an entry that stands alone. It takes twelve bytes, so the key is in two
-/// halves, and the entry's version and home share three bytes.
+/// A key with an entry of the start: the one that deleted it, or in another list an older one. It takes twelve bytes, so
+/// the key is in two halves, and the entry's version and home share three bytes.
 #[derive(Clone, Copy)]
 pub struct Tombstone {
     /// The key divided by 2^32.
@@ -185,7 +185,7 @@ pub enum ValuePlace {
     Beside(u32, u8),
 }
 
-/// What became of the one entry of a key that had a value at the start.
+/// What became of the entry of a value that a key had at the start.
 #[derive(Clone, Copy)]
 pub enum LiveFate {
     /// It stands.
@@ -196,7 +196,7 @@ pub enum LiveFate {
     Moved,
 }
 
-/// A key that had a value at the start, by an entry that stands alone. It takes 24 bytes beside the value's own.
+/// A key that had a value at the start, with the entry of that value. It takes 24 bytes beside the value's own.
 #[derive(Clone, Copy)]
 pub struct LiveKey {
     /// The key divided by 2^32.

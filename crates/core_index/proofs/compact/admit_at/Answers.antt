@@ -5,7 +5,7 @@ use Rattle.std.specs.BTreeMap.{is_at}
 use Rattle.std.specs.Ordering.{nat_cmp}
 use Rattle.core_index.specs.Starts.{started}
 use Rattle.core_index.specs.Slots.{Place}
-use Rattle.core_index.specs.Index.{Step, place_at, known_at, room_at, known_in, all_places}
+use Rattle.core_index.specs.Index.{place_at, known_at, room_at, known_in, all_places}
 use Rattle.core_index.proofs.StepLaws.{step_over}
 use Rattle.core_index.proofs.SlabLaws.{taken_back}
 use Rattle.core_index.proofs.OverLaws.{some_of, none_of}

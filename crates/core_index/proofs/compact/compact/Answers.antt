@@ -12,4 +12,4 @@ returns c =
     let k = c.args.key in
     let known = opened_with c.args.version c.args.body.now c.args.standing.now in
     let made = c.tombstone_of-tombstone.ensures in
-    all_fit c.tombstone_of-tombstone.result es a k c.args.version known (none_of (place_at es k) (sym c.has.ensures ∙ c.if-has.false)) (c.is_below.ensures c.if-not-is_below.false) (c.is_below-else-not-is_below.ensures c.if-not-is_below-2.false) made.key made.home made.left made.name
+    all_fit c.tombstone_of-tombstone.result es a k c.args.version known (none_of (place_at es k) (sym c.has.ensures ∙ c.if-has.false)) (c.is_below.ensures c.if-not-is_below.false) (c.is_below-else-not-is_below.ensures c.if-not-is_below-2.false) (c.is_below-2.ensures c.if-not-is_below-3.false) made.key made.home made.left made.name

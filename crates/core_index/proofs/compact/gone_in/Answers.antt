@@ -1,7 +1,7 @@
 use Rattle.std.proofs.Common.{ℕ, ◌≤◌, List, Option, None, sym, subst, arith}
 use Rattle.core_index.specs.Records.{KeyRecord}
-use Rattle.core_index.specs.Index.{place_at, known_at, all_places, all_untold, Changes, SameRoom}
-use Rattle.core_index.specs.Slots.{Place, OnlyDead}
+use Rattle.core_index.specs.Index.{place_at, known_at, all_places, all_untold, Changes, SameRoom, DeadOrAhead}
+use Rattle.core_index.specs.Slots.{Place}
 use Rattle.core_index.specs.Starts.{started}
 use Rattle.core_index.proofs.OverLaws.{some_of}
 use Rattle.core_index.proofs.PlaceLaws.{known_else, gone_there, gone_room, only_there, only_else, changes_else, room_else, gone_untold, untold_less}
@@ -47,7 +47,7 @@ returns-in-None-clause-dead c =
     let k = c.args.name.key in
     let none = c.in-None.ensures.missing in
     let a = c.args.start.now in
-    subst (λ (fs : List (ℕ × Place)). OnlyDead (known_at (all_places es a) k) (known_at (all_places fs c.gone.new.self) k) None) (sym c.in-None.ensures.missed) (only_else es a c.gone.new.self k None none c.gone.ensures.none)
+    subst (λ (fs : List (ℕ × Place)). DeadOrAhead c.gone.new.self k (known_at (all_places es a) k) (known_at (all_places fs c.gone.new.self) k) None) (sym c.in-None.ensures.missed) (only_else es a c.gone.new.self k None none c.gone.ensures.waits)
 
 pub returns-in-Some-clause-untold : goal.returns-in-Some-clause-untold
 returns-in-Some-clause-untold c = gone_untold c.args.slots.now.entries c.gone_at.new.slots.entries c.args.start.now c.args.name.key c.args.name.version c.in-Some.ensures.step

@@ -1,7 +1,6 @@
-use Rattle.std.proofs.Common.{◌≡◌, ◌-◌, length}
+use Rattle.std.proofs.Common.{◌≡◌}
 use Rattle.core_index.specs.Starts.{started}
-use Rattle.core_index.specs.Tombs.{passed_at}
-use Rattle.core_index.specs.Index.{IsIndex}
+use Rattle.core_index.specs.Index.{IsIndex, to_ask}
 use Rattle.core_index.proofs.death_notes.next_deleted.Given as goal
 
 abbrev pub invariant-loop-tombstone : goal.invariant-loop-tombstone
@@ -12,4 +11,4 @@ invariant-loop-tombstone l = record {
 }
 
 abbrev pub decreases-loop-tombstone : goal.decreases-loop-tombstone
-decreases-loop-tombstone l = length l.start.deleted.items - passed_at l.start.deleted l.home
+decreases-loop-tombstone l = to_ask l.start l.home

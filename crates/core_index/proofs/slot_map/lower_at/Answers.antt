@@ -1,96 +1,71 @@
-use Rattle.std.proofs.Common.{◌≡◌, ◌-◌, ◌<◌, length, get_or, slice_set, Some, None, sym, ◌∙◌, ap, subst, arith, rules, vec_len}
-use Rattle.std.specs.Map.{lookup}
-use Rattle.std.specs.BTreeMap.{is_at}
-use Rattle.std.specs.Ordering.{nat_cmp}
-use Rattle.std.specs.Vec.{vec_capacity}
-use Rattle.std.proofs.lemmas.List.{get_or_read}
-use Rattle.core_index.specs.Slots.{Place}
-use Rattle.core_index.specs.Slabs.{Slab, bare, slots_at}
+use Rattle.std.proofs.Common.{◌≡◌, ◌-◌, nat_eq, Some, None, sym, ◌∙◌, ap, subst, arith}
+use Rattle.std.specs.Option.{option_copied_mut}
+use Rattle.std.specs.HashMap.{get_by}
+use Rattle.core_index.specs.Slots.{Place, is_bare}
+use Rattle.core_index.specs.Slabs.{Slab, by_key}
 use Rattle.core_index.specs.Index.{Step, place_at, known_at, room_at, known_in, room_in}
-use Rattle.core_index.proofs.SlabLaws.{place_within, here, nothing, stepped}
+use Rattle.core_index.proofs.SlabLaws.{here, wrote}
 use Rattle.core_index.proofs.slot_map.lower_at.Goals as goal
-use Rattle.core_index.specs.Slots.{is_bare}
 
-pub index_mut-slot-requires : goal.index_mut-slot-requires
-index_mut-slot-requires c =
+pub returns-in_default-clause-step : goal.returns-in_default-clause-step
+returns-in_default-clause-step c =
     let olds = c.args.slots.now.entries in
-    let es = c.slots.inside.places.entries in
-    let xs = c.slots.inside.slots.items in
     let k = c.args.key in
-    let i = c.in-Some.at in
-    let at : lookup (is_at (nat_cmp k)) es ≡ Some i = sym c.place_of.ensures ∙ c.in-Some.is in
-    let view : slots_at xs es ≡ olds = ap (λ (s : Slab). s.entries) c.slots.view_is in
-    let within : i < length xs = place_within es xs c.slots.inside.free.items (vec_capacity c.slots.inside.free) i (is_at (nat_cmp k)) c.slots.invariant at in
-    let len : vec_len c.slots.inside.slots ≡ length xs = search rules in
-    omega (arith, within, len)
+    let none : place_at olds k ≡ None = here olds c.slots.inside.slots k (ap (λ (s : Slab). s.entries) c.slots.view_is) None (sym c.get_mut.ensures.value ∙ ap option_copied_mut c.in_default.is) in
+    let room : room_at olds k ≡ 0 = ap room_in none in
+    let some = c.requires in
+    absurd (omega (arith, room, some))
+
+pub returns-in_default-clause-bare : goal.returns-in_default-clause-bare
+returns-in_default-clause-bare c =
+    let olds = c.args.slots.now.entries in
+    let k = c.args.key in
+    let none : place_at olds k ≡ None = here olds c.slots.inside.slots k (ap (λ (s : Slab). s.entries) c.slots.view_is) None (sym c.get_mut.ensures.value ∙ ap option_copied_mut c.in_default.is) in
+    let room : room_at olds k ≡ 0 = ap room_in none in
+    let some = c.requires in
+    absurd (omega (arith, room, some))
 
 pub give_back-requires : goal.give_back-requires
 give_back-requires c =
     let olds = c.args.slots.now.entries in
-    let es = c.slots.inside.places.entries in
-    let xs = c.slots.inside.slots.items in
+    let m = c.slots.inside.slots in
     let k = c.args.key in
-    let i = c.in-Some.at in
-    let at : lookup (is_at (nat_cmp k)) es ≡ Some i = sym c.place_of.ensures ∙ c.in-Some.is in
-    let view : slots_at xs es ≡ olds = ap (λ (s : Slab). s.entries) c.slots.view_is in
-    let within : i < length xs = place_within es xs c.slots.inside.free.items (vec_capacity c.slots.inside.free) i (is_at (nat_cmp k)) c.slots.invariant at in
-    let v : Place = c.index_mut-slot.result.now in
-    let is : v ≡ get_or xs i bare = get_or_read xs i v within c.index_mut-slot.ensures.value bare in
-    let old : place_at olds k ≡ Some v = here olds es xs k i v view at is in
+    let view = ap (λ (s : Slab). s.entries) c.slots.view_is in
+    let v : Place = c.in-Some.slot.now in
+    let found : get_by (nat_eq k) m ≡ Some v = sym c.get_mut.ensures.value ∙ ap option_copied_mut c.in-Some.is in
+    let old : place_at olds k ≡ Some v = here olds m k view (Some v) found in
     let room : room_at olds k ≡ v.room = ap room_in old in
     let some = c.requires in
     omega (arith, room, some)
 
-pub returns-in-Some-clause-step : goal.returns-in-Some-clause-step
-returns-in-Some-clause-step c =
+pub returns-clause-step : goal.returns-clause-step
+returns-clause-step c =
     let olds = c.args.slots.now.entries in
-    let es = c.slots.inside.places.entries in
-    let xs = c.slots.inside.slots.items in
+    let m = c.slots.inside.slots in
     let k = c.args.key in
-    let i = c.in-Some.at in
-    let at : lookup (is_at (nat_cmp k)) es ≡ Some i = sym c.place_of.ensures ∙ c.in-Some.is in
-    let view : slots_at xs es ≡ olds = ap (λ (s : Slab). s.entries) c.slots.view_is in
-    let within : i < length xs = place_within es xs c.slots.inside.free.items (vec_capacity c.slots.inside.free) i (is_at (nat_cmp k)) c.slots.invariant at in
-    let v : Place = c.index_mut-slot.result.now in
-    let is : v ≡ get_or xs i bare = get_or_read xs i v within c.index_mut-slot.ensures.value bare in
-    let old : place_at olds k ≡ Some v = here olds es xs k i v view at is in
+    let view = ap (λ (s : Slab). s.entries) c.slots.view_is in
+    let v : Place = c.in-Some.slot.now in
+    let found : get_by (nat_eq k) m ≡ Some v = sym c.get_mut.ensures.value ∙ ap option_copied_mut c.in-Some.is in
+    let old : place_at olds k ≡ Some v = here olds m k view (Some v) found in
     let w : Place = c.give_back.new.self in
-    let fs = slots_at (slice_set xs i w) es in
-    let step : Step olds fs k (Some w) = stepped olds es xs c.slots.inside.free.items (vec_capacity c.slots.inside.free) k i w c.slots.invariant view at in
+    let n = c.get_mut.follows.lender w in
+    let fs = by_key n.entries in
+    let step : Step olds fs k (Some w) = wrote olds m k view n v w found (c.get_mut.follows.holds w) in
     let now : w ≡ record { known = known_at olds k; room = room_at olds k - 1 } = c.give_back.ensures ∙ (λ j. record { known = known_in (sym old j); room = room_in (sym old j) - 1 }) in
     subst (λ (p : Place). Step olds fs k (Some p)) now step
 
-pub returns-in-Some-clause-bare : goal.returns-in-Some-clause-bare
-returns-in-Some-clause-bare c =
+pub returns-clause-bare : goal.returns-clause-bare
+returns-clause-bare c =
     let olds = c.args.slots.now.entries in
-    let es = c.slots.inside.places.entries in
-    let xs = c.slots.inside.slots.items in
+    let m = c.slots.inside.slots in
     let k = c.args.key in
-    let i = c.in-Some.at in
-    let at : lookup (is_at (nat_cmp k)) es ≡ Some i = sym c.place_of.ensures ∙ c.in-Some.is in
-    let view : slots_at xs es ≡ olds = ap (λ (s : Slab). s.entries) c.slots.view_is in
-    let within : i < length xs = place_within es xs c.slots.inside.free.items (vec_capacity c.slots.inside.free) i (is_at (nat_cmp k)) c.slots.invariant at in
-    let v : Place = c.index_mut-slot.result.now in
-    let is : v ≡ get_or xs i bare = get_or_read xs i v within c.index_mut-slot.ensures.value bare in
-    let old : place_at olds k ≡ Some v = here olds es xs k i v view at is in
+    let view = ap (λ (s : Slab). s.entries) c.slots.view_is in
+    let v : Place = c.in-Some.slot.now in
+    let found : get_by (nat_eq k) m ≡ Some v = sym c.get_mut.ensures.value ∙ ap option_copied_mut c.in-Some.is in
+    let old : place_at olds k ≡ Some v = here olds m k view (Some v) found in
     let w : Place = c.give_back.new.self in
+    let n = c.get_mut.follows.lender w in
+    let fs = by_key n.entries in
+    let step : Step olds fs k (Some w) = wrote olds m k view n v w found (c.get_mut.follows.holds w) in
     let now : w ≡ record { known = known_at olds k; room = room_at olds k - 1 } = c.give_back.ensures ∙ (λ j. record { known = known_in (sym old j); room = room_in (sym old j) - 1 }) in
     c.is_bare.ensures ∙ ap is_bare now
-
-pub returns-in-None-clause-step : goal.returns-in-None-clause-step
-returns-in-None-clause-step c =
-    let olds = c.args.slots.now.entries in
-    let k = c.args.key in
-    let none : place_at olds k ≡ None = nothing olds c.slots.inside.places.entries c.slots.inside.slots.items k (ap (λ (s : Slab). s.entries) c.slots.view_is) (sym c.place_of.ensures ∙ c.in-None.is) in
-    let room : room_at olds k ≡ 0 = ap room_in none in
-    let some = c.requires in
-    absurd (omega (arith, room, some))
-
-pub returns-in-None-clause-bare : goal.returns-in-None-clause-bare
-returns-in-None-clause-bare c =
-    let olds = c.args.slots.now.entries in
-    let k = c.args.key in
-    let none : place_at olds k ≡ None = nothing olds c.slots.inside.places.entries c.slots.inside.slots.items k (ap (λ (s : Slab). s.entries) c.slots.view_is) (sym c.place_of.ensures ∙ c.in-None.is) in
-    let room : room_at olds k ≡ 0 = ap room_in none in
-    let some = c.requires in
-    absurd (omega (arith, room, some))

@@ -1,42 +1,20 @@
-use Rattle.std.proofs.Common.{◌≡◌, ◌<◌, length, Option, Some, None, is_some, sym, ◌∙◌, ap, arith, rules, vec_len}
-use Rattle.std.specs.Map.{lookup}
-use Rattle.std.specs.BTreeMap.{is_at}
-use Rattle.std.specs.Ordering.{nat_cmp}
-use Rattle.std.specs.Vec.{vec_capacity}
-use Rattle.core_index.specs.Slots.{Place}
-use Rattle.core_index.specs.Slabs.{Slab, slots_at}
+use Rattle.std.proofs.Common.{◌≡◌, nat_eq, Some, None, sym, ◌∙◌, ap}
+use Rattle.std.specs.Option.{is_some, option_copied_mut}
+use Rattle.std.specs.HashMap.{get_by}
+use Rattle.core_index.specs.Slabs.{Slab}
 use Rattle.core_index.specs.Index.{place_at}
-use Rattle.core_index.proofs.SlabLaws.{place_within, nothing, stepped}
+use Rattle.core_index.proofs.SlabLaws.{here, wrote}
 use Rattle.core_index.proofs.slot_map.replace_at.Goals as goal
-
-pub index_mut-requires : goal.index_mut-requires
-index_mut-requires c =
-    let olds = c.args.slots.now.entries in
-    let es = c.slots.inside.places.entries in
-    let xs = c.slots.inside.slots.items in
-    let k = c.args.key in
-    let i = c.in-Some.at in
-    let at : lookup (is_at (nat_cmp k)) es ≡ Some i = sym c.place_of.ensures ∙ c.in-Some.is in
-    let view : slots_at xs es ≡ olds = ap (λ (s : Slab). s.entries) c.slots.view_is in
-    let within : i < length xs = place_within es xs c.slots.inside.free.items (vec_capacity c.slots.inside.free) i (is_at (nat_cmp k)) c.slots.invariant at in
-    let len : vec_len c.slots.inside.slots ≡ length xs = search rules in
-    omega (arith, within, len)
-
-pub returns : goal.returns
-returns c =
-    let olds = c.args.slots.now.entries in
-    let es = c.slots.inside.places.entries in
-    let xs = c.slots.inside.slots.items in
-    let k = c.args.key in
-    let i = c.in-Some.at in
-    let at : lookup (is_at (nat_cmp k)) es ≡ Some i = sym c.place_of.ensures ∙ c.in-Some.is in
-    let view : slots_at xs es ≡ olds = ap (λ (s : Slab). s.entries) c.slots.view_is in
-    let within : i < length xs = place_within es xs c.slots.inside.free.items (vec_capacity c.slots.inside.free) i (is_at (nat_cmp k)) c.slots.invariant at in
-    stepped olds es xs c.slots.inside.free.items (vec_capacity c.slots.inside.free) k i c.args.slot c.slots.invariant view at
 
 pub returns-in_default : goal.returns-in_default
 returns-in_default c =
-    let olds = c.args.slots.now.entries in
-    let none : place_at olds c.args.key ≡ None = nothing olds c.slots.inside.places.entries c.slots.inside.slots.items c.args.key (ap (λ (s : Slab). s.entries) c.slots.view_is) (sym c.place_of.ensures ∙ c.in_default.is) in
-    let some = sym c.requires ∙ ap (λ (o : Option Place). is_some o) none in
+    let m = c.slots.inside.slots in
+    let none : place_at c.args.slots.now.entries c.args.key ≡ None = here c.args.slots.now.entries m c.args.key (ap (λ (s : Slab). s.entries) c.slots.view_is) None (sym c.get_mut.ensures.value ∙ ap option_copied_mut c.in_default.is) in
+    let some = sym c.requires ∙ ap is_some none in
     absurd (cc some)
+
+pub returns : goal.returns
+returns c =
+    let m = c.slots.inside.slots in
+    let found : get_by (nat_eq c.args.key) m ≡ Some c.in-Some.place.now = sym c.get_mut.ensures.value ∙ ap option_copied_mut c.in-Some.is in
+    wrote c.args.slots.now.entries m c.args.key (ap (λ (s : Slab). s.entries) c.slots.view_is) (c.get_mut.follows.lender c.args.slot) c.in-Some.place.now c.args.slot found (c.get_mut.follows.holds c.args.slot)

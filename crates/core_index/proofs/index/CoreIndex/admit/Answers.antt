@@ -7,7 +7,10 @@ use Rattle.core_index.proofs.IndexLaws.{admitted_index, roomier}
 use Rattle.core_index.proofs.index.CoreIndex.admit.Goals as goal
 
 pub invariant_of-self-2 : goal.invariant_of-self-2
-invariant_of-self-2 c = admitted_index c.admit_at.result c.self.inside.slots.entries c.admit_at.new.slots.entries c.self.inside.start c.admit_at.new.start c.self.inside.notices c.reserve.new.self c.args.key c.self.invariant c.admit_at.ensures.ok c.admit_at.ensures.err c.admit_at.ensures.err_left c.in_ok-reserve.ensures.kept c.in_ok-reserve.ensures.ok
+invariant_of-self-2 c =
+    let spare = c.in_ok-reserve.ensures.ok in
+    let deaths = c.lone_deaths-more.ensures.deaths in
+    admitted_index c.admit_at.result c.self.inside.slots.entries c.admit_at.new.slots.entries c.self.inside.start c.admit_at.new.start c.self.inside.notices c.reserve.new.self c.args.key c.self.invariant c.admit_at.ensures.ok c.admit_at.ensures.err c.admit_at.ensures.err_left c.in_ok-reserve.ensures.kept (omega (arith, spare, deaths))
 
 pub invariant_of-self : goal.invariant_of-self
 invariant_of-self c = roomier c.self.inside.slots.entries c.self.inside.start c.self.inside.notices c.reserve.new.self c.self.invariant c.in_err-reserve.ensures.kept (let same = c.in_err-reserve.ensures.err in omega (arith, same))

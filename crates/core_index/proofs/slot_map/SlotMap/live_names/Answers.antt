@@ -1,29 +1,22 @@
-use Rattle.std.proofs.Common.{◌≡◌, ℕ, ◌<◌, List, length, sym, ◌∙◌, ap, subst}
-use Rattle.std.specs.Prelude.{IfOk}
-use Rattle.std.specs.List.{AllByRecursion}
-use Rattle.std.specs.List.Sorted.{IsStrictlySortedBy}
+use Rattle.std.proofs.Common.{ℕ, List, ap, subst, sym}
+use Rattle.std.specs.List.Sorted.{IsPermutation, IsStrictlySortedBy}
 use Rattle.std.specs.Map.{keys_of}
 use Rattle.std.specs.Ordering.{nat_cmp}
-use Rattle.std.specs.Vec.{vec_capacity}
 use Rattle.core_index.specs.Slots.{Place}
-use Rattle.core_index.specs.Slabs.{Slab, slots_at}
+use Rattle.core_index.specs.Slabs.{Slab}
 use Rattle.core_index.specs.Index.{live_names}
-use Rattle.core_index.proofs.SlabLaws.{slab_within, same_keys}
+use Rattle.core_index.proofs.SlabLaws.{names_by_key, sorted_by_key}
+use Rattle.core_index.proofs.ListingLaws.{if_ok_both}
+use Rattle.core_index.proofs.StepLaws.{if_ok_is}
 use Rattle.core_index.proofs.slot_map.SlotMap.live_names.Goals as goal
-
-pub names_in-requires : goal.names_in-requires
-names_in-requires c =
-    let es = c.self.inside.places.entries in
-    subst (λ (ys : List Place). AllByRecursion (λ (e : ℕ × ℕ). e.1 < length ys) es) (sym c.deref.ensures.value) (slab_within es c.self.inside.slots.items c.self.inside.free.items (vec_capacity c.self.inside.free) c.self.invariant)
 
 pub returns-clause-names : goal.returns-clause-names
 returns-clause-names c =
-    let es = c.self.inside.places.entries in
-    let same : slots_at c.deref.result.now es ≡ c.args.self.now.entries = ap (λ (ys : List Place). slots_at ys es) c.deref.ensures.value ∙ ap (λ (s : Slab). s.entries) c.self.view_is in
-    subst (λ (ss : List (ℕ × Place)). IfOk c.names_in.result (λ names. names.items ≡ live_names ss)) same c.names_in.ensures.names
+    let es = c.self.inside.slots.entries in
+    let view = ap (λ (s : Slab). s.entries) c.self.view_is in
+    if_ok_both c.names_in.result (λ names is once. subst (λ (fs : List (ℕ × Place)). IsPermutation (live_names fs) names.items) view (subst (IsPermutation _) (sym is) (names_by_key es once))) c.names_in.ensures.names c.names_in.ensures.unique
 
 pub returns-clause-ordered : goal.returns-clause-ordered
 returns-clause-ordered c =
-    let es = c.self.inside.places.entries in
-    let same : keys_of es ≡ keys_of c.args.self.now.entries = sym (same_keys c.self.inside.slots.items es) ∙ ap (λ (s : Slab). keys_of s.entries) c.self.view_is in
-    subst (λ (ks : List ℕ). IfOk c.names_in.result (λ _. IsStrictlySortedBy nat_cmp ks)) same c.names_in.ensures.ordered
+    let view = ap (λ (s : Slab). s.entries) c.self.view_is in
+    if_ok_is c.names_in.result (subst (λ (fs : List (ℕ × Place)). IsStrictlySortedBy nat_cmp (keys_of fs)) view (sorted_by_key c.self.inside.slots.entries))

@@ -1,10 +1,13 @@
-use Rattle.std.proofs.Common.{ap}
-use Rattle.core_index.proofs.StepLaws.{on_ok, on_err}
-use Rattle.core_index.proofs.StartLaws.{with_tombs}
+use Rattle.std.proofs.Common.{sym, subst}
+use Rattle.core_index.specs.declared.lone_keys.LoneKeys.{LoneKeys}
+use Rattle.core_index.specs.Tombs.{key_of, place_of, tomb_home}
+use Rattle.core_index.specs.Index.{LoneAdded}
+use Rattle.core_index.proofs.StepLaws.{on_ok}
+use Rattle.core_index.proofs.StartLaws.{with_lone, deleted_added}
 use Rattle.core_index.proofs.start_keys.StartKeys.add_deleted.Goals as goal
 
 pub returns-clause-ok : goal.returns-clause-ok
-returns-clause-ok c = on_ok c.push.result (λ is. ap (with_tombs c.args.self.now) is) c.push.ensures.ok
-
-pub returns-clause-err : goal.returns-clause-err
-returns-clause-err c = on_err c.push.result (λ is. ap (with_tombs c.args.self.now) is) c.push.ensures.err
+returns-clause-ok c =
+    let a = c.args.self.now in
+    let t = c.args.tombstone in
+    on_ok c.add_deleted.result (λ is. subst (λ (l : LoneKeys). LoneAdded a (with_lone a l) (key_of t) (place_of t)) (sym is) (deleted_added a t c.requires.apart c.requires.above (c.add_deleted.ensures.room (tomb_home t)))) c.add_deleted.ensures.ok

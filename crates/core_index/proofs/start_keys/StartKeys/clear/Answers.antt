@@ -2,7 +2,7 @@ use Rattle.core_index.proofs.StartLaws.{start_cleared, start_fewer}
 use Rattle.core_index.proofs.start_keys.StartKeys.clear.Goals as goal
 
 pub returns-clause-turns : goal.returns-clause-turns
-returns-clause-turns c = start_cleared c.args.self.now (record { live = c.clear.new.self; deleted = c.clear-2.new.self }) c.args.key c.clear.ensures.cleared c.clear-2.ensures.turns
+returns-clause-turns c = start_cleared c.args.self.now c.clear.new.self c.args.key c.clear.ensures.turns
 
 pub returns-clause-untold : goal.returns-clause-untold
-returns-clause-untold c = start_fewer c.args.self.now (record { live = c.clear.new.self; deleted = c.clear-2.new.self }) c.args.key c.clear.ensures.untold c.clear-2.ensures.untold
+returns-clause-untold c = start_fewer c.args.self.now c.clear.new.self c.args.key c.clear.ensures.turns c.clear.ensures.untold

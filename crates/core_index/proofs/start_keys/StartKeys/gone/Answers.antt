@@ -1,37 +1,45 @@
-use Rattle.std.proofs.Common.{Option, option_map, refl, sym, subst, arith}
-use Rattle.core_index.specs.declared.start_keys.StartKeys.{StartKeys}
-use Rattle.core_index.specs.Records.{KeyRecord, Awaits, without}
-use Rattle.core_index.specs.Tombs.{tomb_places}
-use Rattle.core_index.specs.Index.{known_at, StartTurns}
-use Rattle.core_index.proofs.StartLaws.{gone_live, gone_live_waits, gone_deleted, known_deleted, start_less}
+use Rattle.std.proofs.Common.{inl, inr, sym, ◌∙◌, ap, subst}
+use Rattle.core_index.specs.declared.types.Fate.TheVariants as fates
+use Rattle.core_index.specs.Tombs.{Tombs}
+use Rattle.core_index.specs.Starts.{IsAhead}
+use Rattle.core_index.proofs.StartLaws.{gone_lone, gone_lone_waits, gone_beside, gone_beside_waits, gone_untold, OlderGone, gone_older, gone_older_untold, gone_older_waits, older_ahead}
 use Rattle.core_index.proofs.start_keys.StartKeys.gone.Goals as goal
 
-pub returns-in-None-clause-gone : goal.returns-in-None-clause-gone
-returns-in-None-clause-gone c =
+pub returns-in_default-clause-gone : goal.returns-in_default-clause-gone
+returns-in_default-clause-gone c = gone_lone c.args.self.now c.gone.new.self c.args.name.key c.args.name.version c.in_default.ensures.rising c.in_default.ensures.lone c.gone.ensures.gone
+
+pub returns-in_default-clause-untold : goal.returns-in_default-clause-untold
+returns-in_default-clause-untold c = gone_untold c.args.self.now c.gone.new.self c.args.name.key c.args.name.version c.gone.ensures.gone c.gone.ensures.untold
+
+pub returns-in_default-clause-waits : goal.returns-in_default-clause-waits
+returns-in_default-clause-waits c = λ home v waits. inl (gone_lone_waits c.args.self.now c.gone.new.self c.args.name.key c.args.name.version home v c.in_default.ensures.rising c.in_default.ensures.lone c.gone.ensures.gone (c.gone.ensures.none home v) waits)
+
+pub returns-then-version_of-name-clause-gone : goal.returns-then-version_of-name-clause-gone
+returns-then-version_of-name-clause-gone c =
+    let version = c.version_of.ensures in
+    gone_beside c.args.self.now c.gone-then-version_of-name.new.self c.args.name.key c.args.name.version c.in-Some.older c.older_of.ensures.rising c.in-Some.ensures.twin (λ e. c.if-version_of-name.true (version ∙ e)) c.gone-then-version_of-name.ensures.gone
+
+pub returns-then-version_of-name-clause-untold : goal.returns-then-version_of-name-clause-untold
+returns-then-version_of-name-clause-untold c = gone_untold c.args.self.now c.gone-then-version_of-name.new.self c.args.name.key c.args.name.version c.gone-then-version_of-name.ensures.gone c.gone-then-version_of-name.ensures.untold
+
+pub returns-then-version_of-name-clause-waits : goal.returns-then-version_of-name-clause-waits
+returns-then-version_of-name-clause-waits c = λ home v waits. inl (gone_beside_waits c.args.self.now c.gone-then-version_of-name.new.self c.args.name.key c.args.name.version home v c.in-Some.older c.older_of.ensures.rising c.in-Some.ensures.twin c.gone-then-version_of-name.ensures.gone waits)
+
+went : (c : goal.After-stands_alone) → OlderGone c.args.self.now c.stands_alone.new.self c.args.name.key
+went c =
     let a = c.args.self.now in
-    let b : StartKeys = record { live = a.live; deleted = c.gone.new.self } in
-    let n = c.args.name in
-    subst (λ (o : Option KeyRecord). StartTurns a b n.key (option_map (without n.version) o)) (sym (known_deleted a n.key c.in-None.ensures.found)) (gone_deleted a b n.key (option_map (without n.version) (known_at (tomb_places a.deleted.items) n.key)) c.in-None.ensures.found refl c.gone.ensures.gone)
+    let k = c.args.name.key in
+    record {
+      same = c.stands_alone.ensures.lones;
+      items = ap (λ (d : Tombs). d.items) (c.stands_alone.ensures.older ∙ c.set.ensures);
+      ahead = λ h n far. c.stands_alone.ensures.ahead h n (subst (λ (d : Tombs). IsAhead (record { lone = a.lone; older = d; late = a.late }) h n) (sym c.set.ensures) (older_ahead a k fates.Gone h n far));
+    }
 
-pub returns-in-None-clause-none : goal.returns-in-None-clause-none
-returns-in-None-clause-none c = λ home v waits.
-    let a = c.args.self.now in
-    let b : StartKeys = record { live = a.live; deleted = c.gone.new.self } in
-    let n = c.args.name in
-    subst (λ (o : Option KeyRecord). Awaits o home v) (sym (known_deleted a n.key c.in-None.ensures.found)) (c.gone.ensures.none home v (subst (λ (o : Option KeyRecord). Awaits o home v) (known_deleted b n.key c.in-None.ensures.found) waits))
+pub returns-clause-gone : goal.returns-clause-gone
+returns-clause-gone c = gone_older c.args.self.now c.stands_alone.new.self c.args.name.key c.args.name.version c.in-Some.older c.older_of.ensures.rising c.in-Some.ensures.twin (sym c.version_of.ensures ∙ c.if-version_of-name.false) (went c)
 
-pub returns-in-Some-clause-gone : goal.returns-in-Some-clause-gone
-returns-in-Some-clause-gone c =
-    let a = c.args.self.now in
-    gone_live a (record { live = c.gone-in-Some.new.self; deleted = a.deleted }) c.args.name.key c.args.name.version c.in-Some.field-0 c.in-Some.ensures.found c.gone-in-Some.ensures.gone refl
+pub returns-clause-untold : goal.returns-clause-untold
+returns-clause-untold c = gone_older_untold c.args.self.now c.stands_alone.new.self c.args.name.key (went c)
 
-pub returns-in-Some-clause-none : goal.returns-in-Some-clause-none
-returns-in-Some-clause-none c = λ home v waits.
-    let a = c.args.self.now in
-    absurd (gone_live_waits a (record { live = c.gone-in-Some.new.self; deleted = a.deleted }) c.args.name.key c.args.name.version home v c.in-Some.field-0 c.in-Some.ensures.found c.gone-in-Some.ensures.gone waits)
-
-pub returns-in-None-clause-untold : goal.returns-in-None-clause-untold
-returns-in-None-clause-untold c = let a = c.args.self.now in start_less a (record { live = a.live; deleted = c.gone.new.self }) (omega arith) c.gone.ensures.untold
-
-pub returns-in-Some-clause-untold : goal.returns-in-Some-clause-untold
-returns-in-Some-clause-untold c = let a = c.args.self.now in start_less a (record { live = c.gone-in-Some.new.self; deleted = a.deleted }) c.gone-in-Some.ensures.untold (omega arith)
+pub returns-clause-waits : goal.returns-clause-waits
+returns-clause-waits c = λ home v waits. inr (gone_older_waits c.args.self.now c.stands_alone.new.self c.args.name.key home v c.in-Some.older c.older_of.ensures.rising c.in-Some.ensures.twin (went c) (c.stands_alone.ensures.own home v) waits)

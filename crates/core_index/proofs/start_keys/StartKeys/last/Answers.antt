@@ -1,10 +1,5 @@
-use Rattle.std.proofs.Common.{sym, ◌∙◌, ap}
-use Rattle.core_index.specs.Records.{last_of}
-use Rattle.core_index.proofs.StartLaws.{known_live, known_deleted}
+use Rattle.core_index.proofs.StartLaws.{start_last}
 use Rattle.core_index.proofs.start_keys.StartKeys.last.Goals as goal
 
-pub returns-in-None : goal.returns-in-None
-returns-in-None c = c.last.ensures ∙ sym (ap last_of (known_deleted c.args.self.now c.args.key c.in-None.ensures.found))
-
-pub returns-in-Some : goal.returns-in-Some
-returns-in-Some c = c.last_of.ensures c.args.self.now.live.bytes ∙ sym (ap last_of (known_live c.args.self.now c.args.key c.in-Some.live c.in-Some.ensures.found))
+pub returns : goal.returns
+returns c = start_last c.args.self.now c.args.key c.last.result c.last.ensures

@@ -4,7 +4,7 @@ use Rattle.core_index.proofs.TombLaws.{known_found}
 use Rattle.core_index.proofs.tombstones.Tombstones.is_forgettable.Goals as goal
 
 pub returns-in-None : goal.returns-in-None
-returns-in-None c = sym (ap is_forgettable (known_found c.args.self.now.items c.args.key None c.in-None.ensures))
+returns-in-None c = sym (ap is_forgettable (known_found c.args.self.now.items c.args.key None c.in-None.ensures.found))
 
 pub returns-in-Some : goal.returns-in-Some
-returns-in-Some c = c.is_gone.ensures ∙ sym (ap is_forgettable (known_found c.args.self.now.items c.args.key (Some c.in-Some.tombstone) c.in-Some.ensures))
+returns-in-Some c = c.is_gone.ensures ∙ sym (ap is_forgettable (known_found c.args.self.now.items c.args.key (Some c.in-Some.tombstone) c.in-Some.ensures.found))

@@ -1,8 +1,8 @@
 use Rattle.std.proofs.Common.{◌++◌}
 use Rattle.core_index.specs.Lives.{bytes_in, live_key, live_place}
 use Rattle.core_index.proofs.StepLaws.{on_ok}
-use Rattle.core_index.proofs.StartLaws.{added_live}
-use Rattle.core_index.proofs.start_keys.StartKeys.add_live.Goals as goal
+use Rattle.core_index.proofs.LoneLaws.{added_live}
+use Rattle.core_index.proofs.lone_keys.LoneKeys.add_live.Goals as goal
 
 pub returns-clause-ok : goal.returns-clause-ok
 returns-clause-ok c =
