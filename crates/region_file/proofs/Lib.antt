@@ -3,3 +3,4 @@ pub mod Lining
 pub mod Making
 pub mod Noting
 pub mod Writing
+mod Sharing

@@ -4,6 +4,7 @@ pub mod Files
 pub mod Lines
 pub mod Marks
 pub mod LineRuns
+pub mod Sharing
 pub use Rattle.pm_region.specs.Bytes
 pub use Rattle.pm_region.specs.Cell
 pub use Rattle.fs_model.specs.Counts

@@ -1,14 +1,18 @@
 // The trusted edge: each call here makes calls of the system, and notes those that it made. No clause can say what the
 // system does, so that each call makes what it notes is only read, and tried on real files.
-ghost use Rattle.std.specs.Prelude.{◌≡◌, ℕ, [], ◌∷◌, IfOk, OnOk, OnErr};
+ghost use Rattle.std.specs.Prelude.{◌≡◌, ℕ, ◌+◌, ◌≤◌, [], ◌∷◌, length, vec_capacity, IfOk, OnOk, OnErr};
 ghost use Rattle.region_file.specs.Calls.{refused};
 
 use crate::calls::Calls;
 use crate::system::{self, FileId, FilePlace};
 use pm_region::RegionFault;
 use std::fs::File;
+use std::io;
 use std::os::unix::fs::FileExt;
 use std::rt::Files;
+
+/// How many bytes are read at once.
+const PART: usize = 32_768;
 
 const SETTLED: u64 = 0;
 
@@ -215,18 +219,38 @@ impl Device {
         }
     }
 
-    /// Fills the bytes from the beginning of the file.
-    pub fn read(&mut self, bytes: &mut [u8]) -> Result<(), RegionFault>
-        ensures ok { OnOk result (self.new.calls.made ≡ gave 0 bytes.new ∷ self.old.calls.made) }
+    /// Reads so many bytes from the beginning of the file into room for them.
+    pub fn read(&mut self, room: &mut Vec<u8>, count: usize) -> Result<(), RegionFault>
+        requires empty { room.old.items ≡ [] }
+        requires room { count ≤ vec_capacity room.old }
+        ensures ok { OnOk result (self.new.calls.made ≡ gave 0 room.new.items
+            ∷ self.old.calls.made) }
+        ensures count { OnOk result (length room.new.items ≡ count) }
         ensures err { OnErr result (self.new.calls.made ≡ refused ∷ self.old.calls.made) }
     {
-        if self.file.read_exact_at(bytes, 0).is_ok() {
-            self.calls.note(&[GAVE, 0], bytes);
+        if self.read_parts(room, count).is_ok() {
+            self.calls.note(&[GAVE, 0], room);
             Ok(())
         } else {
             self.calls.note(&[REFUSED, 0], &[]);
             Err(RegionFault)
         }
+    }
+
+    // Part by part, so that a part is in the processor's cache still when it is put behind those before it.
+    fn read_parts(&self, room: &mut Vec<u8>, count: usize) -> io::Result<()>
+        requires empty { room.old.items ≡ [] }
+        requires room { count ≤ vec_capacity room.old }
+        ensures { OnOk result (length room.new.items ≡ count) }
+    {
+        let mut part = [0u8; PART];
+        while room.len() < count {
+            let size = PART.min(count - room.len());
+            let front = &mut part[..size];
+            self.file.read_exact_at(front, room.len() as u64)?;
+            put(room, front);
+        }
+        Ok(())
     }
 
     /// Writes the bytes at a place of the file.
@@ -298,5 +322,17 @@ impl Device {
     {
         let _ = rt.remove_file(own);
         self.calls.note(&[REMOVED, 0], own.as_bytes());
+    }
+}
+
+// Puts bytes behind those before them, for which there is room.
+fn put(room: &mut Vec<u8>, bytes: &[u8])
+    requires { length room.old.items + length bytes.now ≤ vec_capacity room.old }
+    ensures items { length room.new.items ≡ length room.old.items + length bytes.now }
+    ensures room { vec_capacity room.old ≤ vec_capacity room.new }
+{
+    match room.extend_from_slice(bytes) {
+        Ok(()) => {}
+        Err(_) => unreachable!(),
     }
 }

@@ -5,6 +5,7 @@ ghost use Rattle.region_file.specs.Filed.{beside, calls_on, looked, HasFailed, H
 
 use crate::calls::Calls;
 use crate::device::{Device, find_place};
+use crate::file_bytes::FileBytes;
 use crate::file_words::FileWords;
 use crate::system::FilePlace;
 use pm_region::byte_words::word_count;
@@ -48,9 +49,10 @@ fn read_words<R: Files<File = File>>(
 {
     device.settle(rt, path)?;
     let size = device.size()?;
-    let mut bytes = vec![in alloc; 0u8; (WORD_BYTES * word_count(size)) as usize]?;
-    device.read(&mut bytes)?;
-    let words = FileWords::new(alloc, size, bytes)?;
+    let count = (WORD_BYTES * word_count(size)) as usize;
+    let mut bytes = Vec::with_capacity(alloc, count)?;
+    device.read(&mut bytes, count)?;
+    let words = FileWords::new(alloc, size, FileBytes::of(bytes))?;
     Ok(words)
 }
 
@@ -69,7 +71,7 @@ pub fn create_words<R: Files<File = File>>(
 {
     *tried = Calls::none();
     let bytes = vec![in alloc; 0u8; (WORD_BYTES * count) as usize]?;
-    let words = FileWords::new(alloc, WORD_BYTES * count, bytes)?;
+    let words = FileWords::new(alloc, WORD_BYTES * count, FileBytes::of(bytes))?;
     let name = name_beside(alloc, path)?;
     let own = name.as_str();
     let zeros = words.bytes.as_slice();

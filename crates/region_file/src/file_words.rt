@@ -4,9 +4,10 @@ ghost use Rattle.pm_region.specs.declared.region_sizes.TheConstants.{LINE_WORDS,
 ghost use Rattle.pm_region.specs.Split.{words_in};
 
 use crate::device::Device;
+use crate::file_bytes::FileBytes;
 use crate::line_runs::write_runs;
 use crate::line_set::LineSet;
-use pm_region::byte_words::{set_word, set_words, word, word_count};
+use pm_region::byte_words::{word, word_count};
 use pm_region::{LINE_WORDS, MOST_BYTES, RegionFault, WORD_BYTES};
 use std::alloc::{AllocError, Global};
 
@@ -18,7 +19,7 @@ pub struct FileWords {
     /// In bytes.
     pub size: u64,
     /// Eight to a word; bytes of the file behind its last whole word are not here.
-    pub bytes: Vec<u8>,
+    pub bytes: FileBytes,
     /// Counted from the first line of these words.
     pub flushed: LineSet,
     ghost whole: { length bytes.items ≡ WORD_BYTES * words_in size },
@@ -36,13 +37,13 @@ impl FileWords {
     {
         FileWords {
             size: 0,
-            bytes: Vec::new(alloc),
+            bytes: FileBytes::of(Vec::new(alloc)),
             flushed: LineSet::none(alloc),
         }
     }
 
     /// These words, of a file or piece of so many bytes. It takes the room for every line once.
-    pub fn new(alloc: Global, size: u64, bytes: Vec<u8>) -> Result<FileWords, AllocError>
+    pub fn new(alloc: Global, size: u64, bytes: FileBytes) -> Result<FileWords, AllocError>
         requires { length bytes.items ≡ WORD_BYTES * words_in size }
         ensures size { IfOk result (λ w. w.size ≡ size) }
         ensures bytes { IfOk result (λ w. w.bytes ≡ bytes) }
@@ -61,7 +62,7 @@ impl FileWords {
         requires { place < words_in self.now.size }
         ensures { result ≡ word_of self.now place }
     {
-        word(&self.bytes, place)
+        word(self.bytes.as_slice(), place)
     }
 
     /// Stores a word at a place, in memory alone.
@@ -69,7 +70,7 @@ impl FileWords {
         requires { place < words_in self.old.size }
         ensures { IsStored self.old self.new place value }
     {
-        set_word(&mut self.bytes, place, value);
+        self.bytes.set_word(place, value);
     }
 
     /// Remembers a line. It takes no memory.
@@ -98,21 +99,28 @@ impl FileWords {
             device.new.calls.made) }
     {
         self.flushed.sort();
-        write_runs(device, start, &self.flushed.lines, &self.bytes)?;
+        write_runs(device, start, &self.flushed.lines, self.bytes.as_slice())?;
         device.sync()?;
         self.flushed.clear();
         Ok(())
     }
 
-    /// The words from one place to another, with nothing flushed.
+    /// Lets parts of the words be taken without a copy.
+    pub fn share(&mut self, alloc: Global) -> Result<(), AllocError>
+        ensures { self.new ≡ self.old }
+    {
+        self.bytes.share(alloc)
+    }
+
+    /// The words from one place to another, with nothing flushed. They are copied where these words are not shared.
     pub fn part(&self, alloc: Global, from: u64, end: u64) -> Result<FileWords, AllocError>
         requires rising { from ≤ end }
         requires high { end ≤ words_in self.now.size }
         ensures { IfOk result (IsPart self.now from end) }
     {
-        let bytes = self.bytes[(WORD_BYTES * from) as usize..(WORD_BYTES * end) as usize].to_vec(
-            alloc,
-        )?;
+        let low = (WORD_BYTES * from) as usize;
+        let high = (WORD_BYTES * end) as usize;
+        let bytes = self.bytes.part(alloc, low, high)?;
         let part = FileWords::new(alloc, WORD_BYTES * (end - from), bytes)?;
         Ok(part)
     }
@@ -123,7 +131,7 @@ impl FileWords {
         requires within { first + words_in part.now.size ≤ words_in self.old.size }
         ensures { TakesPart self.old self.new part.now first }
     {
-        set_words(&mut self.bytes, first, &part.bytes);
+        self.bytes.set_words(first, part.bytes.as_slice());
         self.flushed
             .insert_all(&part.flushed, (first / LINE_WORDS) as u32);
     }

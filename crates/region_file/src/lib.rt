@@ -5,12 +5,14 @@
 mod calls;
 mod device;
 mod file;
+mod file_bytes;
 mod file_open;
 mod file_piece;
 mod file_pieces;
 mod file_words;
 mod line_runs;
 mod line_set;
+mod shared_part;
 mod system;
 
 pub use file::FileRegion;

@@ -20,4 +20,4 @@ returns-in_err-read-clause-err g c =
 pub returns-in_err-words-clause-err : goal.returns-in_err-words-clause-err
 returns-in_err-words-clause-err g c =
     on_err _ (OnlyReads c.args.device.now.calls.made c.read.new.self.calls.made)
-    (gave 0 c.read.new.bytes ∷ measured c.in_ok-size.size ∷ settled ∷ [], c.in_ok-read.ensures.ok ∙ ap (λ (l : List Call). gave 0 c.read.new.bytes ∷ l) (c.in_ok-size.ensures.ok ∙ ap (λ (l : List Call). measured c.in_ok-size.size ∷ l) c.in_ok-settle.ensures.ok), tt)
+    (gave 0 c.read.new.room.items ∷ measured c.in_ok-size.size ∷ settled ∷ [], c.in_ok-read.ensures.ok ∙ ap (λ (l : List Call). gave 0 c.read.new.room.items ∷ l) (c.in_ok-size.ensures.ok ∙ ap (λ (l : List Call). measured c.in_ok-size.size ∷ l) c.in_ok-settle.ensures.ok), tt)
