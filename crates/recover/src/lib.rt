@@ -11,13 +11,13 @@
 //! that stand in them.
 #![tactic(auto)]
 
-mod entry_list;
 mod found_entries;
 mod gather_region;
 mod judge_winners;
 mod key_runs;
 mod key_standees;
 mod live;
+mod logged_entries;
 mod logs;
 mod look_ahead;
 mod pair_list;
@@ -30,8 +30,8 @@ mod sorting;
 mod starts;
 mod types;
 
-pub use entry_list::log_entries;
 pub use live::live_pairs;
+pub use logged_entries::log_entries;
 pub use pair_list::pairs;
 pub use recover_region::{first_fault, recover};
 pub use recover_snapshot::recover_read;

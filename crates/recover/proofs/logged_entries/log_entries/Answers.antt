@@ -4,7 +4,7 @@ use Rattle.recover.specs.declared.types.RecoverError.TheVariants as errors
 use Rattle.recover.specs.Logged.{ListsLogs}
 use Rattle.recover.proofs.FoundLaws.{superblock_kept, covers_all}
 use Rattle.recover.proofs.CauseLaws.{handed_on, superblock_cause, logged}
-use Rattle.recover.proofs.entry_list.log_entries.Goals as goal
+use Rattle.recover.proofs.logged_entries.log_entries.Goals as goal
 
 pub logged-requires : goal.logged-requires
 logged-requires g c = record { covers = covers_all (g.R.Region.state c.args.region.now).frame c.in_ok-layout.layout c.args.bytes c.requires.first c.requires.words c.in_ok-layout.ensures.bytes.0 c.in_ok-layout.ensures.bytes.1 }

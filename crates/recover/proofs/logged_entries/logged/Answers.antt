@@ -6,7 +6,7 @@ use Rattle.recover.proofs.CauseLaws.{handed_on}
 use Rattle.recover.proofs.JudgeLaws.{by_chunks}
 use Rattle.recover.proofs.ReadBackLaws.{found_back, found_stand}
 use Rattle.recover.proofs.EntryListLaws.{logs_read}
-use Rattle.recover.proofs.entry_list.logged.Goals as goal
+use Rattle.recover.proofs.logged_entries.logged.Goals as goal
 
 pub returns-in_err-found : goal.returns-in_err-found
 returns-in_err-found g c = λ telling.
