@@ -1,4 +1,4 @@
-// The worked rows of a replay on one core, on the top call.
+// A replay on one core, on the top call: what it refuses, what fails under it, and its images.
 ghost use Rattle.std.specs.Prelude.{◌≡◌, false};
 
 use crate::change_tests::put;
@@ -10,11 +10,9 @@ use fs_text::{MemSink, MemSource, Sink, Source, SteadySink, SteadySource};
 use image_yardstick::image_superblock::read_layout;
 use image_yardstick::{first_fault, recovered_cells};
 use pm_region::{ReadRegion, Region, SplitRegion};
-use region_file::FileRegion;
 use region_memory::{Faults, FenceNumber, MemRegion, Pick, SteadyRegion};
 use std::alloc::{Alloc, AllocError, AllocGlobal, Global};
 use std::env::{Env, FillError};
-use std::fs;
 use std::process::Abort;
 use std::test::Fail;
 use std::thread::Threads;
@@ -222,78 +220,6 @@ fn cell_in<R: SplitRegion>(alloc: Global, region: &mut R, key: u64) -> Result<Op
     cell(alloc, &words, key)
 }
 
-const REPLIES: [(&str, Status, &str); 12] = [
-    ("", Status::Done, ""),
-    (THREE, Status::Done, "stored\nvalue abc\nabsent\n"),
-    ("put 5 \nget 5\n", Status::Done, "stored\nvalue \n"),
-    (
-        "put 1 a\nput 1 bc\nget 1",
-        Status::Done,
-        "stored\nstored\nvalue bc\n",
-    ),
-    (
-        "put 18446744073709551615 m\nget 18446744073709551615\n",
-        Status::Done,
-        "stored\nvalue m\n",
-    ),
-    ("put 5", Status::BadInput { line: 1, rule: 4 }, ""),
-    (
-        "get 18446744073709551616\n",
-        Status::BadInput { line: 1, rule: 5 },
-        "",
-    ),
-    ("get 007\n", Status::BadInput { line: 1, rule: 5 }, ""),
-    ("get -1\n", Status::BadInput { line: 1, rule: 5 }, ""),
-    (
-        "put 1 a\nGet 5\n",
-        Status::BadInput { line: 2, rule: 3 },
-        "",
-    ),
-    ("go 1 1\n", Status::BadInput { line: 1, rule: 6 }, ""),
-    (
-        "get 1\ngo 0 1\nput 1 a\ngo 0\n",
-        Status::Done,
-        "absent\nstored\n",
-    ),
-];
-
-#[test]
-fn replies(rt: HostRuntime) -> Result<(), Fail> {
-    for (input, status, text) in REPLIES {
-        let (ended, refused) = row(&rt, input, text, &[])?;
-        assert_eq!(rt; (ended.said(), refused), ((status, true), true), "{input}");
-    }
-    Ok(())
-}
-
-// What a call with these words says, on a fresh region.
-fn said(rt: &(impl Threads + AllocGlobal), words: &[&str]) -> Result<(Status, bool), Fail> {
-    let alloc = rt.alloc();
-    let mut region = steady(alloc)?;
-    let mut source = SteadySource::new(Vec::new(alloc), 1);
-    let mut sink = SteadySink::new(alloc, 10, 1)?;
-    let report = call(rt, words, &mut source, &mut sink, &mut region)?;
-    Ok((report.status, report.attached))
-}
-
-const NO_FORMS: [&[&str]; 7] = [
-    &[],
-    &["flatstore"],
-    &["flatstore", "replay"],
-    &["flatstore", "Replay", "region"],
-    &["flatstore", "replay", "region", "more"],
-    &["flatstore", "run", "region"],
-    &["flatstore", "load", "region", "7", "10"],
-];
-
-#[test]
-fn words_that_are_no_form(rt: HostRuntime) -> Result<(), Fail> {
-    for line in NO_FORMS {
-        assert_eq!(rt; said(&rt, line)?, (Status::Usage, false));
-    }
-    Ok(())
-}
-
 // An environment with one word, which is not UTF-8.
 #[derive(Drop)]
 struct NoText {
@@ -348,90 +274,6 @@ pub fn with(alloc: Global, places: &[(usize, u8)]) -> Result<Vec<u8>, AllocError
     Ok(bytes)
 }
 
-// How a replay of the three lines ends on a region with these bytes, and whether nothing is written.
-fn three_on(rt: &(impl Threads + AllocGlobal), bytes: Vec<u8>) -> Result<(Status, bool), Fail> {
-    let mut region = SteadyRegion::new(rt.alloc(), bytes, 5000)?;
-    Ok(ends(rt, &mut region, THREE, "")?.said())
-}
-
-// The bytes of the fresh region but the last one.
-fn short(alloc: Global) -> Result<Vec<u8>, AllocError> {
-    let mut bytes = fresh(alloc)?;
-    let _ = bytes.pop();
-    Ok(bytes)
-}
-
-// Key 1 version 1, as `a` in log chunk 0 and as `b` in log chunk 1.
-const TWICE: [(usize, u8); 12] = [
-    (4096, 1),
-    (4104, 8),
-    (4352, 0x15),
-    (4355, 1),
-    (4360, 1),
-    (4368, b'a'),
-    (8192, 1),
-    (8200, 8),
-    (8448, 0x15),
-    (8451, 1),
-    (8456, 1),
-    (8464, b'b'),
-];
-
-// Keys 1 and 2 in log chunk 1, both pointing at 17, a block of class 1 in data chunk 0 with length 256.
-const SHARED: [(usize, u8); 11] = [
-    (4096, 2),
-    (4097, 1),
-    (4353, 1),
-    (8192, 1),
-    (8200, 8),
-    (8448, 0x11),
-    (8451, 17),
-    (8456, 1),
-    (8464, 0x11),
-    (8467, 17),
-    (8472, 2),
-];
-
-const DAMAGED: [(&[(usize, u8)], Status); 4] = [
-    (&[(0, b'G')], Status::NotARegion { rule: 2 }),
-    (&[(32, 5)], Status::NotARegion { rule: 3 }),
-    (
-        &TWICE,
-        Status::Damaged {
-            part: 0,
-            chunk: 1,
-            rule: 8,
-        },
-    ),
-    (
-        &SHARED,
-        Status::Damaged {
-            part: 0,
-            chunk: 1,
-            rule: 11,
-        },
-    ),
-];
-
-#[test]
-fn damaged_regions(rt: HostRuntime) -> Result<(), Fail> {
-    let alloc = rt.alloc();
-    assert_eq!(rt;
-        three_on(&rt, short(alloc)?)?,
-        (Status::NotARegion { rule: 1 }, true)
-    );
-    for (others, status) in DAMAGED {
-        assert_eq!(rt; three_on(&rt, with(alloc, others)?)?, (status, true));
-    }
-    Ok(())
-}
-
-const BEHIND_EACH_OTHER: [(&str, &str); 3] = [
-    (THREE, "stored\nvalue abc\nabsent\n"),
-    ("get 5\nput 5 de\n", "value abc\nstored\n"),
-    ("get 5", "value de\n"),
-];
-
 // Replays inputs on a region, one behind the other, and sees that each is done and writes its text.
 pub fn all_done<R: SplitRegion + ReadRegion>(
     rt: &(impl Threads + AllocGlobal + Abort),
@@ -443,12 +285,6 @@ pub fn all_done<R: SplitRegion + ReadRegion>(
         assert_eq!(*rt; ended.said(), (Status::Done, true), "{input}");
     }
     Ok(())
-}
-
-#[test]
-fn a_region_with_puts(rt: HostRuntime) -> Result<(), Fail> {
-    let mut region = steady(rt.alloc())?;
-    all_done(&rt, &mut region, &BEHIND_EACH_OTHER)
 }
 
 // The only entry is key 9 version 1,048,574 with the value `q`, in log chunk 0.
@@ -464,22 +300,6 @@ pub fn spent(alloc: Global) -> Result<Vec<u8>, AllocError> {
         (4368, b'q'),
     ];
     with(alloc, places.as_slice())
-}
-
-#[test]
-fn versions_spent(rt: HostRuntime) -> Result<(), Fail> {
-    let alloc = rt.alloc();
-    let mut region = SteadyRegion::new(alloc, spent(alloc)?, 5000)?;
-    let why = Shortage::Versions { last: 1_048_574 };
-    let (ended, refused) = refuses(
-        &rt,
-        &mut region,
-        "put 9 r\nget 9\n",
-        "versions spent\nvalue q\n",
-        &[Refusal { request: 0, why }],
-    )?;
-    assert_eq!(rt; (ended.said(), refused), ((Status::Done, true), true));
-    Ok(())
 }
 
 // 37 puts of values with 255 bytes, each with turns enough to end it, and the replies to them: a chunk of 60 lines has
@@ -655,55 +475,5 @@ fn with_a_failing_sink(rt: &(impl Threads + AllocGlobal)) -> Result<(Status, boo
 #[test]
 fn a_failing_sink(rt: HostRuntime) -> Result<(), Fail> {
     assert_eq!(rt; with_a_failing_sink(&rt)?, (Status::SinkFault, true));
-    Ok(())
-}
-
-// How a replay on the region in a file ends, where this text is wanted.
-fn file_ends(
-    rt: &HostRuntime,
-    threads: &(impl Threads + AllocGlobal),
-    name: &str,
-    text: &str,
-) -> Result<(Status, bool), Fail> {
-    let alloc = rt.alloc();
-    let mut region = FileRegion::at(rt.clone()?, String::from_str(alloc, name)?);
-    Ok(ends(threads, &mut region, THREE, text)?.said())
-}
-
-// Whether the region in a file has these words.
-fn file_has(rt: &HostRuntime, name: &str, words: &[(usize, u64)]) -> Result<bool, Fail> {
-    let found = words_of_file(rt, name)?;
-    for (place, word) in words {
-        if found.get(*place) != Some(word) {
-            return Ok(false);
-        }
-    }
-    Ok(true)
-}
-
-fn words_of_file(rt: &HostRuntime, name: &str) -> Result<Vec<u64>, Fail> {
-    let alloc = rt.alloc();
-    let mut region = FileRegion::at(rt.clone()?, String::from_str(alloc, name)?);
-    region.attach(alloc)?;
-    Ok(words_of(alloc, &region)?)
-}
-
-const WORDS_OF_THREE: [(usize, u64); 5] = [
-    (512, 1),
-    (513, 8),
-    (544, 0x0300_0015),
-    (545, 5),
-    (546, 0x0063_6261),
-];
-
-#[test]
-fn a_region_in_a_file(rt: HostRuntime) -> Result<(), Fail> {
-    let name = "flatstore_a_region_in_a_file";
-    fs::write(&rt, name, fresh(rt.alloc())?.as_slice())?;
-    let said = file_ends(&rt, &rt, name, "stored\nvalue abc\nabsent\n")?;
-    assert_eq!(rt; said, (Status::Done, true));
-    assert!(rt; file_has(&rt, name, &WORDS_OF_THREE)?);
-    fs::remove_file(&rt, name)?;
-    assert_eq!(rt; file_ends(&rt, &rt, name, "")?, (Status::RegionFault, true));
     Ok(())
 }

@@ -1,6 +1,6 @@
-// The worked rows of making a region, on the top call.
+// How a region is made, on the top call, and what a failed fence leaves of it.
 use crate::call_tests::{PICKS, words_of};
-use flatstore_commands::{Status, flatstore_alone, region_path};
+use flatstore_commands::{Status, flatstore_alone};
 use fs_text::{SteadySink, SteadySource};
 use image_yardstick::first_fault;
 use pm_region::{ReadRegion, Region, SplitRegion};
@@ -71,16 +71,6 @@ fn a_new_region(rt: HostRuntime) -> Result<(), Fail> {
     Ok(())
 }
 
-#[test]
-fn a_full_size(rt: HostRuntime) -> Result<(), Fail> {
-    let alloc = rt.alloc();
-    let line = "format r --cores 4 --group 4 --chunks 16 --chunk-bytes 1048576";
-    let mut region = SteadyRegion::new(alloc, Vec::new(alloc), 50)?;
-    assert_eq!(rt; call(&rt, line, &mut region)?, (Status::Done, true));
-    assert_eq!(rt; region.bytes(), 67_112_960);
-    Ok(())
-}
-
 // Whether each image of a stamp is refused by rule 2, or sound.
 fn is_refused_or_sound(alloc: Global, region: &MemRegion, stamp: u64) -> Result<bool, Fail> {
     for pick in PICKS {
@@ -137,71 +127,5 @@ fn a_failing_create(rt: HostRuntime) -> Result<(), Fail> {
         call(&rt, FORMAT, &mut region)?,
         (Status::RegionFault, false)
     );
-    Ok(())
-}
-
-const FORMS: [(&str, Option<&str>); 17] = [
-    (FORMAT, Some("r")),
-    (
-        "format --chunk-bytes=4096 --chunks=4 --cores=2 --group=2 another",
-        Some("another"),
-    ),
-    ("replay region", Some("region")),
-    ("replay ", Some("")),
-    ("replay", None),
-    ("reply r", None),
-    ("replay r s", None),
-    ("replay --help", None),
-    ("--help", None),
-    ("help", None),
-    ("format r", None),
-    (
-        "format r --cores 3 --group 2 --chunks 4 --chunk-bytes 4096",
-        None,
-    ),
-    (
-        "format r --cores 16 --group 8 --chunks 64 --chunk-bytes 1048576",
-        None,
-    ),
-    (
-        "format r --cores 4294967298 --group 2 --chunks 4 --chunk-bytes 4096",
-        None,
-    ),
-    (
-        "format r --cores 2 --group 2 --chunks 4 --chunk-bytes 4k",
-        None,
-    ),
-    (
-        "format r --cores 2 --cores 2 --group 2 --chunks 4 --chunk-bytes 4096",
-        None,
-    ),
-    (
-        "format --cores 2 --group 2 --chunks 4 --chunk-bytes 4096",
-        None,
-    ),
-];
-
-// Whether the region's name is found in these words, or none.
-fn has_path(alloc: Global, line: &str, path: Option<&str>) -> Result<bool, Fail> {
-    let found = region_path(alloc, &words(alloc, line)?)?;
-    Ok(found.as_ref().map(|found| found.as_str()) == path)
-}
-
-// What a call with these words says, and the size of the region that it was given, and the words that this has then.
-fn said(rt: &(impl Threads + AllocGlobal), line: &str) -> Result<(Status, u64, u64), Fail> {
-    let alloc = rt.alloc();
-    let mut region = SteadyRegion::new(alloc, vec![in alloc; 7u8; 80]?, 50)?;
-    let (status, _) = call(rt, line, &mut region)?;
-    Ok((status, region.bytes(), region.words()))
-}
-
-#[test]
-fn forms(rt: HostRuntime) -> Result<(), Fail> {
-    for (line, path) in FORMS {
-        assert!(rt; has_path(rt.alloc(), line, path)?, "{line}");
-        if path.is_none() {
-            assert_eq!(rt; said(&rt, line)?, (Status::Usage, 80, 0), "{line}");
-        }
-    }
     Ok(())
 }

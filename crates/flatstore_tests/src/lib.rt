@@ -1,9 +1,7 @@
-//! Tests of the whole program, on its top call. They stand beside the crate that they test, since a crate with tests is
-//! proved twice.
+//! Tests of the whole program, on its top call: faults at a certain call, the images of a crash, cores that meet. They
+//! stand beside the crate that they test, since a crate with tests is proved twice.
 #![tactic(auto)]
 
-#[cfg(test)]
-mod audit_tests;
 #[cfg(test)]
 mod call_tests;
 #[cfg(test)]
@@ -16,8 +14,6 @@ mod format_tests;
 mod judging_tests;
 #[cfg(test)]
 mod load_tests;
-#[cfg(test)]
-mod log_tests;
 #[cfg(test)]
 mod meeting_tests;
 #[cfg(test)]

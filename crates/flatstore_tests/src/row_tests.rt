@@ -1,4 +1,4 @@
-// The worked rows of several cores and groups, on the top call.
+// Several cores and groups, on the top call: the images of their batches, and a core that stops.
 use crate::call_tests::{Ended, PICKS, call, cell, ends, replay, stamp_of, with, words_of};
 use flatstore_commands::{CommandReport, Status};
 use fs_text::{Sink, SteadySink, SteadySource};

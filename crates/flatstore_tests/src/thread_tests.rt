@@ -1,4 +1,4 @@
-// The worked rows of a run on threads, on the top call.
+// A run on threads, on the top call: cores that meet, and pieces that fail.
 ghost use Rattle.std.specs.Prelude.{false, true};
 
 use crate::call_tests::{Ended, command, ends, with, words_of};
@@ -67,109 +67,6 @@ fn run<R: SplitRegion + ReadRegion>(
     threads_end(rt, &RUN, region, input, text, &OpenGate)
 }
 
-// The same on a fresh region of so many cores, in groups.
-fn fresh_run(
-    rt: &(impl Threads + Wait + Clock + Sync + AllocGlobal),
-    cores: u8,
-    group: u8,
-    input: &str,
-    text: &str,
-) -> Result<Ended, Fail> {
-    let alloc = rt.alloc();
-    let mut region = SteadyRegion::new(alloc, fresh_of(alloc, cores, group)?, 5000)?;
-    run(rt, &mut region, input, text)
-}
-
-const ONE_CORE: [(&str, Status, &str); 4] = [
-    ("", Status::Done, ""),
-    (
-        "put 5 abc\nget 5\ndelete 5\nget 5\n",
-        Status::Done,
-        "stored\nvalue abc\ndeleted\nabsent\n",
-    ),
-    (
-        "delete 3\nput 3 a\nput 3 b\ndelete 3\ndelete 3\nget 3\n",
-        Status::Done,
-        "absent\nstored\nstored\ndeleted\nabsent\nabsent\n",
-    ),
-    (
-        "put 1 a\nGet 5\n",
-        Status::BadInput { line: 2, rule: 3 },
-        "",
-    ),
-];
-
-#[test]
-fn one_core(rt: HostRuntime) -> Result<(), Fail> {
-    for (input, status, text) in ONE_CORE {
-        let ended = fresh_run(&rt, 1, 1, input, text)?;
-        assert_eq!(rt; ended.said(), (status, true), "{input}");
-    }
-    Ok(())
-}
-
-#[test]
-fn what_is_left(rt: HostRuntime) -> Result<(), Fail> {
-    let mut region = SteadyRegion::new(rt.alloc(), fresh_of(rt.alloc(), 2, 2)?, 5000)?;
-    let input = "delete 3\nput 3 a\nput 4 q\nput 3 b\ndelete 3\ndelete 3\nget 3\n";
-    let text = "absent\nstored\nstored\nstored\ndeleted\nabsent\nabsent\n";
-    let ended = run(&rt, &mut region, input, text)?;
-    assert_eq!(rt; (ended.said(), ended.finishes), ((Status::Done, true), 4));
-    let pairs = text_of(&rt, "dump", &mut region)?;
-    assert_eq!(rt; pairs.as_slice(), b"4 q\n".as_slice());
-    Ok(())
-}
-
-// Two thousand requests for a hundred keys, each key's puts and gets in turn, and their replies.
-pub fn two_thousand(alloc: Global) -> Result<(String, String), AllocError> {
-    let mut input = String::new(alloc);
-    let mut replies = String::new(alloc);
-    for round in 0..20u64 {
-        for key in 0..100u64 {
-            if round % 2 == 0 {
-                let number = 100 * round + key;
-                let line = format!(in alloc; "put {key} {number}\n")?;
-                input.push_str(line.as_str())?;
-                replies.push_str("stored\n")?;
-            } else {
-                let number = 100 * (round - 1) + key;
-                let line = format!(in alloc; "get {key}\n")?;
-                input.push_str(line.as_str())?;
-                let line = format!(in alloc; "value {number}\n")?;
-                replies.push_str(line.as_str())?;
-            }
-        }
-    }
-    Ok((input, replies))
-}
-
-// A region of four cores in one group, each with 32 chunks of 4,096 bytes.
-fn four_cores(alloc: Global) -> Result<SteadyRegion, Fail> {
-    let mut bytes = with(alloc, &[(16, 4), (24, 4), (32, 32)])?;
-    bytes.resize(4096 + 4 * 32 * 4096, 0)?;
-    Ok(SteadyRegion::new(alloc, bytes, 0)?)
-}
-
-// How a replay of the two thousand requests ends, and a run of them, each on a region of its own.
-fn both_ends(
-    rt: &(impl Threads + Wait + Clock + Sync + AllocGlobal),
-) -> Result<(Ended, Ended), Fail> {
-    let (input, replies) = two_thousand(rt.alloc())?;
-    let mut region = four_cores(rt.alloc())?;
-    let replayed = ends(rt, &mut region, input.as_str(), replies.as_str())?;
-    let mut region = four_cores(rt.alloc())?;
-    let ran = run(rt, &mut region, input.as_str(), replies.as_str())?;
-    Ok((replayed, ran))
-}
-
-#[test]
-fn as_a_replay(rt: HostRuntime) -> Result<(), Fail> {
-    let (replayed, ran) = both_ends(&rt)?;
-    assert_eq!(rt; replayed.said(), (Status::Done, true));
-    assert_eq!(rt; (ran.said(), ran.finishes), ((Status::Done, true), 1000));
-    Ok(())
-}
-
 // So many gets of a key, then a put of it and one more get; and their replies.
 pub fn gets_and_a_put(alloc: Global, gets: u64) -> Result<(String, String), AllocError> {
     let mut input = String::new(alloc);
@@ -181,15 +78,6 @@ pub fn gets_and_a_put(alloc: Global, gets: u64) -> Result<(String, String), Allo
     input.push_str("put 1 x\nget 1\n")?;
     replies.push_str("stored\nvalue x\n")?;
     Ok((input, replies))
-}
-
-// The put is the last request of the first window, and the get behind it the first of the second.
-#[test]
-fn two_windows(rt: HostRuntime) -> Result<(), Fail> {
-    let (input, replies) = gets_and_a_put(rt.alloc(), 4095)?;
-    let ended = fresh_run(&rt, 1, 1, input.as_str(), replies.as_str())?;
-    assert_eq!(rt; ended.said(), (Status::Done, true));
-    Ok(())
 }
 
 const LOADS: u64 = 500_000_000;
