@@ -3,6 +3,7 @@
 ghost use Rattle.std.specs.Prelude.{◌≡◌, ℕ, ◌+◌, ◌≤◌, [], ◌∷◌, length, vec_capacity, IfOk, OnOk, OnErr};
 ghost use Rattle.region_file.specs.Calls.{refused};
 
+use crate::byte_room::put_behind;
 use crate::calls::Calls;
 use crate::system::{self, FileId, FilePlace};
 use pm_region::RegionFault;
@@ -248,7 +249,7 @@ impl Device {
             let size = PART.min(count - room.len());
             let front = &mut part[..size];
             self.file.read_exact_at(front, room.len() as u64)?;
-            put(room, front);
+            put_behind(room, front);
         }
         Ok(())
     }
@@ -322,17 +323,5 @@ impl Device {
     {
         let _ = rt.remove_file(own);
         self.calls.note(&[REMOVED, 0], own.as_bytes());
-    }
-}
-
-// Puts bytes behind those before them, for which there is room.
-fn put(room: &mut Vec<u8>, bytes: &[u8])
-    requires { length room.old.items + length bytes.now ≤ vec_capacity room.old }
-    ensures items { length room.new.items ≡ length room.old.items + length bytes.now }
-    ensures room { vec_capacity room.old ≤ vec_capacity room.new }
-{
-    match room.extend_from_slice(bytes) {
-        Ok(()) => {}
-        Err(_) => unreachable!(),
     }
 }

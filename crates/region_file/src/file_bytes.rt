@@ -102,7 +102,8 @@ impl FileBytes {
         set_word(&mut self.own, place, value);
     }
 
-    /// Stores words, one behind the other, from a place on. Where they are there already, nothing is copied.
+    /// Stores words, one behind the other, from a place on. Where the bytes are shared and the words are there already,
+    /// nothing is copied.
     pub fn set_words(&mut self, first: u64, words: &[u8])
         requires whole { length words.now % WORD_BYTES ≡ 0 }
         requires within { WORD_BYTES * first + length words.now ≤ length self.old.items }
@@ -112,7 +113,7 @@ impl FileBytes {
         ensures outer { (k : ℕ) → (k < first) ⊎ (first + length words.now / WORD_BYTES ≤ k)
             → word_at self.new.items k ≡ word_at self.old.items k }
     {
-        if has_words(self.as_slice(), first, words) {
+        if self.shared.is_some() && has_words(self.as_slice(), first, words) {
             return;
         }
         make_own(&mut self.own, &mut self.shared);
@@ -126,6 +127,9 @@ fn make_own(own: &mut Vec<u8>, shared: &mut Option<SharedPart>)
     ensures items { own.new.items ≡ items_in own.old shared.old }
     ensures none { shared.new ≡ None }
 {
+    if shared.is_none() {
+        return;
+    }
     if let Some(part) = shared.take() {
         part.give(own);
     }

@@ -2,6 +2,7 @@
 //! is split into. All calls of the system on the file are in `device` and `system`.
 #![tactic(auto)]
 
+mod byte_room;
 mod calls;
 mod device;
 mod file;

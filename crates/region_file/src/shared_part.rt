@@ -2,6 +2,7 @@
 ghost use Rattle.std.specs.Prelude.{◌≡◌, ◌≤◌, [], length, vec_capacity};
 ghost use Rattle.std.specs.Arc.{arc_value};
 
+use crate::byte_room::put_behind;
 use std::alloc::{AllocError, AllocFailed, Global};
 use std::sync::Arc;
 
@@ -64,24 +65,12 @@ impl SharedPart {
         ensures { room.new.items ≡ part_items self }
     {
         if self.from > 0 || self.end < self.whole.len() {
-            keep(room, self.as_slice());
+            put_behind(room, self.as_slice());
             return;
         }
         match Arc::try_unwrap(self.whole) {
             Ok(bytes) => *room = bytes,
-            Err(whole) => keep(room, &whole),
+            Err(whole) => put_behind(room, &whole),
         }
-    }
-}
-
-// Copies bytes into room for them.
-fn keep(room: &mut Vec<u8>, bytes: &[u8])
-    requires empty { room.old.items ≡ [] }
-    requires room { length bytes.now ≤ vec_capacity room.old }
-    ensures { room.new.items ≡ bytes.now }
-{
-    match room.extend_from_slice(bytes) {
-        Ok(()) => {}
-        Err(_) => unreachable!(),
     }
 }
