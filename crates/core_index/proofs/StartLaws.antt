@@ -456,21 +456,6 @@ PassesOne a b home t = (h : ℕ) (n : EntryName) → IsAhead a h n → ((h ≡ h
 abbrev pub Passing : Tombs → Tombs → ℕ → Tombstone → Type 0
 Passing a b home t = (h : ℕ) (n : EntryName) → Ahead a h n → ((h ≡ home) × (n ≡ name_of t) × (tomb_home t ≡ home)) ⊎ Ahead b h n
 
-pub passes_lone : (a : StartKeys) (l : LoneKeys) (home : ℕ) (t : Tombstone) → Passing a.lone.deleted l.deleted home t → PassesOne a (with_lone a l) home t
-passes_lone a l home t passes h n ahead = ⊎_elim
-    (λ (x : LoneAhead a.lone h n). ⊎_elim (λ (own : (h ≡ home) × (n ≡ name_of t) × (tomb_home t ≡ home)). inl own) (λ (still : Ahead l.deleted h n). inr (inl still)) (passes h n x))
-    (λ (y : Ahead a.late h n ⊎ Ahead a.older h n). inr (inr y))
-    ahead
-
-pub passes_late : (a : StartKeys) (d : Tombs) (home : ℕ) (t : Tombstone) → Passing a.late d home t → PassesOne a (record { lone = a.lone; older = a.older; late = d }) home t
-passes_late a d home t passes h n ahead = ⊎_elim
-    (λ (x : LoneAhead a.lone h n). inr (inl x))
-    (λ (y : Ahead a.late h n ⊎ Ahead a.older h n). ⊎_elim
-    (λ (z : Ahead a.late h n). ⊎_elim (λ (own : (h ≡ home) × (n ≡ name_of t) × (tomb_home t ≡ home)). inl own) (λ (still : Ahead d h n). inr (inr (inl still))) (passes h n z))
-    (λ (z : Ahead a.older h n). inr (inr (inr z)))
-    y)
-    ahead
-
 pub passes_older : (a : StartKeys) (d : Tombs) (home : ℕ) (t : Tombstone) → Passing a.older d home t → PassesOne a (record { lone = a.lone; older = d; late = a.late }) home t
 passes_older a d home t passes h n ahead = ⊎_elim
     (λ (x : LoneAhead a.lone h n). inr (inl x))

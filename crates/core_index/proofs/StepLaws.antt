@@ -71,6 +71,11 @@ pub on_ok : {T E P Q : Type 0} (r : Result T E) → (P → Q) → OnOk r P → O
 on_ok (Ok x) f p = f p
 on_ok (Err e) f p = tt
 
+-- what holds either way
+pub either_way : {T E P : Type 0} (r : Result T E) → OnOk r P → OnErr r P → P
+either_way (Ok x) p q = p
+either_way (Err e) p q = q
+
 pub if_ok_is : {T E P : Type 0} (r : Result T E) → P → IfOk r (λ x. P)
 if_ok_is (Ok x) p = p
 if_ok_is (Err e) p = tt

@@ -18,7 +18,7 @@ use Rattle.core_index.specs.declared.types.Tombstone.{Tombstone}
 use Rattle.core_index.specs.Records.{KeyRecord, Awaits, Shows, standing_at, standing_with, told_in, without, live_version, count_untold, standing_of}
 use Rattle.core_index.specs.Slots.{Place}
 use Rattle.core_index.specs.Noted.{name_with}
-use Rattle.core_index.specs.Tombs.{tomb_home, tomb_version, Tombs, key_of, left_of, left_by, deleted, IsThere, place_of, tomb_places, found_at, fated, with_fate, AreLess, Rising, IsMissing, AreTombs, AreLate, Ahead, passed_at, bare_tombstone}
+use Rattle.core_index.specs.Tombs.{tomb_home, tomb_version, Tombs, key_of, left_of, left_by, deleted, IsThere, place_of, tomb_places, found_at, fated, with_fate, AreLess, Rising, IsFirst, IsMissing, AreListed, Ahead, passed_at, bare_tombstone}
 use Rattle.core_index.specs.Index.{place_at, known_in, room_in, known_at, room_at, untold_in, untold_of, all_untold, ToldAt, Turns}
 use Rattle.core_index.proofs.StepLaws.{apart}
 
@@ -49,23 +49,43 @@ all_at P [] i d all lt = absurd (omega (arith, lt))
 all_at P (t ∷ ts) zero d all lt = all.0
 all_at P (t ∷ ts) (suc i) d all lt = all_at P ts i d all.1 (omega (arith, lt))
 
--- every key before a place is less, and from it on none is
-pub missing_from : (ts : List Tombstone) (k at : ℕ) → Rising ts → ((i : ℕ) (d : Tombstone) → i < at → key_of (get_or ts i d) < k) → ((i : ℕ) (d : Tombstone) → at ≤ i → i < length ts → k ≤ key_of (get_or ts i d)) → (at < length ts → (d : Tombstone) → key_of (get_or ts at d) ≢ k) → IsMissing ts k
-missing_from ts k at rises less more ne = all_from (λ (t : Tombstone). key_of t ≢ k) ts (λ i d within e. ⊎_elim
-    (λ (lt : i < at). let is = less i d lt in absurd (omega (arith, is, e)))
+default_of : (xs : List Tombstone) (i : ℕ) (e d : Tombstone) → i < length xs → get_or xs i e ≡ get_or xs i d
+default_of [] i e d lt = absurd (omega (arith, lt))
+default_of (x ∷ xs) zero e d lt = refl
+default_of (x ∷ xs) (suc i) e d lt = default_of xs i e d (omega (arith, lt))
+
+-- Where the first key is that is not below another.
+
+pub near_first : (ts : List Tombstone) (k at : ℕ) (d : Tombstone) → Rising ts → at < length ts → k ≤ key_of (get_or ts at d) → (0 < at → key_of (get_or ts (at - 1) d) < k) → IsFirst ts k at
+near_first ts k at d rises within here before = record {
+  within = within;
+  less = λ i e lt.
+      let last : at - 1 < length ts = omega (arith, within) in
+      let top = before (omega (arith, lt)) in
+      let same = ap key_of (default_of ts i e d (omega (arith, lt, within))) in
+      ⊎_elim
+      (λ (at_last : i ≡ at - 1). let is = ap (λ (n : ℕ). key_of (get_or ts n d)) at_last in omega (arith, same, is, top))
+      (λ (ne : i ≢ at - 1). ⊎_elim (λ (l : i < at - 1). let pair = rises_pair ts i (at - 1) d rises l last in omega (arith, same, pair, top)) (λ (g : at - 1 ≤ i). absurd (ne (omega (arith, g, lt)))) (cases_lt i (at - 1)))
+      (cases_eq i (at - 1));
+  first = λ e. let same = ap key_of (default_of ts at e d within) in omega (arith, same, here);
+}
+
+-- the key is nowhere if it is not there
+pub first_missing : (ts : List Tombstone) (k at : ℕ) → Rising ts → IsFirst ts k at → ((d : Tombstone) → key_of (get_or ts at d) ≢ k) → IsMissing ts k
+first_missing ts k at rises is ne = all_from (λ (t : Tombstone). key_of t ≢ k) ts (λ i d within e. ⊎_elim
+    (λ (lt : i < at). let less = is.less i d lt in absurd (omega (arith, less, e)))
     (λ (ge : at ≤ i). ⊎_elim
-    (λ (same : i ≡ at). ne (subst (λ (n : ℕ). n < length ts) same within) d (ap (λ (n : ℕ). key_of (get_or ts n d)) (sym same) ∙ e))
+    (λ (same : i ≡ at). ne d (ap (λ (n : ℕ). key_of (get_or ts n d)) (sym same) ∙ e))
     (λ (other : i ≢ at). ⊎_elim
-    (λ (lt : at < i). let first = more at d (omega arith) (omega (arith, lt, within)) in let is = rises_pair ts at i d rises lt within in absurd (omega (arith, first, is, e)))
+    (λ (lt : at < i). let first = is.first d in let pair = rises_pair ts at i d rises lt within in absurd (omega (arith, first, pair, e)))
     (λ (le : i ≤ at). absurd (other (omega (arith, le, ge))))
     (cases_lt at i))
     (cases_eq i at))
     (cases_lt i at))
 
-default_of : (xs : List Tombstone) (i : ℕ) (e d : Tombstone) → i < length xs → get_or xs i e ≡ get_or xs i d
-default_of [] i e d lt = absurd (omega (arith, lt))
-default_of (x ∷ xs) zero e d lt = refl
-default_of (x ∷ xs) (suc i) e d lt = default_of xs i e d (omega (arith, lt))
+-- nor if all keys are less
+pub past_missing : (ts : List Tombstone) (k at : ℕ) → length ts ≤ at → ((i : ℕ) (d : Tombstone) → i < at → key_of (get_or ts i d) < k) → IsMissing ts k
+past_missing ts k at past less = all_from (λ (t : Tombstone). key_of t ≢ k) ts (λ i d within e. let is = less i d (omega (arith, within, past)) in absurd (omega (arith, is, e)))
 
 -- the last key is above all, so what is above it is above all
 pub all_less : (ts : List Tombstone) (k : ℕ) (d : Tombstone) → Rising ts → (0 < length ts → key_of (get_or ts (length ts - 1) d) < k) → AreLess ts k
@@ -148,6 +168,22 @@ spot_fated (t ∷ ts) k (suc i) f d rises lt is =
     let ne = ne_eqb (key_of t) k (λ e. omega (arith, e, is, less)) in
     ap (λ (xs : List Tombstone). t ∷ xs) (spot_fated ts k i f d rises.1 (omega (arith, lt)) is) ∙ sym (cond-false (key_of t == k) (with_fate f t ∷ ts) (t ∷ fated ts k f) ne)
 
+all_set : (P : Tombstone → Type 0) (ts : List Tombstone) (i : ℕ) (x : Tombstone) → AllByRecursion P ts → P x → AllByRecursion P (slice_set ts i x)
+all_set P [] i x all own = tt
+all_set P (t ∷ ts) zero x all own = (own, all.1)
+all_set P (t ∷ ts) (suc i) x all own = (all.0, all_set P ts i x all.1 own)
+
+length_set : (ts : List Tombstone) (i : ℕ) (x : Tombstone) → length (slice_set ts i x) ≡ length ts
+length_set [] i x = refl
+length_set (t ∷ ts) zero x = refl
+length_set (t ∷ ts) (suc i) x = ap suc (length_set ts i x)
+
+pub turned_listed : (ts : List Tombstone) (passed : List ℕ) (i : ℕ) (f : Fate) (d : Tombstone) → AreListed ts passed → i < length ts → AreListed (slice_set ts i (with_fate f (get_or ts i d))) passed
+turned_listed ts passed i f d is lt = record {
+  homes = all_set (λ (t : Tombstone). tomb_home t < 16) ts i (with_fate f (get_or ts i d)) is.homes (all_at (λ (t : Tombstone). tomb_home t < 16) ts i d is.homes lt);
+  within = subst (λ (m : ℕ). AllByRecursion (λ (n : ℕ). n ≤ m) passed) (sym (length_set ts i (with_fate f (get_or ts i d)))) is.within;
+}
+
 all_fated : (P : Tombstone → Type 0) (ts : List Tombstone) (k : ℕ) (f : Fate) → ((t : Tombstone) → P t → P (with_fate f t)) → AllByRecursion P ts → AllByRecursion P (fated ts k f)
 all_fated P [] k f keeps all = tt
 all_fated P (t ∷ ts) k f keeps all = by (key_of t == k) (all_fated P ts k f keeps all.1)
@@ -171,13 +207,6 @@ length_fated (t ∷ ts) k f = by (key_of t == k) (length_fated ts k f)
     by : (b : Bool) → length (fated ts k f) ≡ length ts → length (cond b (with_fate f t ∷ ts) (t ∷ fated ts k f)) ≡ length (t ∷ ts)
     by true rest = refl
     by false rest = omega (arith, rest)
-
-pub fated_tombs : (ts : List Tombstone) (passed : List ℕ) (k : ℕ) (f : Fate) → AreTombs ts passed → AreTombs (fated ts k f) passed
-fated_tombs ts passed k f is = record {
-  rising = rising_fated ts k f is.rising;
-  homes = all_fated (λ (t : Tombstone). (tomb_home t) < 16) ts k f (λ t lt. lt) is.homes;
-  within = subst (λ (m : ℕ). AllByRecursion (λ (n : ℕ). n ≤ m) passed) (sym (length_fated ts k f)) is.within;
-}
 
 pub fated_here : (ts : List Tombstone) (k : ℕ) (f : Fate) → found_at (fated ts k f) k ≡ option_map (with_fate f) (found_at ts k)
 fated_here [] k f = refl
@@ -288,7 +317,7 @@ all_more : (P : Tombstone → Type 0) (ts : List Tombstone) (t : Tombstone) → 
 all_more P [] t all own = (own, tt)
 all_more P (x ∷ ts) t all own = (all.0, all_more P ts t all.1 own)
 
-rising_more : (ts : List Tombstone) (t : Tombstone) → Rising ts → AreLess ts (key_of t) → Rising (ts ++ t ∷ [])
+pub rising_more : (ts : List Tombstone) (t : Tombstone) → Rising ts → AreLess ts (key_of t) → Rising (ts ++ t ∷ [])
 rising_more [] t rises less = (tt, tt)
 rising_more (x ∷ ts) t rises less = (all_more (λ (y : Tombstone). key_of x < key_of y) ts t rises.0 less.0, rising_more ts t rises.1 less.1)
 
@@ -296,9 +325,8 @@ within_more : (passed : List ℕ) (m n : ℕ) → m ≤ n → AllByRecursion (λ
 within_more [] m n le all = tt
 within_more (x ∷ passed) m n le all = ((let own = all.0 in omega (arith, own, le)), within_more passed m n le all.1)
 
-pub pushed_tombs : (ts : List Tombstone) (passed : List ℕ) (t : Tombstone) → AreTombs ts passed → AreLess ts (key_of t) → (tomb_home t) < 16 → AreTombs (ts ++ t ∷ []) passed
-pushed_tombs ts passed t is less home = record {
-  rising = rising_more ts t is.rising less;
+pub pushed_listed : (ts : List Tombstone) (passed : List ℕ) (t : Tombstone) → AreListed ts passed → (tomb_home t) < 16 → AreListed (ts ++ t ∷ []) passed
+pushed_listed ts passed t is home = record {
   homes = all_more (λ (x : Tombstone). (tomb_home x) < 16) ts t is.homes home;
   within = let longer = length-append ts (t ∷ []) in within_more passed (length ts) (length (ts ++ t ∷ [])) (omega (arith, longer)) is.within;
 }
@@ -365,8 +393,8 @@ all_within ts [] i n all le = tt
 all_within ts (x ∷ ps) zero n all le = (le, all.1)
 all_within ts (x ∷ ps) (suc i) n all le = (all.0, all_within ts ps i n all.1 le)
 
-pub passed_tombs : (ts : List Tombstone) (passed : List ℕ) (home : ℕ) → AreTombs ts passed → get_or passed home 0 < length ts → AreTombs ts (slice_set passed home (get_or passed home 0 + 1))
-passed_tombs ts passed home is lt = record { rising = is.rising; homes = is.homes; within = all_within ts passed home (get_or passed home 0 + 1) is.within (omega (arith, lt)) }
+pub passed_listed : (ts : List Tombstone) (passed : List ℕ) (home : ℕ) → AreListed ts passed → get_or passed home 0 < length ts → AreListed ts (slice_set passed home (get_or passed home 0 + 1))
+passed_listed ts passed home is lt = record { homes = is.homes; within = all_within ts passed home (get_or passed home 0 + 1) is.within (omega (arith, lt)) }
 
 pub none_far : (a : Tombs) (home : ℕ) (n : EntryName) → AllByRecursion (λ (t : Tombstone). (tomb_home t) < 16) a.items → 16 ≤ home → Ahead a home n → ⊥
 none_far a home n homes far is = let lt = all_at (λ (t : Tombstone). (tomb_home t) < 16) a.items is.at bare_tombstone homes is.within in let e = is.home_is in omega (arith, lt, e, far)
@@ -561,14 +589,3 @@ rewound_own ts k t is =
       version = ap tomb_version there.there;
       home_is = ap tomb_home there.there;
     }
-
--- A list of such keys in any order.
-
-pub pushed_late : (ts : List Tombstone) (passed : List ℕ) (t : Tombstone) → AreLate ts passed → (tomb_home t) < 16 → AreLate (ts ++ t ∷ []) passed
-pushed_late ts passed t is home = record {
-  homes = all_more (λ (x : Tombstone). (tomb_home x) < 16) ts t is.homes home;
-  within = let longer = length-append ts (t ∷ []) in within_more passed (length ts) (length (ts ++ t ∷ [])) (omega (arith, longer)) is.within;
-}
-
-pub passed_late : (ts : List Tombstone) (passed : List ℕ) (home : ℕ) → AreLate ts passed → get_or passed home 0 < length ts → AreLate ts (slice_set passed home (get_or passed home 0 + 1))
-passed_late ts passed home is lt = record { homes = is.homes; within = all_within ts passed home (get_or passed home 0 + 1) is.within (omega (arith, lt)) }

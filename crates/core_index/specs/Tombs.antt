@@ -95,6 +95,12 @@ pub record IsSpot (ts : List Tombstone) (k i : ℕ) : Type 0 where
   pub within : i < length ts
   pub key : (d : Tombstone) → key_of (slice_index_or ts i d) ≡ k
 
+-- the keys before this place are less, and the one there is not
+pub record IsFirst (ts : List Tombstone) (k at : ℕ) : Type 0 where
+  pub within : at < length ts
+  pub less : (i : ℕ) (d : Tombstone) → i < at → key_of (slice_index_or ts i d) < k
+  pub first : (d : Tombstone) → k ≤ key_of (slice_index_or ts at d)
+
 -- the key is nowhere
 abbrev pub IsMissing : List Tombstone → ℕ → Type 0
 IsMissing ts k = AllByRecursion (λ t. key_of t ≢ k) ts
@@ -116,13 +122,7 @@ pub record Ahead (b : Tombs) (home : ℕ) (n : EntryName) : Type 0 where
   pub version : tomb_version (slice_index_or b.items at bare_tombstone) ≡ n.version
   pub home_is : tomb_home (slice_index_or b.items at bare_tombstone) ≡ home
 
--- What is true of the fields of such a list.
-pub record AreTombs (ts : List Tombstone) (passed : List ℕ) : Type 0 where
-  pub rising : Rising ts
-  pub homes : AllByRecursion (λ t. tomb_home t < 16) ts
-  pub within : AllByRecursion (λ n. n ≤ length ts) passed
-
 -- What is true of the fields of a list of such keys in any order.
-pub record AreLate (ts : List Tombstone) (passed : List ℕ) : Type 0 where
+pub record AreListed (ts : List Tombstone) (passed : List ℕ) : Type 0 where
   pub homes : AllByRecursion (λ t. tomb_home t < 16) ts
   pub within : AllByRecursion (λ n. n ≤ length ts) passed

@@ -10,7 +10,6 @@ mod entries;
 mod entry_list;
 mod index;
 mod key_slot;
-mod late_tombstones;
 mod live_keys;
 mod live_list;
 mod lone_keys;
@@ -18,6 +17,7 @@ mod pairs;
 mod short_names;
 mod slot_map;
 mod start_keys;
+mod tombstone_list;
 mod tombstones;
 mod types;
 

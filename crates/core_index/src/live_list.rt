@@ -9,10 +9,11 @@ ghost use Rattle.core_index.specs.Lives.{entry_home, entry_version, live_key, by
 
 use crate::key_slot::KeySlot;
 use crate::short_names::{self, short_of};
-use crate::types::{LiveFate, LiveKey, Look, SHARE, Standee, StandingEntry, ValuePlace};
+use crate::types::{LiveFate, LiveKey, Look, NEAR, SHARE, Standee, StandingEntry, ValuePlace};
 use fs_model::{Key, Memory, Value, Version};
 use log_entry::{Body, EntryName};
 use std::alloc::Global;
+use std::cell::Cell;
 use std::marker::Model;
 
 // The length of every value beside its key fits into a byte.
@@ -24,6 +25,8 @@ const BYTES: u32 = 256;
 pub struct LiveList {
     items: Vec<LiveKey>,
     bytes: Vec<u8>,
+    // The place where a key was found last. Keys are often asked for by rising key.
+    near: Cell<usize>,
 }
 
 impl Model for LiveList {
@@ -138,15 +141,29 @@ fn all_less(items: &[LiveKey], key: Key) -> bool
     }
 }
 
-// Where a key is. Of keys that come by rising key the last one tells that they are nowhere.
-fn live_spot(items: &[LiveKey], key: Key) -> Option<usize>
+// Where a key is, if it is at this place or shortly behind it.
+fn spot_near(items: &[LiveKey], near: usize, key: Key) -> Option<usize>
+    ensures { IfSome result (IsLiveSpot items.now key) }
+{
+    let end = items.len().min(near.saturating_add(NEAR));
+    for at in near..end {
+        let there = key_of(&items[at]);
+        if there == key {
+            return Some(at);
+        }
+        if there > key {
+            return None;
+        }
+    }
+    None
+}
+
+// Where a key is among all.
+fn spot_among(items: &[LiveKey], key: Key) -> Option<usize>
     requires { KeysRise items.now }
     ensures found { IfSome result (IsLiveSpot items.now key) }
     ensures missing { IfNone result (IsNotThere items.now key) }
 {
-    if all_less(items, key) {
-        return None;
-    }
     let at = items.partition_point(|x| key_of(x) < key);
     if at >= items.len() {
         return None;
@@ -155,6 +172,22 @@ fn live_spot(items: &[LiveKey], key: Key) -> Option<usize>
         return None;
     }
     Some(at)
+}
+
+// The same, which is looked for near this place first. Of keys that come by rising key the last one tells that they are
+// nowhere.
+fn live_spot(items: &[LiveKey], near: usize, key: Key) -> Option<usize>
+    requires { KeysRise items.now }
+    ensures found { IfSome result (IsLiveSpot items.now key) }
+    ensures missing { IfNone result (IsNotThere items.now key) }
+{
+    if all_less(items, key) {
+        return None;
+    }
+    match spot_near(items, near, key) {
+        None => spot_among(items, key),
+        found => found,
+    }
 }
 
 // The part of the bytes that a value has.
@@ -247,6 +280,7 @@ impl LiveList {
         LiveList {
             items: Vec::new(alloc),
             bytes: Vec::new(alloc),
+            near: Cell::new(0),
         }
     }
 
@@ -300,9 +334,10 @@ impl LiveList {
         ensures found { result ≡ live_at self.now.items key }
         ensures within { IfSome result (λ x. IsWithin self.now.bytes x.held) }
     {
-        let Some(spot) = live_spot(&self.items, key) else {
+        let Some(spot) = live_spot(&self.items, self.near.get(), key) else {
             return None;
         };
+        self.near.set(spot);
         Some(self.items[spot])
     }
 
@@ -335,7 +370,7 @@ impl LiveList {
           bytes = self.old.bytes;
         } }
     {
-        let Some(spot) = live_spot(&self.items, key) else {
+        let Some(spot) = live_spot(&self.items, self.near.get(), key) else {
             return;
         };
         self.items[spot].fate = fate;

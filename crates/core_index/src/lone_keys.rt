@@ -1,16 +1,15 @@
 // The keys that are as they were at the start, each with the entry of its last version.
-ghost use Rattle.std.specs.Prelude.{◌≡◌, ◌≢◌, ◌⊎◌, ℕ, ◌+◌, ◌<◌, ◌≤◌, ◌++◌, ◌∷◌, [], Some, None, option_map, true, false, IfOk, IfSome, IfNone, OnOk, OnErr, length};
+ghost use Rattle.std.specs.Prelude.{◌≡◌, ◌≢◌, ℕ, ◌+◌, ◌≤◌, ◌++◌, [], Some, None, option_map, true, false, IfOk, IfSome, IfNone, OnOk, OnErr};
 ghost use Rattle.log_entry.specs.declared.entry.EntryName.{EntryName};
 ghost use Rattle.core_index.specs.Index.{all_untold, known_at, place_at, untold_by, ToldAt, TurnsAt, LoneTurns};
 ghost use Rattle.core_index.specs.Records.{Awaits, Shows, without, last_of, is_dead_in, is_forgettable};
 ghost use Rattle.core_index.specs.Lones.{lones, LoneAhead};
-ghost use Rattle.core_index.specs.Tombs.{tomb_home, key_of, name_of, AreLess, passed_at};
 ghost use Rattle.core_index.specs.Lives.{live_key, live_place, bytes_in, AllLess, IsWithin};
 
 use crate::key_slot::KeySlot;
 use crate::live_list::{LiveList, last_of};
 use crate::tombstones::Tombstones;
-use crate::types::{LiveKey, Look, Tombstone};
+use crate::types::{LiveKey, Look};
 use fs_model::{Key, Memory, Version};
 use log_entry::{Body, EntryName};
 use std::alloc::Global;
@@ -35,23 +34,6 @@ impl LoneKeys {
             live: LiveList::empty(alloc),
             deleted: Tombstones::empty(alloc),
         }
-    }
-
-    /// Adds a deleted key that is above all others.
-    pub fn add_deleted(&mut self, tombstone: Tombstone) -> Result<(), Memory>
-        requires above { AreLess self.old.deleted.items (key_of tombstone) }
-        requires home { tomb_home tombstone < 16 }
-        ensures ok { OnOk result (self.new ≡ record {
-          live = self.old.live;
-          deleted = record {
-            items = self.old.deleted.items ++ tombstone ∷ [];
-            passed = self.old.deleted.passed;
-          };
-        }) }
-        ensures room { (h : ℕ) → passed_at self.old.deleted h ≤ length self.old.deleted.items }
-        ensures err { OnErr result (self.new ≡ self.old) }
-    {
-        self.deleted.push(tombstone)
     }
 
     /// Adds a key with a value that is above all others of this kind.
@@ -164,21 +146,5 @@ impl LoneKeys {
     {
         self.live.clear(key);
         self.deleted.clear(key);
-    }
-
-    /// The next deleted key that this home was not asked about.
-    pub fn pass(&mut self, home: u32) -> Option<Tombstone>
-        ensures none { IfNone result ((n : EntryName) → ¬ LoneAhead self.old home n) }
-        ensures unchanged { IfNone result (self.new ≡ self.old) }
-        ensures others { IfSome result (λ t. (h : ℕ) (n : EntryName) → LoneAhead self.old h n
-            → ((h ≡ home) × (n ≡ name_of t) × (tomb_home t ≡ home))
-            ⊎ LoneAhead self.new h n) }
-        ensures same { lones self.new ≡ lones self.old }
-        ensures items { self.new.deleted.items ≡ self.old.deleted.items }
-        ensures more { IfSome result (λ _. (passed_at self.old.deleted home
-            < length self.old.deleted.items)
-            × (passed_at self.new.deleted home ≡ passed_at self.old.deleted home + 1)) }
-    {
-        self.deleted.pass(home)
     }
 }

@@ -11,8 +11,8 @@ ghost use Rattle.core_index.specs.Tombs.{tomb_home, key_of, name_of, place_of, A
 ghost use Rattle.core_index.specs.Lives.{live_key, live_place, placed_lives, bytes_in, AllLess, IsWithin};
 
 use crate::key_slot::KeySlot;
-use crate::late_tombstones::LateTombstones;
 use crate::lone_keys::LoneKeys;
+use crate::tombstone_list::TombstoneList;
 use crate::tombstones::{Tombstones, awaits, is_standing, standing_entry, version_of};
 use crate::types::{Fate, LiveKey, Look, Tombstone};
 use fs_model::{Key, Memory, Version};
@@ -27,7 +27,7 @@ pub struct StartKeys {
     /// An older entry of some of them, which is dead since the start.
     pub older: Tombstones,
     /// Deleted keys whose older entry is gone. There is room for each.
-    pub late: LateTombstones,
+    pub late: TombstoneList,
 }
 
 impl StartKeys {
@@ -38,7 +38,7 @@ impl StartKeys {
         StartKeys {
             lone: LoneKeys::empty(alloc),
             older: Tombstones::empty(alloc),
-            late: LateTombstones::empty(alloc),
+            late: TombstoneList::empty(alloc),
         }
     }
 
@@ -66,7 +66,7 @@ impl StartKeys {
             (place_of tombstone)) }
         ensures err { OnErr result (self.new ≡ self.old) }
     {
-        self.lone.add_deleted(tombstone)
+        self.lone.deleted.push(tombstone)
     }
 
     /// Adds a key with a value that is above all others of this kind.
@@ -236,7 +236,7 @@ impl StartKeys {
         ensures same { started self.new ≡ started self.old }
         ensures more { IfSome result (λ _. to_ask self.new home + 1 ≡ to_ask self.old home) }
     {
-        match self.lone.pass(home) {
+        match self.lone.deleted.pass(home) {
             Some(tombstone) => Some(tombstone),
             None => match self.late.pass(home) {
                 Some(tombstone) => Some(tombstone),

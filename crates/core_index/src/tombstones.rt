@@ -5,34 +5,35 @@ ghost use Rattle.log_entry.specs.declared.entry.EntryName.{EntryName};
 ghost use Rattle.core_index.specs.Index.{all_untold, known_at, place_at, untold_of, ToldAt, Turns};
 ghost use Rattle.core_index.specs.Records.{untold, Awaits, Shows, without, opened_with, last_of, is_dead_in, is_forgettable};
 ghost use Rattle.core_index.specs.declared.types.Tombstone.{Tombstone};
-ghost use Rattle.core_index.specs.Tombs.{tomb_home, tomb_version, key_of, name_of, left_of, standing_left, tomb_places, found_at, fated, AreLess, Rising, IsSpot, IsMissing, StandsAs, passed_at, Ahead};
+ghost use Rattle.core_index.specs.Tombs.{tomb_home, tomb_version, key_of, name_of, left_of, standing_left, tomb_places, found_at, fated, AreLess, Rising, StandsAs, passed_at, Ahead};
 
-use crate::short_names::{self, HOMES, short_of};
+use crate::short_names::{self, short_of};
+use crate::tombstone_list::{TombstoneList, are_less};
 use crate::types::{Fate, Look, SHARE, Standee, StandingEntry, Tombstone};
 use fs_model::{Key, Memory, Version};
 use log_entry::{Body, EntryName};
 use std::alloc::Global;
 use std::marker::Model;
 
-/// Keys of the start by rising key, each with the entry that deleted it, or with an older entry. For each home the first `passed` of them need not be
-/// looked at to tell it of a death. Only `push` takes memory.
+/// Keys of the start by rising key, each with the entry that deleted it, or with an older entry. Only `push` takes
+/// memory.
 #[derive(Drop)]
 pub struct Tombstones {
-    items: Vec<Tombstone>,
-    passed: [usize; 16],
+    list: TombstoneList,
 }
 
 impl Model for Tombstones {
-    ghost use Rattle.core_index.specs.Tombs.{Tombs, AreTombs};
+    ghost use Rattle.core_index.specs.Tombs.{Tombs, Rising};
 
     ghost Value = { Tombs };
 
-    ghost view = { λ a. record { items = a.items.items; passed = a.passed } };
+    ghost view = { λ a. a.list };
 
-    ghost invariant = { λ a. AreTombs a.items.items a.passed };
+    ghost invariant = { λ a. Rising a.list.items };
 }
 
-fn key_of(tombstone: &Tombstone) -> Key
+/// Whose entry it is.
+pub fn key_of(tombstone: &Tombstone) -> Key
     ensures { result ≡ key_of tombstone.now }
 {
     u64::from(tombstone.high) * SHARE + u64::from(tombstone.low)
@@ -176,44 +177,13 @@ pub fn awaits(tombstone: &Tombstone, version: Version, home: u32) -> bool
     }
 }
 
-// Whether a key is above all of these.
-fn are_less(items: &[Tombstone], key: Key) -> bool
-    requires { Rising items.now }
-    ensures { result ≡ true → AreLess items.now key }
-{
-    match items.last() {
-        None => true,
-        Some(last) => key_of(last) < key,
-    }
-}
-
-// Where a key is. Of keys that come by rising key the last one tells that they are nowhere.
-fn spot_of(items: &[Tombstone], key: Key) -> Option<usize>
-    requires { Rising items.now }
-    ensures found { IfSome result (IsSpot items.now key) }
-    ensures missing { IfNone result (IsMissing items.now key) }
-{
-    if are_less(items, key) {
-        return None;
-    }
-    let at = items.partition_point(|t| key_of(t) < key);
-    if at >= items.len() {
-        return None;
-    }
-    if key_of(&items[at]) != key {
-        return None;
-    }
-    Some(at)
-}
-
 impl Tombstones {
     /// No keys.
     pub fn empty(alloc: Global) -> Tombstones
         ensures { result.items ≡ [] }
     {
         Tombstones {
-            items: Vec::new(alloc),
-            passed: [0; 16],
+            list: TombstoneList::empty(alloc),
         }
     }
 
@@ -221,14 +191,14 @@ impl Tombstones {
     pub fn is_below(&self, key: Key) -> bool
         ensures { result ≡ true → AreLess self.now.items key }
     {
-        are_less(&self.items, key)
+        are_less(self.list.items(), key)
     }
 
     /// How many.
     pub fn len(&self) -> usize
         ensures { result ≡ length self.now.items }
     {
-        self.items.len()
+        self.list.items().len()
     }
 
     /// Each home is asked about all of them again.
@@ -238,7 +208,7 @@ impl Tombstones {
         ensures own { (k : ℕ) (t : Tombstone) → found_at self.old.items k ≡ Some t
             → Ahead self.new (tomb_home t) (name_of t) }
     {
-        self.passed = [0; 16];
+        self.list.rewind();
     }
 
     /// Adds a key that is above all others.
@@ -252,50 +222,7 @@ impl Tombstones {
         ensures room { (h : ℕ) → passed_at self.old h ≤ length self.old.items }
         ensures err { OnErr result (self.new ≡ self.old) }
     {
-        self.items.push(tombstone)?;
-        Ok(())
-    }
-
-    // Where a key is.
-    fn spot(&self, key: Key) -> Option<usize>
-        ensures spot { IfSome result (IsSpot self.now.items key) }
-        ensures missing { IfNone result (IsMissing self.now.items key) }
-    {
-        spot_of(&self.items, key)
-    }
-
-    // Where a key is that was just passed by this home: most often in the last place that it passed.
-    fn passed_spot(&self, key: Key, home: u32) -> Option<usize>
-        ensures spot { IfSome result (IsSpot self.now.items key) }
-        ensures missing { IfNone result (IsMissing self.now.items key) }
-    {
-        if home < HOMES {
-            let last = self.passed[home as usize].saturating_sub(1);
-            if last < self.items.len() && key_of(&self.items[last]) == key {
-                return Some(last);
-            }
-        }
-        self.spot(key)
-    }
-
-    // What there is in a place.
-    fn at(&self, spot: usize) -> Tombstone
-        requires { spot < length self.now.items }
-        ensures { (k : ℕ) → IsSpot self.now.items k spot
-            → found_at self.now.items k ≡ Some result }
-    {
-        self.items[spot]
-    }
-
-    // Gives the entry in a place another fate.
-    fn turn(&mut self, spot: usize, fate: Fate)
-        requires { spot < length self.old.items }
-        ensures { (k : ℕ) → IsSpot self.old.items k spot → self.new ≡ record {
-          items = fated self.old.items k fate;
-          passed = self.old.passed;
-        } }
-    {
-        self.items[spot].fate = fate;
+        self.list.push(tombstone)
     }
 
     /// What there is of a key.
@@ -304,10 +231,10 @@ impl Tombstones {
         ensures home { IfSome result (λ t. tomb_home t < 16) }
         ensures rising { Rising self.now.items }
     {
-        let Some(spot) = spot_of(&self.items, key) else {
+        let Some(spot) = self.list.spot(key) else {
             return None;
         };
-        Some(self.items[spot])
+        Some(self.list.items()[spot])
     }
 
     /// The last version of a key, or 0 where its record is not here.
@@ -361,10 +288,10 @@ impl Tombstones {
           passed = self.old.passed;
         } }
     {
-        let Some(spot) = self.spot(key) else {
+        let Some(spot) = self.list.spot(key) else {
             return;
         };
-        self.turn(spot, fate);
+        self.list.turn(spot, fate);
     }
 
     /// Tells a home of a dead entry, where it waits to be told.
@@ -376,13 +303,13 @@ impl Tombstones {
         ensures unchanged { result ≡ false → self.new ≡ self.old }
         ensures ahead { (h : ℕ) (n : EntryName) → Ahead self.old h n → Ahead self.new h n }
     {
-        let Some(spot) = self.passed_spot(name.key, home) else {
+        let Some(tombstone) = self.find(name.key) else {
             return false;
         };
-        if !awaits(&self.at(spot), name.version, home) {
+        if !awaits(&tombstone, name.version, home) {
             return false;
         }
-        self.turn(spot, Fate::Told);
+        self.set(name.key, Fate::Told);
         true
     }
 
@@ -395,11 +322,11 @@ impl Tombstones {
         ensures none { (home v : ℕ) → Awaits (known_at (tomb_places self.new.items) name.key) home v
             → Awaits (known_at (tomb_places self.old.items) name.key) home v }
     {
-        let Some(spot) = self.spot(name.key) else {
+        let Some(tombstone) = self.find(name.key) else {
             return;
         };
-        if is_dead(&self.at(spot), name.version) {
-            self.turn(spot, Fate::Gone);
+        if is_dead(&tombstone, name.version) {
+            self.set(name.key, Fate::Gone);
         }
     }
 
@@ -412,7 +339,6 @@ impl Tombstones {
     {
         self.set(key, Fate::Moved);
     }
-
     /// The next key that this home was not asked about.
     pub fn pass(&mut self, home: u32) -> Option<Tombstone>
         ensures none { IfNone result ((n : EntryName) → ¬ Ahead self.old home n) }
@@ -424,15 +350,6 @@ impl Tombstones {
         ensures more { IfSome result (λ _. (passed_at self.old home < length self.old.items)
             × (passed_at self.new home ≡ passed_at self.old home + 1)) }
     {
-        let count = self.items.len();
-        if home >= HOMES {
-            return None;
-        }
-        let at = self.passed[home as usize];
-        if at >= count {
-            return None;
-        }
-        self.passed[home as usize] = at + 1;
-        Some(self.items[at])
+        self.list.pass(home)
     }
 }

@@ -147,6 +147,9 @@ pub const NAMES_OF_CHANGE: u64 = 2;
 /// A key is parted in two halves by this. Pointers and places of values that are kept in half a word are below it.
 pub const SHARE: u64 = 4_294_967_296;
 
+/// So many places of a list of the start, from the last one on, are looked at before all are searched.
+pub const NEAR: usize = 8;
+
 /// What became of an entry in a list of tombstones.
 #[derive(Clone, Copy)]
 pub enum Fate {

@@ -1,6 +1,6 @@
 use Rattle.std.proofs.Common.{sym, subst}
-use Rattle.core_index.specs.declared.lone_keys.LoneKeys.{LoneKeys}
 use Rattle.core_index.specs.Tombs.{Tombs}
+use Rattle.core_index.proofs.LoneLaws.{with_tombs}
 use Rattle.core_index.proofs.StartLaws.{map_none, map_some, none_ahead, passes_older, PassesOne}
 use Rattle.core_index.proofs.start_keys.StartKeys.pass.Goals as goal
 
@@ -11,4 +11,4 @@ pub returns-in-None-pass-clause-others : goal.returns-in-None-pass-clause-others
 returns-in-None-pass-clause-others c =
     let a = c.args.self.now in
     let d = c.pass-in-None-pass.new.self in
-    map_some c.pass-in-None-pass.result (λ t passes. subst (λ (l : LoneKeys). PassesOne a (record { lone = l; older = d; late = c.pass-in-None.new.self }) c.args.home t) (sym c.in-None.ensures.unchanged) (subst (λ (e : Tombs). PassesOne a (record { lone = a.lone; older = d; late = e }) c.args.home t) (sym c.in-None-pass.ensures.unchanged) (passes_older a d c.args.home t passes))) c.pass-in-None-pass.ensures.others
+    map_some c.pass-in-None-pass.result (λ t passes. subst (λ (l : Tombs). PassesOne a (record { lone = with_tombs a.lone l; older = d; late = c.pass-in-None.new.self }) c.args.home t) (sym c.in-None.ensures.unchanged) (subst (λ (e : Tombs). PassesOne a (record { lone = a.lone; older = d; late = e }) c.args.home t) (sym c.in-None-pass.ensures.unchanged) (passes_older a d c.args.home t passes))) c.pass-in-None-pass.ensures.others

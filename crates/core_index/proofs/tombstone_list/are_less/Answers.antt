@@ -3,7 +3,7 @@ use Rattle.std.proofs.lemmas.Bool.{ltb-true}
 use Rattle.std.proofs.lemmas.Option.{get_or_from_slice_get}
 use Rattle.core_index.specs.Tombs.{key_of, bare_tombstone}
 use Rattle.core_index.proofs.TombLaws.{all_less}
-use Rattle.core_index.proofs.tombstones.are_less.Goals as goal
+use Rattle.core_index.proofs.tombstone_list.are_less.Goals as goal
 
 pub returns-in-Some : goal.returns-in-Some
 returns-in-Some c = λ lt.
