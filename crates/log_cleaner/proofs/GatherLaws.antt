@@ -118,7 +118,7 @@ module _ (s : State) (log : LogState) (st : StandingState) (j place : ℕ) (p : 
     | false ↦ λ isnt. fresh isnt
   ] refl
 
-append_none : (xs ys : List (ℕ × Entry)) → ys ≡ [] → xs ≡ xs ++ ys
+pub append_none : (xs ys : List (ℕ × Entry)) → ys ≡ [] → xs ≡ xs ++ ys
 append_none [] ys none = sym none
 append_none (x ∷ xs) ys none = ap (λ (l : List (ℕ × Entry)). x ∷ l) (append_none xs ys none)
 

@@ -17,7 +17,6 @@ use Rattle.log_standing.specs.declared.types.Spot.{Spot}
 use Rattle.log_standing.specs.NameCounts.{StandingState, name_eq, count_of, floor_at, is_told, spot_of, wants}
 use Rattle.log_standing.specs.ChunkCounts.{is_named, has_name, IsStandingOf}
 use Rattle.log_standing.proofs.Clients.{name_same, same_name}
-use Rattle.log_standing.proofs.Filled.{append_none}
 use Rattle.log_cleaner.specs.declared.types.Victim.{Victim}
 use Rattle.log_cleaner.specs.Choosing.{fits}
 use Rattle.log_cleaner.specs.Copying.{left_to_copy, tally_of, words_sum}
@@ -25,6 +24,7 @@ use Rattle.log_cleaner.specs.Floors.{AreSeen, HasFloors, IsClosed, IsCounted, Is
 use Rattle.log_cleaner.specs.Searching.{Forgets, IsRead, Looks}
 use Rattle.log_cleaner.proofs.CountLaws.{Counted, count_ends, count_on, count_starts}
 use Rattle.log_cleaner.proofs.FloorLaws.{all_in, and_last, both_so, each_so, in_taken, left_searched, none_named, searches_both, searches_itself}
+use Rattle.log_cleaner.proofs.GatherLaws.{append_none}
 use Rattle.log_cleaner.proofs.Parts.{count_has, count_without, in_named}
 use Rattle.store_image.specs.Facts.{In}
 

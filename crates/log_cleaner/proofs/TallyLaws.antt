@@ -18,12 +18,12 @@ use Rattle.log_standing.specs.NameCounts.{StandingState, name_eq, copies_at, cou
 use Rattle.log_standing.specs.ChunkCounts.{is_named}
 use Rattle.log_standing.specs.Tallies.{TallyState, amount_at, entries_held, less, more, words_held}
 use Rattle.log_standing.proofs.Clients.{same_name}
-use Rattle.log_standing.proofs.Filled.{append_none}
 use Rattle.log_cleaner.specs.Copying.{awaits, left_to_copy, words_sum}
 use Rattle.log_cleaner.specs.Tallied.{words_named, HasAmounts, NotesIf, IsTallyOf, KeepsTally}
 use Rattle.log_cleaner.specs.Floors.{HasFloor, HasFloors, IsCounted, IsFoundIn, IsSeen, spot_at}
 use Rattle.log_cleaner.proofs.Batches.{name_sym, filter_same}
 use Rattle.log_cleaner.proofs.FloorLaws.{SameSpot, each_so, every, floor_kept, none_named, one_named, seen_kept}
+use Rattle.log_cleaner.proofs.GatherLaws.{append_none}
 use Rattle.log_cleaner.proofs.LessLaws.{sum_ones}
 
 not_true : (b : Bool) → not b ≡ true → b ≡ false

@@ -23,10 +23,6 @@ new_named true false none = refl
 new_named false true none = refl
 new_named false false none = refl
 
-pub append_none : (xs ys : List (ℕ × Entry)) → ys ≡ [] → xs ≡ xs ++ ys
-append_none [] ys none = sym none
-append_none (x ∷ xs) ys none = ap (λ (l : List (ℕ × Entry)). x ∷ l) (append_none xs ys none)
-
 -- a chunk of the list is one of the log's
 pub is_there : (cs : List LogChunk) (i : ℕ) (d : LogChunk) → i < length cs → is_some (tail_of cs (get_or cs i d).chunk) ≡ true
 is_there [] i d lt = absurd (omega (arith, lt))

@@ -1,84 +1,17 @@
--- The entries of a chunk, noted one by one, and the chunks of a log.
-use Rattle.std.proofs.Common.{◌≡◌, ℕ, suc, ◌+◌, ◌<◌, ◌==◌, ◌&&◌, ◌||◌, Bool, true, false, cond, List, [], ◌∷◌, ◌++◌, length, get_or, Option, Some, None, is_some, refl, sym, ◌∙◌, ap, arith, append_assoc}
-use Rattle.std.specs.List.{All, list_any, count_by}
-use Rattle.std.proofs.lemmas.Bool.{cond-true, cond-false, and_from, eqb-true, eq-eqb, ne_eqb}
-use Rattle.std.proofs.lemmas.List.Folds.{list_any-append, list_any_none, list_any_at}
+-- The chunks of a log, and the names that were noted of its entries.
+use Rattle.std.proofs.Common.{◌≡◌, ℕ, suc, ◌+◌, ◌<◌, ◌==◌, ◌&&◌, ◌||◌, Bool, true, false, cond, List, [], ◌∷◌, length, get_or, map, Some, is_some, refl, sym, ◌∙◌, ap, arith}
+use Rattle.std.specs.List.{count_by}
+use Rattle.std.proofs.lemmas.Bool.{cond-true, cond-false, and_parts, and_from, eqb-true, eq-eqb, ne_eqb}
+use Rattle.std.proofs.lemmas.List.Folds.{list_any_at}
 use Rattle.std.proofs.lemmas.List.Sums.{sum_by-cons}
-use Rattle.chunk_map.proofs.Clients.{numbers_of}
-use Rattle.pm_region.specs.State.{State, IsTelling}
-use Rattle.log_entry.specs.declared.entry.Entry.{Entry}
-use Rattle.core_log.specs.declared.types.Peek.{Peek}
 use Rattle.core_log.specs.declared.types.LogChunk.{LogChunk}
-use Rattle.core_log.specs.Log.{LogState, Spelled, IsOwn, IsRising, tail_of}
-use Rattle.core_log.specs.Walking.{entries_in, words_in, behind, IsFound, IsReadable}
-use Rattle.core_log.proofs.Clients.{own_chunk, ordered, all_behind}
+use Rattle.core_log.specs.Log.{LogState, IsOwn, IsRising, tail_of}
 use Rattle.log_standing.specs.declared.name_item.NameItem.{NameItem}
-use Rattle.log_standing.specs.NameCounts.{name_eq}
-use Rattle.log_standing.specs.ChunkCounts.{is_named, has_name}
-use Rattle.log_standing.specs.NameItems.{is_note, has_note}
-use Rattle.log_standing.specs.Notes.{IsNote, IsOfLog, NotesAll}
-use Rattle.log_standing.proofs.Filled.{has_push, append_none}
-
--- the names of the entries before a place were noted
-pub record Noted (old now : List NameItem) (chunk : ℕ) (es : List (ℕ × Entry)) (place : ℕ) : Type 0 where
-  pub done : List (ℕ × Entry)
-  pub split : done ++ behind place es ≡ es
-  pub notes : NotesAll old now chunk done
-
--- what holds between two entries
-pub record Noting (s : State) (log : LogState) (old now : List NameItem) (chunk place : ℕ) : Type 0 where
-  pub readable : IsReadable s log chunk place
-  pub each : All (IsOfLog log) old → All (IsOfLog log) now
-  pub noted : IsTelling s → Noted old now chunk (entries_in s log chunk) place
-
-nothing_more : (a b : Bool) → a ≡ (a || (b && false))
-nothing_more true b = refl
-nothing_more false true = refl
-nothing_more false false = refl
-
-one_more : (a b h n : Bool) → ((a || (b && h)) || ((n && b) || false)) ≡ (a || (b && (h || (n || false))))
-one_more true b h n = refl
-one_more false true true n = refl
-one_more false true false true = refl
-one_more false true false false = refl
-one_more false false h true = refl
-one_more false false h false = refl
-
-pub noted_none : (s : State) (log : LogState) (chunk : ℕ) (old : List NameItem) → Spelled (words_in s log chunk) → Noted old old chunk (entries_in s log chunk) 0
-noted_none s log chunk old spelled = record {
-  done = [];
-  split = all_behind (entries_in s log chunk) 0 (ordered (words_in s log chunk) spelled);
-  notes = λ k v j. nothing_more (has_note old k v j) (chunk == j);
-}
-
-pub noted_more : (s : State) (log : LogState) (chunk place : ℕ) (p : Peek) (x : NameItem) (old now : List NameItem) → IsFound s log chunk place p → IsNote x p.name.key p.name.version chunk → Noted old now chunk (entries_in s log chunk) place → Noted old (now ++ x ∷ []) chunk (entries_in s log chunk) p.next
-noted_more s log chunk place p x old now f is so_far = record {
-  done = so_far.done ++ f.found ∷ [];
-  split = append_assoc so_far.done (f.found ∷ []) (behind p.next (entries_in s log chunk)) ∙ ap (λ (l : List (ℕ × Entry)). so_far.done ++ l) (sym f.left) ∙ so_far.split;
-  notes = λ k v j.
-      let key = is.key ∙ f.key in
-      let version = is.version ∙ f.version in
-      let same : is_note k v j x ≡ (is_named k v f.found && (chunk == j)) = λ i. name_eq (key i, version i) (k, v) && (is.chunk i == j) in
-      list_any-append (is_note k v j) now (x ∷ [])
-      ∙ (λ i. so_far.notes k v j i || (same i || false))
-      ∙ one_more (has_note old k v j) (chunk == j) (has_name so_far.done k v) (is_named k v f.found)
-      ∙ sym (ap (λ (b : Bool). has_note old k v j || ((chunk == j) && b)) (has_push so_far.done f.found k v));
-}
-
-pub noted_all : (old now : List NameItem) (chunk : ℕ) (es : List (ℕ × Entry)) (place : ℕ) → Noted old now chunk es place → behind place es ≡ [] → NotesAll old now chunk es
-noted_all old now chunk es place so_far none k v j =
-    let all : so_far.done ≡ es = append_none so_far.done (behind place es) none ∙ so_far.split in
-    so_far.notes k v j ∙ ap (λ (l : List (ℕ × Entry)). has_note old k v j || ((chunk == j) && has_name l k v)) all
-
--- a chunk of a log has a small number
-pub chunk_small : (log : LogState) → IsOwn log → (j : ℕ) → is_some (tail_of log.chunks j) ≡ true → j < 64
-chunk_small log own j has = by_tail (tail_of log.chunks j) refl has where
-  by_tail : (t : Option ℕ) → tail_of log.chunks j ≡ t → is_some t ≡ true → j < 64
-  by_tail None is some = absurd (cc some)
-  by_tail (Some t) is some =
-      let here = (own_chunk log own j t is).within in
-      let most = (numbers_of log.layout own.layout).chunks_high in
-      omega (arith, here, most)
+use Rattle.log_standing.specs.ChunkCounts.{stands_in, chunks_in}
+use Rattle.log_standing.specs.NameItems.{is_item, is_note, has_note, chunks_noted, AreIn}
+use Rattle.log_standing.specs.Notes.{was_noted, note_of, AreOfLog}
+use Rattle.log_standing.proofs.Filled.{is_there}
+use Rattle.log_standing.proofs.StandingLaws.{name_same}
 
 abbrev one_if : Bool → ℕ
 one_if b = cond b 1 0
@@ -108,23 +41,6 @@ stands_once (c ∷ cs) from j rising has =
           omega (arith, e, none, rest)
     ] refl has
 
--- the names that stand in one of these chunks, by its number
-abbrev pub noted_in : State → LogState → List LogChunk → ℕ → ℕ → ℕ → Bool
-noted_in s log cs k v j = list_any (λ (c : LogChunk). (c.chunk == j) && has_name (entries_in s log c.chunk) k v) cs
-
-pub noted_here : (s : State) (log : LogState) (cs : List LogChunk) (i : ℕ) (d : LogChunk) (k v : ℕ) → i < length cs → noted_in s log cs k v (get_or cs i d).chunk ≡ has_name (entries_in s log (get_or cs i d).chunk) k v
-noted_here s log cs i d k v lt =
-    let j = (get_or cs i d).chunk in
-    let p : LogChunk → Bool = λ c. (c.chunk == j) && has_name (entries_in s log c.chunk) k v in
-    let h = has_name (entries_in s log j) k v in
-    elim h as (λ b. h ≡ b → noted_in s log cs k v j ≡ b) [
-      | true ↦ λ is. list_any_at p cs i d lt (and_from (j == j) h (eq-eqb j j refl) is)
-      | false ↦ λ isnt. list_any_none p cs (λ n e _. elim ((get_or cs n e).chunk == j) as (λ b. ((get_or cs n e).chunk == j) ≡ b → (b && has_name (entries_in s log (get_or cs n e).chunk) k v) ≡ false) [
-        | true ↦ λ same. ap (λ (m : ℕ). has_name (entries_in s log m) k v) (eqb-true (get_or cs n e).chunk j same) ∙ isnt
-        | false ↦ λ _. refl
-      ] refl)
-    ] refl
-
 -- two tests that agree at each element count alike
 pub count_alike : (p q : LogChunk → Bool) (cs : List LogChunk) → ((i : ℕ) (d : LogChunk) → i < length cs → p (get_or cs i d) ≡ q (get_or cs i d)) → count_by p cs ≡ count_by q cs
 count_alike p q [] same = refl
@@ -134,3 +50,27 @@ count_alike p q (c ∷ cs) same =
     let here : one_if (p c) ≡ one_if (q c) = ap one_if (same 0 c (omega arith)) in
     let rest = count_alike p q cs (λ i d lt. same (suc i) d (omega (arith, lt))) in
     omega (arith, a, b, here, rest)
+
+-- what was noted, by the items
+pub was_item : (xs : List NameItem) (k v j : ℕ) → was_noted (map note_of xs) k v j ≡ has_note xs k v j
+was_item [] k v j = refl
+was_item (x ∷ xs) k v j = ap (λ (b : Bool). is_note k v j x || b) (was_item xs k v j)
+
+-- the names that were noted are a log's
+module _ (image : ℕ → ℕ) (log : LogState) (own : IsOwn log) (items : List NameItem) (are : AreOfLog image log (map note_of items)) where
+  of : (k v j : ℕ) → has_note items k v j ≡ (is_some (tail_of log.chunks j) && stands_in image log j k v)
+  of k v j = sym (was_item items k v j) ∙ are k v j
+
+  own_note : (x : NameItem) → is_note x.key x.version x.chunk x ≡ true
+  own_note x = and_from (is_item x.key x.version x) (x.chunk == x.chunk) (name_same x.key x.version) (eq-eqb x.chunk x.chunk refl)
+
+  pub notes_once : AreIn log.chunks items
+  notes_once i d lt =
+      let x = get_or items i d in
+      let noted : has_note items x.key x.version x.chunk ≡ true = list_any_at (is_note x.key x.version x.chunk) items i d lt (own_note x) in
+      let parts = and_parts (is_some (tail_of log.chunks x.chunk)) (stands_in image log x.chunk x.key x.version) (sym (of x.key x.version x.chunk) ∙ noted) in
+      stands_once log.chunks 0 x.chunk own.rising parts.0
+
+  pub notes_counted : (k v : ℕ) → chunks_noted log.chunks items k v ≡ chunks_in image log k v
+  notes_counted k v = count_alike (λ (c : LogChunk). has_note items k v c.chunk) (λ (c : LogChunk). stands_in image log c.chunk k v) log.chunks
+      (λ i d lt. of k v (get_or log.chunks i d).chunk ∙ ap (λ (b : Bool). b && stands_in image log (get_or log.chunks i d).chunk k v) (is_there log.chunks i d lt))

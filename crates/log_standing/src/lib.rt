@@ -1,8 +1,8 @@
 //! Which entries stand in a core's log, and which of them were told dead.
 #![tactic(auto)]
 
-mod filling;
 mod floors;
+mod log_names;
 mod logged_names;
 mod merging;
 mod name_item;
@@ -11,7 +11,7 @@ mod standing_names;
 mod tally;
 mod types;
 
-pub use filling::{standing_of, standing_told};
+pub use log_names::LogNames;
 pub use name_item::CHUNK_NUMBERS;
 pub use standing_names::Standing;
 pub use tally::Tally;

@@ -15,8 +15,8 @@ pub const VERSIONS: u128 = 4294967296;
 pub const CHUNK_NUMBERS: u32 = 64;
 
 /// A name with what it has: in how many chunks it stands, and whether it was told dead. One in no chunk is gone. While
-/// a log is read `chunk` is the chunk of an entry, and afterwards it is the last one that was counted, or the one in which a
-/// search found the name's entry, with so many words.
+/// a log's names are noted `chunk` is the chunk of an entry, and afterwards it is the last one that was counted, or the one
+/// in which a search found the name's entry, with so many words.
 #[derive(Clone, Copy)]
 pub struct NameItem {
     /// With `version` the name.

@@ -23,6 +23,7 @@ pub mod LogLaws
 pub mod MadeLaws
 pub mod ShareLaws
 pub mod HeadLaws
+pub mod LogNameLaws
 pub mod StartLaws
 pub mod StandLaws
 pub mod PairLaws

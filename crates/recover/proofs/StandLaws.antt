@@ -2,7 +2,7 @@
 use Rattle.std.proofs.Common.{◌≡◌, ℕ, ◌+◌, ◌<◌, ltb, true, false, cond, Some, None, refl, sym, ◌∙◌, ap, subst, arith}
 use Rattle.std.specs.Prelude.{Result, Ok, Err, slice_index_or}
 use Rattle.std.proofs.lemmas.Bool.{ltb-true}
-use Rattle.pm_region.specs.State.{State, Frame, IsTelling, cell_now}
+use Rattle.pm_region.specs.State.{State, IsTelling, cell_now}
 use Rattle.pm_region.specs.Words.{lasts}
 use Rattle.chunk_map.specs.declared.layouts.Geometry.{Geometry}
 use Rattle.chunk_map.specs.declared.heads.Head.{Head}
@@ -11,11 +11,7 @@ use Rattle.chunk_map.specs.Layouts.{chunk_first, head_at}
 use Rattle.chunk_map.proofs.Clients.{part_within}
 use Rattle.store_image.proofs.Clients.{tail_within}
 use Rattle.core_log.specs.Chunk.{IsLog}
-use Rattle.store_image.specs.Parts.{payload}
-use Rattle.core_log.specs.Log.{LogState, IsOwn, Spelled, StandsIn, tail_of, tail_in, first_of}
-use Rattle.core_log.specs.Walking.{LiesIn}
-use Rattle.core_log.proofs.Clients.{is_tail}
-use Rattle.log_standing.specs.ChunkCounts.{IsSpelled}
+use Rattle.core_log.specs.Log.{LogState, IsOwn, StandsIn, tail_of, first_of}
 use Rattle.recover.specs.declared.types.CoreStart.{CoreStart}
 use Rattle.recover.specs.declared.types.Recovered.{Recovered}
 use Rattle.recover.specs.Recovering.{IsMade, IsOf, AllStand}
@@ -36,22 +32,6 @@ log_there l image c j tail is = elim (ltb j l.chunks) as (λ b. ltb j l.chunks �
   | true ↦ λ e q. (ltb-true j l.chunks e, behind tail (head_at l image (chunk_first l c j)) q)
   | false ↦ λ e q. absurd (cc q)
 ] refl is
-
--- the log may be read
-pub lies_log : (f : Frame) (log : LogState) → Covers f log.layout → IsOwn log → LiesIn f log
-lies_log f log covers own =
-    let first = covers.first in
-    let words = covers.words in
-    let within = part_within log.layout log.part own.layout own.part in
-    record { own = own; low = omega (arith, first); high = omega (arith, first, words, within) }
-
-pub spelled_log : (s : State) (l : Geometry) (c : ℕ) (log : LogState) → log.layout ≡ l → log.part ≡ c → c < l.cores → (IsTelling s → HasLogsOf l (lasts s) c log) → (IsTelling s → AllSpell l (lasts s)) → IsSpelled s log
-spelled_log s l c log layout_is part_is within has spell telling j some =
-    let image = lasts s in
-    let tail = tail_in log j in
-    let at = log_there l image c j tail (sym (has telling j) ∙ is_tail (tail_of log.chunks j) some) in
-    subst (λ (g : Geometry). Spelled (payload image (chunk_first g log.part j) tail)) (sym layout_is)
-    (subst (λ (n : ℕ). Spelled (payload image (chunk_first l n j) tail)) (sym part_is) (spell telling c j within at.0 tail at.1))
 
 module _ (s : State) (log : LogState) (covers : Covers s.frame log.layout) (own : IsOwn log) (has : IsTelling s → HasLogsOf log.layout (lasts s) log.part log) (spell : IsTelling s → AllSpell log.layout (lasts s)) (certain : IsCertain s) where
   there : IsTelling s → (j tail : ℕ) → tail_of log.chunks j ≡ Some tail → (j < log.layout.chunks) × (head_at log.layout (lasts s) (first_of log j) ≡ Ok (Log tail))

@@ -11,6 +11,8 @@ pub mod Gathering
 pub mod Starts
 pub mod Standing
 pub mod Shares
+pub mod LogNames
+pub mod Dividing
 pub mod Logs
 pub mod Heads
 pub mod Listing
@@ -30,6 +32,7 @@ pub use Rattle.log_entry.specs.Batches
 pub use Rattle.log_entry.specs.Spelling
 pub use Rattle.log_standing.specs.ChunkCounts
 pub use Rattle.log_standing.specs.NameCounts
+pub use Rattle.log_standing.specs.Notes
 pub use Rattle.pm_region.specs.State
 pub use Rattle.pm_region.specs.Words
 pub use Rattle.store_image.specs.Facts

@@ -7,10 +7,11 @@
 //! the logs' tails. It keeps of each entry its name and its first word, 16 bytes, and sorts these once by name; the
 //! place of the first contradiction comes out of one walk over them. Another walk judges each key's winner and reads
 //! it: since winners by name stand anywhere in the region, the first words of many are loaded side by side. The heads
-//! of the chunks, two words each, are read a second time for the logs and the allocators, and the logs for the names
-//! that stand in them.
+//! of the chunks, two words each, are read a second time for the logs and the allocators. The names that stand in each log
+//! come out of the sorted list, which is taken off from its end on while they are noted.
 #![tactic(auto)]
 
+mod core_names;
 mod found_entries;
 mod gather_region;
 mod judge_winners;

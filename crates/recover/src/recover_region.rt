@@ -9,15 +9,18 @@ ghost use Rattle.store_image.specs.Soundness.{damage, first_fault};
 ghost use Rattle.store_image.specs.Facts.{KeepsRules, IsStore};
 ghost use Rattle.recover.specs.Regions.{Covers, IsCertain};
 ghost use Rattle.recover.specs.Causes.{AnswersFault};
-ghost use Rattle.recover.specs.Shares.{AreSpelledShares, Shares};
+ghost use Rattle.recover.specs.Shares.{AreSpelledShares};
+ghost use Rattle.recover.specs.Dividing.{Divides};
 ghost use Rattle.recover.specs.Recovering.{IsMade, Restores, Recovers, AllStand};
 
+use crate::core_names::core_names;
 use crate::judge_winners::{agreed_entries, sound_entries};
 use crate::shares::{Share, shares};
 use crate::starts::starts;
 use crate::types::{RecoverError, Recovered};
 use chunk_map::{Layout, read_superblock};
 use fs_model::Memory;
+use log_standing::LogNames;
 use pm_region::Region;
 use std::alloc::Global;
 use store_image::Fault;
@@ -57,20 +60,32 @@ pub fn first_fault<R: Region>(
     }
 }
 
+/// What the entries of a region give the cores, in their order.
+#[derive(Drop)]
+struct Division {
+    /// What is known of the keys.
+    shares: Vec<Share>,
+    /// The names of the logs' entries.
+    names: Vec<LogNames>,
+}
+
 /// What each core gets of the entries of a region, or the first broken one of rules 4 to 11.
-fn judged_shares<R: Region>(
+fn judged_entries<R: Region>(
     alloc: Global,
     region: &R,
     layout: &Layout,
-) -> Result<Vec<Share>, RecoverError>
+) -> Result<Division, RecoverError>
     requires covers { Covers (R.state region.now).frame layout.now }
-    ensures count { IfOk result (λ shares. length shares.items ≡ layout.now.cores) }
-    ensures spelled { IfOk result (λ shares. AreSpelledShares layout.now shares.items) }
+    ensures shares { IfOk result (λ division. length division.shares.items ≡ layout.now.cores) }
+    ensures names { IfOk result (λ division. length division.names.items ≡ layout.now.cores) }
+    ensures spelled { IfOk result (λ division. AreSpelledShares layout.now division.shares.items) }
     ensures told { IsTelling (R.state region.now)
-        → Shares layout.now (lasts (R.state region.now)) result }
+        → Divides layout.now (lasts (R.state region.now)) result }
 {
-    let found = agreed_entries(alloc, region, layout)?;
-    shares(alloc, region, layout, &found)
+    let sorted = agreed_entries(alloc, region, layout)?;
+    let shares = shares(alloc, region, layout, &sorted)?;
+    let names = core_names(alloc, layout, sorted)?;
+    Ok(Division { shares, names })
 }
 
 /// What a region of this layout recovers, or the first broken one of rules 4 to 11.
@@ -86,8 +101,8 @@ fn recovered<R: Region>(
         → KeepsRules layout (lasts (R.state region.now)))
         → Restores layout (lasts (R.state region.now)) result }
 {
-    let shares = judged_shares(alloc, region, &layout)?;
-    let starts = starts(alloc, region, &layout, shares)?;
+    let division = judged_entries(alloc, region, &layout)?;
+    let starts = starts(alloc, region, &layout, division.shares, division.names)?;
     Ok(Recovered { layout, starts })
 }
 

@@ -1,10 +1,13 @@
-use Rattle.std.proofs.Common.{◌≡◌, ℕ, List, ◌<◌, ◌+◌, ◌++◌, ◌∷◌, [], length, length-append, sym, ◌∙◌, ap, subst, append_assoc, arith}
+use Rattle.std.proofs.Common.{◌≡◌, ℕ, List, ◌<◌, ◌≤◌, ◌+◌, ◌++◌, ◌∷◌, [], length, length-append, sym, ◌∙◌, ap, subst, append_assoc, arith}
 use Rattle.std.specs.Prelude.{slice_index_or}
 use Rattle.pm_region.specs.Words.{lasts}
+use Rattle.chunk_map.specs.declared.layouts.Geometry.{Geometry}
 use Rattle.store_image.specs.Parts.{all_entries}
+use Rattle.log_standing.specs.Notes.{Noted}
 use Rattle.recover.specs.declared.types.CoreStart.{CoreStart}
 use Rattle.recover.specs.declared.shares.Share.{Share}
 use Rattle.recover.specs.Shares.{IsShare}
+use Rattle.recover.specs.LogNames.{AreNamesOf, AreNames}
 use Rattle.recover.specs.Logs.{IsStart}
 use Rattle.recover.specs.Starts.{IsSpelledIndex}
 use Rattle.recover.specs.Heads.{AllStart, IsStartOf}
@@ -19,6 +22,11 @@ at_core all done rest share n cores split passed count =
     let long = ap length split ∙ length-append done (share ∷ rest) in
     (omega (arith, long, passed, count), ap (λ xs. slice_index_or xs n share) split ∙ behind done share rest n share passed)
 
+-- the names that are taken are those of the core
+taken_names : (l : Geometry) (image : ℕ → ℕ) (all left : List (List Noted)) (own : List Noted) (n : ℕ) → n < l.cores → AreNames l image all → ((c : ℕ) (d : List Noted) → n ≤ c → slice_index_or left c d ≡ slice_index_or all c d)
+    → ((d : List Noted) → own ≡ slice_index_or left n d) → AreNamesOf l image n own
+taken_names l image all left own n lt are untaken taken = subst (AreNamesOf l image n) (sym (taken [] ∙ untaken n [] (omega arith))) (are n [] lt)
+
 pub start-requires-clause-index : goal.start-requires-clause-index
 start-requires-clause-index g c =
     let inv = c.loop-share.invariant in
@@ -27,7 +35,7 @@ start-requires-clause-index g c =
     subst (λ (s : Share). IsSpelledIndex s.index) at.1 (c.requires.shares c.loop-share.core share at.0)
 
 pub returns-in_err-start-clause-told : goal.returns-in_err-start-clause-told
-returns-in_err-start-clause-told g c = λ telling kept shares.
+returns-in_err-start-clause-told g c = λ telling kept shares names.
     let image = lasts (g.R.Region.state c.args.region.now) in
     let l = c.args.layout.now in
     let inv = c.loop-share.invariant in
@@ -35,7 +43,8 @@ returns-in_err-start-clause-told g c = λ telling kept shares.
     let n = c.loop-share.core in
     let at = at_core c.args.shares.items c.loop-share.yielded c.next.new.self.rest.items share n l.cores (inv.split ∙ ap (λ xs. c.loop-share.yielded ++ xs) c.in-Some.ensures.steps.0) inv.passed c.requires.count in
     handed_on (AllStart l image) c.from_residual-in_err-start.result c.in_err-start.field-0.0 c.from_residual-in_err-start.ensures.1
-    (c.in_err-start.ensures.told telling kept (subst (λ (s : Share). IsShare l (all_entries l image) n s) at.1 (shares n share at.0)))
+    (c.in_err-start.ensures.told telling kept (subst (λ (s : Share). IsShare l (all_entries l image) n s) at.1 (shares n share at.0))
+    (taken_names l image c.args.names.items c.loop-share.left.items c.take_names-own.result n at.0 names inv.untaken c.take_names-own.ensures.taken))
 
 pub loop-share-preserved : goal.loop-share-preserved
 loop-share-preserved g c =
@@ -57,7 +66,10 @@ loop-share-preserved g c =
       split = split ∙ sym (append_assoc done (share ∷ []) rest);
       passed = length-append done (share ∷ []) ∙ ap (λ k. k + 1) inv.passed;
       count = ap length c.in_ok-push.ensures.items ∙ length-append old (x ∷ []) ∙ ap (λ k. k + 1) inv.count;
+      length_left = c.take_names-own.ensures.count ∙ inv.length_left;
+      untaken = λ m d le. c.take_names-own.ensures.others m d (λ e. omega (arith, e, le)) ∙ inv.untaken m d (omega (arith, le));
       made = each_more CoreStart (IsStart l) old new x n inv.count c.in_ok-push.ensures.items inv.made c.in_ok-start.ensures.made;
-      told = λ telling kept shares. each_more CoreStart (IsStartOf l image) old new x n inv.count c.in_ok-push.ensures.items (inv.told telling kept shares)
-          (c.in_ok-start.ensures.told telling kept (subst (λ (s : Share). IsShare l (all_entries l image) n s) there (shares n share lt)));
+      told = λ telling kept shares names. each_more CoreStart (IsStartOf l image) old new x n inv.count c.in_ok-push.ensures.items (inv.told telling kept shares names)
+          (c.in_ok-start.ensures.told telling kept (subst (λ (s : Share). IsShare l (all_entries l image) n s) there (shares n share lt))
+          (taken_names l image c.args.names.items c.loop-share.left.items c.take_names-own.result n lt names inv.untaken c.take_names-own.ensures.taken));
     }
