@@ -1,4 +1,5 @@
-// 64 requests of three keys, and a long script against a plain queue.
+// 64 requests of three keys, and a long script against a plain queue. One function of each test owns the queue, since
+// each exit of an owner carries the drop of what it owns.
 use conflict_queue::{ConflictQueue, Held, NoNode};
 use fs_model::{Key, Memory, Request};
 use std::alloc::Global;
@@ -74,60 +75,151 @@ fn fills(queue: &mut ConflictQueue) -> bool {
     true
 }
 
-#[test]
-fn three_keys_in_turn(rt: HostRuntime) -> Result<(), Fail> {
-    let mut queue = ConflictQueue::open(rt.alloc())?;
-    assert!(rt; fills(&mut queue));
-    assert_eq!(rt; queue.free_nodes(), 0);
-    match queue.hold(64, Request::Delete { key: 9 }) {
+// Whether a delete finds no place, and is given back.
+fn refuses(queue: &mut ConflictQueue, number: u64, key: Key) -> bool {
+    match queue.hold(number, Request::Delete { key }) {
         Err(
             NoNode {
-                request: Request::Delete { key },
+                request: Request::Delete { key: given },
             },
-        ) => assert_eq!(rt; key, 9),
-        _ => assert!(rt; false, "the queue is full"),
+        ) => given == key,
+        _ => false,
     }
-    assert!(rt; releases(&mut queue, 1, 0, 3, 22));
-    assert!(rt; releases(&mut queue, 2, 1, 3, 21));
-    assert!(rt; releases(&mut queue, 3, 2, 3, 21));
-    assert_eq!(rt; queue.free_nodes(), 64);
+}
+
+// One call of the queue, or those of the function of this name.
+#[derive(Clone, Copy)]
+enum Call {
+    Fills,
+    Holds(u64, u64, Key),
+    // A get of the key by this number finds no place.
+    IsFull(u64, Key),
+    Refuses(u64, Key),
+    Releases(Key, u64, u64, u64),
+    HasNone(Key),
+    Free(u32),
+}
+
+// Whether it is as the call says.
+fn make(queue: &mut ConflictQueue, call: Call) -> bool {
+    match call {
+        Call::Fills => fills(queue),
+        Call::Holds(from, to, key) => holds(queue, from, to, key),
+        Call::IsFull(number, key) => queue.hold(number, Request::Get { key }).is_err(),
+        Call::Refuses(number, key) => refuses(queue, number, key),
+        Call::Releases(key, first, step, count) => releases(queue, key, first, step, count),
+        Call::HasNone(key) => queue.release(key).is_none(),
+        Call::Free(count) => queue.free_nodes() == count,
+    }
+}
+
+fn play(queue: &mut ConflictQueue, calls: &[Call]) -> Option<usize> {
+    for (place, call) in calls.iter().enumerate() {
+        if !make(queue, *call) {
+            return Some(place);
+        }
+    }
+    None
+}
+
+// The place of the first call of a new queue that goes otherwise.
+fn first_other(alloc: Global, calls: &[Call]) -> Result<Option<usize>, Memory> {
+    let mut queue = ConflictQueue::open(alloc)?;
+    Ok(play(&mut queue, calls))
+}
+
+const THREE_KEYS: [Call; 7] = [
+    Call::Fills,
+    Call::Free(0),
+    Call::Refuses(64, 9),
+    Call::Releases(1, 0, 3, 22),
+    Call::Releases(2, 1, 3, 21),
+    Call::Releases(3, 2, 3, 21),
+    Call::Free(64),
+];
+
+#[test]
+fn three_keys_in_turn(rt: HostRuntime) -> Result<(), Fail> {
+    let other = first_other(rt.alloc(), &THREE_KEYS)?;
+    assert_eq!(rt; other, None);
     Ok(())
 }
 
 // What one key gives back another one takes, behind what waits for that.
+const ANOTHER_KEY: [Call; 9] = [
+    Call::Fills,
+    Call::Releases(2, 1, 3, 21),
+    Call::HasNone(2),
+    Call::Free(21),
+    Call::Holds(100, 121, 1),
+    Call::IsFull(121, 2),
+    Call::Releases(1, 0, 3, 22),
+    Call::Releases(1, 100, 1, 21),
+    Call::Free(43),
+];
+
 #[test]
 fn places_of_another_key(rt: HostRuntime) -> Result<(), Fail> {
-    let mut queue = ConflictQueue::open(rt.alloc())?;
-    assert!(rt; fills(&mut queue));
-    assert!(rt; releases(&mut queue, 2, 1, 3, 21) && queue.release(2).is_none());
-    assert_eq!(rt; queue.free_nodes(), 21);
-    assert!(rt; holds(&mut queue, 100, 121, 1) && !holds(&mut queue, 121, 122, 2));
-    assert!(rt; releases(&mut queue, 1, 0, 3, 22) && releases(&mut queue, 1, 100, 1, 21));
-    assert_eq!(rt; queue.free_nodes(), 43);
+    let other = first_other(rt.alloc(), &ANOTHER_KEY)?;
+    assert_eq!(rt; other, None);
     Ok(())
 }
 
-#[test]
-fn as_a_plain_queue_does(rt: HostRuntime) -> Result<(), Fail> {
-    let mut queue = ConflictQueue::open(rt.alloc())?;
-    let mut plain = PlainQueue::open(rt.alloc());
+fn held_alike(
+    queue: &mut ConflictQueue,
+    plain: &mut PlainQueue,
+    number: u64,
+    key: Key,
+    refused: &mut u64,
+) -> Result<bool, Memory> {
+    let taken = plain.hold(number, Request::Get { key })?;
+    if !taken {
+        *refused = refused.saturating_add(1);
+    }
+    Ok(queue.hold(number, Request::Get { key }).is_ok() == taken)
+}
+
+fn released_alike(queue: &mut ConflictQueue, plain: &mut PlainQueue, key: Key) -> bool {
+    let first = plain.release(key);
+    number_and_key(&queue.release(key)) == number_and_key(&first)
+}
+
+fn are_as_long(queue: &ConflictQueue, plain: &PlainQueue) -> bool {
+    queue.free_nodes() as usize + plain.held.len() == 64
+}
+
+// The first number at which the two differ, and how often there was no place before.
+fn play_both(
+    queue: &mut ConflictQueue,
+    plain: &mut PlainQueue,
+) -> Result<(Option<u64>, u64), Memory> {
     let mut state = 1u32;
     let mut refused = 0u64;
     for number in 0..4000 {
         state = ((state as u64 * 1_103_515_245 + 12_345) % 2_147_483_648) as u32;
         let key = (state / 65_536 % 7) as u64;
-        if state / 1_048_576 % 100 < 52 {
-            let taken = plain.hold(number, Request::Get { key })?;
-            assert_eq!(rt; queue.hold(number, Request::Get { key }).is_ok(), taken);
-            if !taken && refused < 4000 {
-                refused += 1;
-            }
+        let alike = if state / 1_048_576 % 100 < 52 {
+            held_alike(queue, plain, number, key, &mut refused)?
         } else {
-            let first = plain.release(key);
-            assert_eq!(rt; number_and_key(&queue.release(key)), number_and_key(&first));
+            released_alike(queue, plain, key)
+        };
+        if !alike || !are_as_long(queue, plain) {
+            return Ok((Some(number), refused));
         }
-        assert_eq!(rt; queue.free_nodes() as usize + plain.held.len(), 64);
     }
+    Ok((None, refused))
+}
+
+fn both_queues(alloc: Global) -> Result<(Option<u64>, u64), Memory> {
+    let mut queue = ConflictQueue::open(alloc)?;
+    let mut plain = PlainQueue::open(alloc);
+    play_both(&mut queue, &mut plain)
+}
+
+#[test]
+fn as_a_plain_queue_does(rt: HostRuntime) -> Result<(), Fail> {
+    let (other, refused) = both_queues(rt.alloc())?;
+    assert_eq!(rt; other, None);
     assert!(rt; refused > 0);
     Ok(())
 }
