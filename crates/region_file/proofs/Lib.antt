@@ -3,4 +3,6 @@ pub mod Lining
 pub mod Making
 pub mod Noting
 pub mod Writing
-mod Sharing
+mod Paging
+mod Storing
+mod Reading

@@ -1,11 +1,12 @@
 -- What the calls of the words of a file do, and which calls of the system they make.
-use Rattle.std.specs.Prelude.{◌≡◌, ◌≢◌, ◌⊎◌, ℕ, ◌+◌, ◌-◌, ◌*◌, ◌/◌, ◌≤◌, ◌<◌, true, false, Bool, List, [], ◌∷◌, ◌++◌, codes, replicate, slice_index, Option, Some, None}
+use Rattle.std.specs.Prelude.{◌≡◌, ◌≢◌, ◌⊎◌, ℕ, ◌+◌, ◌-◌, ◌*◌, ◌/◌, ◌≤◌, ◌<◌, true, false, Bool, List, [], ◌∷◌, ◌++◌, codes, replicate, length, slice_index, Option, Some, None}
 use Rattle.pm_region.specs.declared.region_sizes.TheConstants.{LINE_BYTES, LINE_WORDS, WORD_BYTES}
 use Rattle.pm_region.specs.Bytes.{word_at}
 use Rattle.pm_region.specs.Split.{words_in}
 use Rattle.region_file.specs.Lines.{has_line, Adds}
-use Rattle.region_file.specs.Calls.{Call, settled, measured, gave, wrote, emptied, synced, named, opened, stood, placed, removed, refused, failed, byte_after, OnlyWrites, OnlyReads, IsStartOf}
+use Rattle.region_file.specs.Calls.{Call, settled, measured, wrote, emptied, synced, named, opened, stood, placed, removed, refused, failed, byte_after, OnlyWrites, OnlyReads, IsStartOf}
 use Rattle.region_file.specs.LineRuns.{AreCutShort}
+use Rattle.region_file.specs.Reads.{pages_in, reads_of}
 use Rattle.region_file.specs.declared.device.Device.{Device}
 use Rattle.region_file.specs.declared.file_words.FileWords.{FileWords}
 
@@ -102,9 +103,11 @@ pub record TakesPart (old new part : FileWords) (first : ℕ) : Type 0 where
   pub keeps : (line : ℕ) → flushes old line ≡ true → flushes new line ≡ true
   pub takes : (line : ℕ) → flushes part line ≡ true → flushes new (first / LINE_WORDS + line) ≡ true
 
--- The file of this name was opened, settled, then measured, and then read: these are its words, and nothing is flushed.
+-- The file of this name was opened, settled, then measured, and then read page by page: these are its words, and nothing
+-- is flushed.
 pub record IsOpened (path : List ℕ) (device : Device) (w : FileWords) : Type 0 where
-  pub calls : device.calls.made ≡ gave 0 w.bytes.items ∷ measured w.size ∷ settled ∷ opened path ∷ []
+  pub calls : device.calls.made ≡ reads_of w.bytes.items (pages_in (length w.bytes.items))
+      ++ measured w.size ∷ settled ∷ opened path ∷ []
   pub none : (line : ℕ) → flushes w line ≡ false
 
 -- what was tried on the file of this name, where it wasn't opened: no file was changed

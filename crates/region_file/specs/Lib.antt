@@ -4,7 +4,9 @@ pub mod Files
 pub mod Lines
 pub mod Marks
 pub mod LineRuns
-pub mod Sharing
+pub mod Pages
+pub mod Reads
+pub mod Slots
 pub use Rattle.pm_region.specs.Bytes
 pub use Rattle.pm_region.specs.Cell
 pub use Rattle.fs_model.specs.Counts

@@ -1,5 +1,5 @@
 -- What is written of some lines of a file.
-use Rattle.std.specs.Prelude.{◌≡◌, ◌⊎◌, ℕ, ◌+◌, ◌*◌, ◌≤◌, ◌<◌, List, ◌∷◌, length, slice_index}
+use Rattle.std.specs.Prelude.{◌≡◌, ◌⊎◌, ℕ, ◌+◌, ◌*◌, ◌≤◌, ◌<◌, List, ◌∷◌, length, take, drop, slice_index}
 use Rattle.pm_region.specs.declared.region_sizes.TheConstants.{LINE_BYTES}
 use Rattle.region_file.specs.Calls.{Call, failed, byte_after, OnlyWrites}
 
@@ -26,3 +26,14 @@ pub record AreCutShort (start : ℕ) (lines bytes : List ℕ) (before after : Li
   pub calls : List Call
   pub runs : AreRuns start lines bytes n before calls
   pub failed_last : after ≡ failed ∷ calls
+
+-- the bytes of some neighbouring lines, from a place of the list on
+pub record IsRun (lines bytes : List ℕ) (from : ℕ) (run : List ℕ) : Type 0 where
+  pub count : ℕ
+  pub some : 0 < count
+  pub size : length run ≡ LINE_BYTES * count
+  pub within : from + count ≤ length lines
+  pub neighbours : (j : ℕ) → from + j < from + count → slice_index lines (from + j)
+      ≡ slice_index lines from + j
+  pub fits : LINE_BYTES * slice_index lines from + LINE_BYTES * count ≤ length bytes
+  pub bytes_are : run ≡ take (LINE_BYTES * count) (drop (LINE_BYTES * slice_index lines from) bytes)

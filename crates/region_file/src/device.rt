@@ -1,19 +1,14 @@
 // The trusted edge: each call here makes calls of the system, and notes those that it made. No clause can say what the
 // system does, so that each call makes what it notes is only read, and tried on real files.
-ghost use Rattle.std.specs.Prelude.{◌≡◌, ℕ, ◌+◌, ◌≤◌, [], ◌∷◌, length, vec_capacity, IfOk, OnOk, OnErr};
+ghost use Rattle.std.specs.Prelude.{◌≡◌, ℕ, ◌+◌, [], ◌∷◌, length, IfOk, OnOk, OnErr};
 ghost use Rattle.region_file.specs.Calls.{refused};
 
-use crate::byte_room::put_behind;
 use crate::calls::Calls;
 use crate::system::{self, FileId, FilePlace};
 use pm_region::RegionFault;
 use std::fs::File;
-use std::io;
 use std::os::unix::fs::FileExt;
 use std::rt::Files;
-
-/// How many bytes are read at once.
-const PART: usize = 32_768;
 
 const SETTLED: u64 = 0;
 
@@ -220,38 +215,19 @@ impl Device {
         }
     }
 
-    /// Reads so many bytes from the beginning of the file into room for them.
-    pub fn read(&mut self, room: &mut Vec<u8>, count: usize) -> Result<(), RegionFault>
-        requires empty { room.old.items ≡ [] }
-        requires room { count ≤ vec_capacity room.old }
-        ensures ok { OnOk result (self.new.calls.made ≡ gave 0 room.new.items
-            ∷ self.old.calls.made) }
-        ensures count { OnOk result (length room.new.items ≡ count) }
+    /// Reads the bytes at a place of the file, as many as there is room for.
+    pub fn read(&mut self, at: u64, room: &mut [u8]) -> Result<(), RegionFault>
+        ensures ok { OnOk result (self.new.calls.made ≡ gave at room.new ∷ self.old.calls.made) }
+        ensures count { length room.new ≡ length room.old }
         ensures err { OnErr result (self.new.calls.made ≡ refused ∷ self.old.calls.made) }
     {
-        if self.read_parts(room, count).is_ok() {
-            self.calls.note(&[GAVE, 0], room);
+        if self.file.read_exact_at(room, at).is_ok() {
+            self.calls.note(&[GAVE, at], room);
             Ok(())
         } else {
             self.calls.note(&[REFUSED, 0], &[]);
             Err(RegionFault)
         }
-    }
-
-    // Part by part, so that a part is in the processor's cache still when it is put behind those before it.
-    fn read_parts(&self, room: &mut Vec<u8>, count: usize) -> io::Result<()>
-        requires empty { room.old.items ≡ [] }
-        requires room { count ≤ vec_capacity room.old }
-        ensures { OnOk result (length room.new.items ≡ count) }
-    {
-        let mut part = [0u8; PART];
-        while room.len() < count {
-            let size = PART.min(count - room.len());
-            let front = &mut part[..size];
-            self.file.read_exact_at(front, room.len() as u64)?;
-            put_behind(room, front);
-        }
-        Ok(())
     }
 
     /// Writes the bytes at a place of the file.

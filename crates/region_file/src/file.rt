@@ -284,7 +284,7 @@ impl<R: Files<File = File> + Drop> SplitRegion for FileRegion<R> {
     {
         self.tried = Calls::none();
         let kept = cuts.to_vec(alloc)?;
-        self.words.share(alloc)?;
+        let shared = self.words.share(alloc)?;
         if write_pending(&self.rt, &self.path, &mut self.words, &mut self.device).is_err() {
             self.refuse(AttachError::RegionFault);
             return Err(AttachError::RegionFault);
@@ -294,6 +294,7 @@ impl<R: Files<File = File> + Drop> SplitRegion for FileRegion<R> {
             &self.rt,
             &self.device,
             &self.words,
+            &shared,
             cuts,
             &self.path,
             self.stamp,

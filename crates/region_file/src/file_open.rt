@@ -1,12 +1,14 @@
 // How the file of a region is opened, made and written.
-ghost use Rattle.std.specs.Prelude.{false, ◌≡◌, ℕ, ◌*◌, ◌≤◌, [], ◌∷◌, IfOk, OnOk, OnErr, string_bytes};
-ghost use Rattle.region_file.specs.Calls.{settled, measured, gave, wrote, synced, named, placed, OnlyReads};
+ghost use Rattle.std.specs.Prelude.{false, ◌≡◌, ℕ, ◌*◌, ◌≤◌, [], ◌∷◌, ◌++◌, length, IfOk, OnOk, OnErr, string_bytes};
+ghost use Rattle.region_file.specs.Calls.{settled, measured, wrote, synced, named, placed, OnlyReads};
+ghost use Rattle.region_file.specs.Reads.{pages_in, reads_of};
 ghost use Rattle.region_file.specs.Filed.{beside, calls_on, looked, HasFailed, HasStopped, IsOpened, IsNotAttached, IsMade, IsNotMade, IsFenced, IsNotFenced, IsKept, IsSettled, flushes};
 
 use crate::calls::Calls;
 use crate::device::{Device, find_place};
 use crate::file_bytes::FileBytes;
 use crate::file_words::FileWords;
+use crate::read_pages::read_pages;
 use crate::system::FilePlace;
 use pm_region::byte_words::word_count;
 use pm_region::{AttachError, MOST_BYTES, MOST_WORDS, RegionFault, WORD_BYTES};
@@ -42,17 +44,16 @@ fn read_words<R: Files<File = File>>(
     path: &str,
     device: &mut Device,
 ) -> Result<FileWords, AttachError>
-    ensures ok { IfOk result (λ w. device.new.calls.made ≡ gave 0 w.bytes.items ∷ measured w.size
-        ∷ settled ∷ device.old.calls.made) }
+    ensures ok { IfOk result (λ w. device.new.calls.made ≡ reads_of w.bytes.items
+        (pages_in (length w.bytes.items)) ++ measured w.size ∷ settled ∷ device.old.calls.made) }
     ensures none { IfOk result (λ w. (line : ℕ) → flushes w line ≡ false) }
     ensures err { OnErr result (OnlyReads device.old.calls.made device.new.calls.made) }
 {
     device.settle(rt, path)?;
     let size = device.size()?;
     let count = (WORD_BYTES * word_count(size)) as usize;
-    let mut bytes = Vec::with_capacity(alloc, count)?;
-    device.read(&mut bytes, count)?;
-    let words = FileWords::new(alloc, size, FileBytes::of(bytes))?;
+    let bytes = read_pages(alloc, device, count)?;
+    let words = FileWords::new(alloc, size, bytes)?;
     Ok(words)
 }
 
@@ -70,14 +71,14 @@ pub fn create_words<R: Files<File = File>>(
     ensures err { OnErr result (IsNotMade path.now count tried.new.made) }
 {
     *tried = Calls::none();
-    let bytes = vec![in alloc; 0u8; (WORD_BYTES * count) as usize]?;
-    let words = FileWords::new(alloc, WORD_BYTES * count, FileBytes::of(bytes))?;
+    let size = WORD_BYTES * count;
+    let zeros = vec![in alloc; 0u8; size as usize]?;
+    let words = FileWords::new(alloc, size, FileBytes::zeros(alloc, size as usize)?)?;
     let name = name_beside(alloc, path)?;
     let own = name.as_str();
-    let zeros = words.bytes.as_slice();
     let place = find_place(rt, path, tried)?;
     let mut device = Device::begin(rt, own, &place, tried)?;
-    match put_in_place(rt, path, own, &place, zeros, &mut device) {
+    match put_in_place(rt, path, own, &place, &zeros, &mut device) {
         Ok(()) => Ok((device, words)),
         Err(e) => {
             *tried = device.calls;

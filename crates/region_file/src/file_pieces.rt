@@ -2,6 +2,7 @@
 ghost use Rattle.std.specs.Prelude.{◌≡◌, ℕ, ◌+◌, ◌-◌, ◌*◌, ◌≤◌, ◌<◌, length, [], ◌∷◌, slice_index, slice_index_or, IfOk, OnErr};
 ghost use Rattle.region_file.specs.Calls.{measured, opened, AreReads};
 ghost use Rattle.pm_region.specs.Split.{words_in, AreCuts};
+ghost use Rattle.region_file.specs.Pages.{Shares};
 ghost use Rattle.region_file.specs.Files.{AreFileParts, ArePlaced, HaveTaken};
 
 use crate::calls::Calls;
@@ -9,6 +10,7 @@ use crate::device::Device;
 use crate::file_open::check_size;
 use crate::file_piece::FilePiece;
 use crate::file_words::FileWords;
+use crate::shared_bytes::SharedBytes;
 use pm_region::{AttachError, RegionFault};
 use std::alloc::Global;
 use std::fs::File;
@@ -21,6 +23,7 @@ pub fn file_pieces<R: Files<File = File>>(
     rt: &R,
     device: &Option<Device>,
     words: &FileWords,
+    shared: &SharedBytes,
     cuts: &[u64],
     path: &str,
     stamp: u64,
@@ -28,6 +31,7 @@ pub fn file_pieces<R: Files<File = File>>(
     tried: &mut Calls,
 ) -> Result<Vec<FilePiece>, AttachError>
     requires cuts { AreCuts (words_in words.now.size) cuts.now }
+    requires shares { Shares words.now.bytes.items shared.now }
     ensures ok { IfOk result (λ pieces. AreFileParts path.now words.now cuts.now stamp faults
         pieces.items (length cuts.now - 1)) }
     ensures err { OnErr result (AreReads tried.new.made) }
@@ -40,7 +44,7 @@ pub fn file_pieces<R: Files<File = File>>(
     let mut pieces = Vec::new(alloc);
     for i in 0..cuts.len().saturating_sub(1) {
         let device = open_again(rt, path, device, size, tried)?;
-        let words = words.part(alloc, cuts[i], cuts[i + 1])?;
+        let words = words.part(alloc, shared, cuts[i], cuts[i + 1])?;
         pieces.push(FilePiece {
             first: cuts[i],
             size,

@@ -7,7 +7,8 @@ use crate::device::Device;
 use crate::file_bytes::FileBytes;
 use crate::line_runs::write_runs;
 use crate::line_set::LineSet;
-use pm_region::byte_words::{word, word_count};
+use crate::shared_bytes::SharedBytes;
+use pm_region::byte_words::word_count;
 use pm_region::{LINE_WORDS, MOST_BYTES, RegionFault, WORD_BYTES};
 use std::alloc::{AllocError, Global};
 
@@ -28,6 +29,7 @@ pub struct FileWords {
 
 impl FileWords {
     ghost use Rattle.std.specs.Prelude.{IfOk, OnOk, OnErr, false, true};
+    ghost use Rattle.region_file.specs.Pages.{Shares};
     ghost use Rattle.region_file.specs.Filed.{IsStored, IsFlushed, IsKept, IsFenced, IsCutShort, IsPart, TakesPart, flushes, word_of};
 
     /// No words.
@@ -37,7 +39,7 @@ impl FileWords {
     {
         FileWords {
             size: 0,
-            bytes: FileBytes::of(Vec::new(alloc)),
+            bytes: FileBytes::none(alloc),
             flushed: LineSet::none(alloc),
         }
     }
@@ -62,7 +64,7 @@ impl FileWords {
         requires { place < words_in self.now.size }
         ensures { result ≡ word_of self.now place }
     {
-        word(self.bytes.as_slice(), place)
+        self.bytes.word(place)
     }
 
     /// Stores a word at a place, in memory alone.
@@ -99,29 +101,38 @@ impl FileWords {
             device.new.calls.made) }
     {
         self.flushed.sort();
-        write_runs(device, start, &self.flushed.lines, self.bytes.as_slice())?;
+        write_runs(device, start, &self.flushed.lines, &self.bytes)?;
         device.sync()?;
         self.flushed.clear();
         Ok(())
     }
 
-    /// Lets parts of the words be taken without a copy.
-    pub fn share(&mut self, alloc: Global) -> Result<(), AllocError>
-        ensures { self.new ≡ self.old }
+    /// Lets the words be shared without a copy.
+    pub fn share(&mut self, alloc: Global) -> Result<SharedBytes, AllocError>
+        ensures kept { self.new ≡ self.old }
+        ensures shares { IfOk result (Shares self.old.bytes.items) }
     {
         self.bytes.share(alloc)
     }
 
-    /// The words from one place to another, with nothing flushed. They are copied where these words are not shared.
-    pub fn part(&self, alloc: Global, from: u64, end: u64) -> Result<FileWords, AllocError>
+    /// The words from one place to another, which are shared, with nothing flushed.
+    pub fn part(
+        &self,
+        alloc: Global,
+        shared: &SharedBytes,
+        from: u64,
+        end: u64,
+    ) -> Result<FileWords, AllocError>
+        requires shares { Shares self.now.bytes.items shared.now }
+        requires whole { from % LINE_WORDS ≡ 0 }
         requires rising { from ≤ end }
         requires high { end ≤ words_in self.now.size }
         ensures { IfOk result (IsPart self.now from end) }
     {
-        let low = (WORD_BYTES * from) as usize;
-        let high = (WORD_BYTES * end) as usize;
-        let bytes = self.bytes.part(alloc, low, high)?;
-        let part = FileWords::new(alloc, WORD_BYTES * (end - from), bytes)?;
+        let base = shared.part((WORD_BYTES * from) as usize)?;
+        let size = WORD_BYTES * (end - from);
+        let bytes = FileBytes::shared(alloc, size as usize, base)?;
+        let part = FileWords::new(alloc, size, bytes)?;
         Ok(part)
     }
 
@@ -131,7 +142,8 @@ impl FileWords {
         requires within { first + words_in part.now.size ≤ words_in self.old.size }
         ensures { TakesPart self.old self.new part.now first }
     {
-        self.bytes.set_words(first, part.bytes.as_slice());
+        self.bytes
+            .take_part((WORD_BYTES * first) as usize, &part.bytes);
         self.flushed
             .insert_all(&part.flushed, (first / LINE_WORDS) as u32);
     }

@@ -13,7 +13,11 @@ mod file_pieces;
 mod file_words;
 mod line_runs;
 mod line_set;
-mod shared_part;
+mod own_pages;
+mod page_size;
+mod pages;
+mod read_pages;
+mod shared_bytes;
 mod system;
 
 pub use file::FileRegion;

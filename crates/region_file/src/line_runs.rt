@@ -1,9 +1,10 @@
 // The runs of neighbours among the flushed lines of a file.
 ghost use Rattle.std.specs.Prelude.{◌≡◌, ◌≢◌, ℕ, ◌+◌, ◌-◌, ◌*◌, ◌≤◌, ◌<◌, ◌∷◌, length, take, drop, slice_index, OnOk, OnErr};
 ghost use Rattle.region_file.specs.Calls.{wrote, failed};
-ghost use Rattle.region_file.specs.LineRuns.{AreRuns, AreCutShort};
+ghost use Rattle.region_file.specs.LineRuns.{AreRuns, AreCutShort, IsRun};
 
 use crate::device::Device;
+use crate::file_bytes::FileBytes;
 use pm_region::{LINE_BYTES, MOST_BYTES, RegionFault};
 
 /// Where the run of neighbours ends that begins at a place of this list of lines.
@@ -25,46 +26,39 @@ pub fn run_end(lines: &[u32], from: usize) -> usize
     lines.len()
 }
 
-/// Writes these lines to the file, where the bytes begin at the byte `start`, each run of neighbours at once.
+/// Writes these lines to the file, where the bytes begin at the byte `start`, each run of neighbours at once, but for the
+/// ends of pages.
 pub fn write_runs(
     device: &mut Device,
     start: u64,
     lines: &[u32],
-    bytes: &[u8],
+    bytes: &FileBytes,
 ) -> Result<(), RegionFault>
     requires start { start ≤ MOST_BYTES }
     requires within { (j : ℕ) → j < length lines.now
         → LINE_BYTES * slice_index lines.now j + LINE_BYTES
-        ≤ length bytes.now }
-    ensures ok { OnOk result (AreRuns start lines.now bytes.now (length lines.now)
+        ≤ length bytes.now.items }
+    ensures ok { OnOk result (AreRuns start lines.now bytes.now.items (length lines.now)
         device.old.calls.made device.new.calls.made) }
-    ensures err { OnErr result (AreCutShort start lines.now bytes.now device.old.calls.made
+    ensures err { OnErr result (AreCutShort start lines.now bytes.now.items device.old.calls.made
         device.new.calls.made) }
 {
     let mut from = 0;
     while from < lines.len() {
-        let end = run_end(lines, from);
-        write_run(device, start, lines[from], (end - from) as u64, bytes)?;
-        from = end;
+        let run = run_bytes(lines, from, bytes);
+        device.write(start + LINE_BYTES * u64::from(lines[from]), run)?;
+        from += run.len() / LINE_BYTES as usize;
     }
     Ok(())
 }
 
-// Writes so many lines from the first one on.
-fn write_run(
-    device: &mut Device,
-    start: u64,
-    first: u32,
-    count: u64,
-    bytes: &[u8],
-) -> Result<(), RegionFault>
-    requires start { start ≤ MOST_BYTES }
-    requires within { LINE_BYTES * first + LINE_BYTES * count ≤ length bytes.now }
-    ensures ok { OnOk result (device.new.calls.made ≡ wrote (start + LINE_BYTES * first)
-        (take (LINE_BYTES * count) (drop (LINE_BYTES * first) bytes.now)) ∷ device.old.calls.made) }
-    ensures err { OnErr result (device.new.calls.made ≡ failed ∷ device.old.calls.made) }
+// The bytes of the run of neighbours that begins at a place of this list of lines, as far as they stand in one page.
+fn run_bytes<'a>(lines: &[u32], from: usize, bytes: &'a FileBytes) -> &'a [u8]
+    requires before { from < length lines.now }
+    requires within { LINE_BYTES * slice_index lines.now from + LINE_BYTES ≤ length bytes.now.items }
+    ensures run { IsRun lines.now bytes.now.items from result.now }
 {
-    let low = LINE_BYTES * u64::from(first);
-    let high = low + LINE_BYTES * count;
-    device.write(start + low, &bytes[low as usize..high as usize])
+    let part = bytes.rest((LINE_BYTES * u64::from(lines[from])) as usize);
+    let count = (run_end(lines, from) - from).min(part.len() / LINE_BYTES as usize);
+    &part[..LINE_BYTES as usize * count]
 }
