@@ -56,8 +56,20 @@ pub fn flush_lines<R: Region>(region: &mut R, line: u64, count: u64)
     }
 }
 
+// Loads as many words of the region as the slice has places, from a word on.
+fn load_into<R: Region>(region: &R, first: u64, words: &mut [u64])
+    requires { WordsLie (R.state region.now).frame first (length words.old) }
+    ensures long { length words.new ≡ length words.old }
+    ensures words { IsTelling (R.state region.now) → (k : ℕ) → k < length words.old
+        → slice_index words.new k ≡ lasts (R.state region.now) (first + k) }
+{
+    for i in 0..words.len() {
+        words[i] = region.load(first + i as u64);
+    }
+}
+
 /// Fills a list with so many words of the region, from a word on, as a load gives each of them. What the list had is
-/// taken out first and its room stays, so one list serves many fillings and has room for the longest.
+/// written over and its room stays, so one list serves many fillings and has room for the longest.
 pub fn fill_words<R: Region>(
     region: &R,
     first: u64,
@@ -69,11 +81,8 @@ pub fn fill_words<R: Region>(
     ensures words { OnOk result (IsTelling (R.state region.now) → (k : ℕ) → k < count
         → slice_index words.new.items k ≡ lasts (R.state region.now) (first + k)) }
 {
-    words.clear();
-    words.reserve(count as usize)?;
-    for i in 0..count {
-        words.push(region.load(first + i))?;
-    }
+    words.resize(count as usize, 0)?;
+    load_into(region, first, words);
     Ok(())
 }
 

@@ -1,5 +1,5 @@
 // Bytes in words, and back.
-ghost use Rattle.std.specs.Prelude.{◌≡◌, ◌+◌, ◌-◌, ◌^◌, ◌<◌, IfOk, take, drop, slice_index};
+ghost use Rattle.std.specs.Prelude.{◌≡◌, ◌+◌, ◌-◌, ◌^◌, ◌<◌, IfOk, OnOk, take, drop, slice_index};
 ghost use Rattle.std.specs.Int.{w64, from_le_bytes};
 ghost use Rattle.log_entry.specs.Words.{words_for, unpacked};
 
@@ -39,13 +39,23 @@ pub fn word_at(bytes: &[u8], at: usize) -> u64
     ])
 }
 
+/// Puts the bytes of words into a list, the lowest byte of each first, in place of what it has. Its room stays.
+pub fn unpack_into(words: &[u64], bytes: &mut Vec<u8>) -> Result<(), Memory>
+    ensures { OnOk result (bytes.new.items ≡ unpacked words.now) }
+{
+    bytes.clear();
+    bytes.reserve(words.len() * WORD_BYTES as usize)?;
+    for word in words {
+        bytes.extend_from_slice(&word.to_le_bytes())?;
+    }
+    Ok(())
+}
+
 /// The bytes of words, the lowest byte of each first.
 pub fn unpack(alloc: Global, words: &[u64]) -> Result<Vec<u8>, Memory>
     ensures { IfOk result (λ v. v.items ≡ unpacked words.now) }
 {
-    let mut bytes = Vec::with_capacity(alloc, words.len() * WORD_BYTES as usize)?;
-    for word in words {
-        bytes.extend_from_slice(&word.to_le_bytes())?;
-    }
+    let mut bytes = Vec::new(alloc);
+    unpack_into(words, &mut bytes)?;
     Ok(bytes)
 }

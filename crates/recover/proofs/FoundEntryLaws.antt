@@ -1,18 +1,25 @@
 -- Found entries, and what an image has where they stand.
-use Rattle.std.proofs.Common.{◌≡◌, ℕ, ◌+◌, ◌-◌, ◌<◌, List, [], ◌∷◌, length, get_or, refl, sym, ◌∙◌, ap, subst, arith, Bool, true, false, cond, ltb, map}
+use Rattle.std.proofs.Common.{◌≡◌, ℕ, ◌+◌, ◌-◌, ◌*◌, ◌<◌, List, [], ◌∷◌, length, get_or, refl, sym, ◌∙◌, ap, subst, arith, Bool, true, false, cond, ltb, map}
 use Rattle.std.specs.Prelude.{filter}
 use Rattle.std.specs.List.{AllByRecursion}
 use Rattle.std.specs.Ordering.{is_lt}
 use Rattle.std.proofs.lemmas.List.{get_or-map, length-map}
 use Rattle.std.proofs.lemmas.Bool.{eq-eqb, ltb-true, ltb-false}
+use Rattle.std.proofs.Math.Nat.{div-div-eq-div-mul, div-eq_of_lt}
 use Rattle.chunk_map.specs.declared.layouts.Geometry.{Geometry}
+use Rattle.chunk_map.specs.Layouts.{chunk_words}
 use Rattle.store_image.specs.Facts.{In}
 use Rattle.store_image.specs.Soundness.{contradicts}
 use Rattle.recover.specs.declared.found_entries.Found.{Found}
 use Rattle.recover.specs.Clashes.{name_cmp}
 use Rattle.recover.specs.ByName.{name_of, is_named, IsInOrder, IsByName}
-use Rattle.recover.specs.FoundEntries.{placed_at, entries_at, AreInOrder, is_found, AreByName}
+use Rattle.recover.specs.FoundEntries.{placed_at, entries_at, core_at, AreInOrder, is_found, AreByName}
 use Rattle.recover.proofs.NameLaws.{in_filter, filter_in, all_of, one_of, any_default, NeighboursAgree}
+
+-- a word in front of the second part is in the first
+pub first_core : (l : Geometry) (at : ℕ) → at - 512 < chunk_words l * l.chunks → core_at l at ≡ 0
+unfolding core_at
+first_core l at within = div-div-eq-div-mul (at - 512) (chunk_words l) l.chunks ∙ div-eq_of_lt within
 
 filter_map : {X Y : Type 0} (f : X → Y) (p : Y → Bool) (xs : List X) → filter p (map f xs) ≡ map f (filter (λ x. p (f x)) xs)
 filter_map f p [] = refl

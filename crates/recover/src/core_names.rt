@@ -42,6 +42,10 @@ fn count_entries(alloc: Global, layout: &Layout, found: &[Found]) -> Result<Vec<
     ensures { IfOk result (λ counts. length counts.items ≡ layout.now.cores) }
 {
     let mut counts = no_counts(alloc, layout)?;
+    if counts.len() == 1 {
+        counts[0] = found.len();
+        return Ok(counts);
+    }
     for entry in found {
         count_one(&mut counts, core_of(layout, entry.at));
     }

@@ -1,5 +1,5 @@
 // Entries by their names and the words at which they begin.
-ghost use Rattle.std.specs.Prelude.{◌≡◌, ◌-◌, ◌/◌};
+ghost use Rattle.std.specs.Prelude.{◌≡◌, ◌-◌, ◌*◌, ◌/◌, ◌<◌, true};
 ghost use Rattle.chunk_map.specs.Layouts.{chunk_words};
 ghost use Rattle.recover.specs.FoundEntries.{core_at, chunk_there, place_there};
 
@@ -27,11 +27,24 @@ fn chunk_number(layout: &Layout, at: u32) -> u64
     (at as u64).saturating_sub(SUPERBLOCK_WORDS) / (geometry.chunk_bytes / WORD_BYTES)
 }
 
+// Whether a word lies in front of the second part. No division is needed to tell that, and a division takes long: in a
+// region of one core none is made.
+fn is_in_first(layout: &Layout, at: u32) -> bool
+    ensures { result ≡ true → at - SUPERBLOCK_WORDS < chunk_words layout.now * layout.now.chunks }
+{
+    let geometry = layout.geometry();
+    let words = geometry.chunk_bytes / WORD_BYTES;
+    (at as u64).saturating_sub(SUPERBLOCK_WORDS) < words.saturating_mul(geometry.chunks as u64)
+}
+
 /// The core in whose part a word lies.
 #[tactic(auto, unfolding(crate::specs::FoundEntries::core_at))]
 pub fn core_of(layout: &Layout, at: u32) -> u32
     ensures { result ≡ core_at layout.now at }
 {
+    if is_in_first(layout, at) {
+        return 0;
+    }
     let geometry = layout.geometry();
     (chunk_number(layout, at) / geometry.chunks as u64) as u32
 }

@@ -17,7 +17,7 @@ use chunk_map::Layout;
 use chunk_map::words::fill_words;
 use fs_model::Memory;
 use log_entry::entry_limits::SHORTEST_ENTRY;
-use log_entry::{Body, Entry, Read, read_entry, size_of};
+use log_entry::{Body, Entry, Read, read_entry, read_entry_in, size_of};
 use pm_region::{Region, WORD_BYTES};
 use std::alloc::Global;
 use store_image::{Fault, PlacedEntry};
@@ -63,7 +63,30 @@ fn body_named(read: Read, found: &Found) -> Option<Body>
     }
 }
 
-/// The body of an entry that was found; none where no entry of its name stands there now. `words` is scratch.
+/// The body of an entry that was found; none where no entry of its name stands there now. `words` is scratch, and in
+/// `room` come the bytes of a value.
+pub fn read_in<R: Region>(
+    region: &R,
+    layout: &Layout,
+    found: &Found,
+    words: &mut Vec<u64>,
+    room: Vec<u8>,
+) -> Result<Option<Body>, Memory>
+    requires covers { Covers (R.state region.now).frame layout.now }
+    ensures told { IfOk result (λ b. IsTelling (R.state region.now)
+        → Stands layout.now (lasts (R.state region.now)) found.now
+        → b ≡ Some (body_at (lasts (R.state region.now)) found.now.at)) }
+    ensures spelled { IfOk result (λ b. IfSome b (λ body. HasSpelling
+        (record { key = found.now.key; version = found.now.version; body = body }))) }
+{
+    if !words_there(region, layout, found.at, words)? {
+        return Ok(None);
+    }
+    let read = read_entry_in(words.as_slice(), 0, room)?;
+    Ok(body_named(read, found))
+}
+
+/// The same, with new room for a value.
 pub fn read_at<R: Region>(
     alloc: Global,
     region: &R,
@@ -78,11 +101,7 @@ pub fn read_at<R: Region>(
     ensures spelled { IfOk result (λ b. IfSome b (λ body. HasSpelling
         (record { key = found.now.key; version = found.now.version; body = body }))) }
 {
-    if !words_there(region, layout, found.at, words)? {
-        return Ok(None);
-    }
-    let read = read_entry(alloc, words.as_slice(), 0)?;
-    Ok(body_named(read, found))
+    read_in(region, layout, found, words, Vec::new(alloc))
 }
 
 /// The block that a body points to.

@@ -18,7 +18,7 @@ use crate::judge_winners::judge_winner;
 use crate::key_runs::key_run;
 use crate::key_standees::list_standees;
 use crate::look_ahead::look_ahead;
-use crate::reading::{gone_fault, read_at};
+use crate::reading::{gone_fault, read_in};
 use crate::types::RecoverError;
 use chunk_map::Layout;
 use core_index::{CoreIndex, Standee};
@@ -27,6 +27,7 @@ use log_entry::Body;
 use pm_region::Region;
 use std::alloc::Global;
 use std::collections::BTreeSet;
+use std::mem::replace;
 use store_image::geometry::owner;
 
 /// What one core gets.
@@ -43,6 +44,8 @@ pub struct Share {
 struct Scratch {
     /// The words of a winner.
     words: Vec<u64>,
+    /// Room for the bytes of its value.
+    room: Vec<u8>,
     /// The entries of its key that stand.
     standing: Vec<Standee>,
 }
@@ -89,6 +92,14 @@ fn give(
     enter(alloc, &mut shares[owner], winner, body, standing)
 }
 
+/// The room that the bytes of a value had, where there is one.
+fn room_of(alloc: Global, body: Body) -> Vec<u8> {
+    match body {
+        Body::Embedded(value) => value.into_bytes(),
+        _ => Vec::new(alloc),
+    }
+}
+
 /// Gives the winner of some entries of one key to the core that owns the key, with all of them. A winner that stands
 /// there no more is answered as damage.
 fn give_key<R: Region>(
@@ -115,11 +126,13 @@ fn give_key<R: Region>(
         → Stands layout.now (lasts (R.state region.now)) winner.now
         → IsOkUnless result RecoverError.Memory }
 {
-    let Some(body) = read_at(alloc, region, layout, winner, &mut scratch.words)? else {
+    let room = replace(&mut scratch.room, Vec::new(alloc));
+    let Some(body) = read_in(region, layout, winner, &mut scratch.words, room)? else {
         return Err(gone_fault(layout, winner).into());
     };
     list_standees(layout, run, &mut scratch.standing)?;
     give(alloc, layout, shares, winner, &body, &scratch.standing)?;
+    scratch.room = room_of(alloc, body);
     Ok(())
 }
 
@@ -158,6 +171,7 @@ pub fn shares<R: Region>(
     let mut shares = no_shares(alloc, layout)?;
     let mut scratch = Scratch {
         words: Vec::new(alloc),
+        room: Vec::new(alloc),
         standing: Vec::new(alloc),
     };
     let mut taken = BTreeSet::new(alloc);

@@ -1,19 +1,15 @@
 -- One step of a scan, at a place of a list.
-use Rattle.std.proofs.Common.{◌≡◌, ◌≢◌, ℕ, zero, suc, ◌+◌, ◌-◌, ◌%◌, ◌<◌, ◌≤◌, List, ◌∷◌, length, drop, get_or, refl, sym, ◌∙◌, ap, arith, ◌==◌, ◌&&◌, not, true, false, Bool}
+use Rattle.std.proofs.Common.{◌≡◌, ◌≢◌, ℕ, zero, suc, ◌+◌, ◌-◌, ◌%◌, ◌<◌, ◌≤◌, List, [], ◌∷◌, length, drop, get_or, refl, sym, ◌∙◌, ap, arith, ◌==◌, ◌&&◌, not, true, false, Bool}
 use Rattle.std.proofs.lemmas.List.{drop_more}
 use Rattle.std.proofs.lemmas.Bool.{ne_eqb, eq-eqb}
 use Rattle.log_entry.specs.declared.entry.Entry.{Entry}
 use Rattle.log_entry.specs.declared.entry.Read.TheVariants as reads
 use Rattle.log_entry.specs.Reading.{read}
-use Rattle.log_entry.specs.Batches.{broken, with_entry, scan}
+use Rattle.log_entry.specs.Batches.{ended, broken, with_entry, scan}
 
 module _ (ws : List ℕ) (p : ℕ) (within : p < length ws) where
   more : drop p ws ≡ get_or ws p 0 ∷ drop (p + 1) ws
   more = drop_more ws p 0 within
-
-  pub skips : (left : ℕ) (padded : Bool) → 0 < left → scan p left padded (drop p ws) ≡ scan (p + 1) (left - 1) padded (drop (p + 1) ws)
-  skips zero padded lt = let bad : ⊥ = omega (arith, lt) in absurd bad
-  skips (suc left) padded lt = let e : left ≡ suc left - 1 = omega arith in ap (scan p (suc left) padded) more ∙ ap (λ n. scan (p + 1) n padded (drop (p + 1) ws)) e
 
   module _ (padded : Bool) (inside : (padded && not (p % 8 == 0)) ≡ true) where
     pub stops_at : get_or ws p 0 ≢ 0 → scan p 0 padded (drop p ws) ≡ broken
@@ -35,19 +31,30 @@ module _ (ws : List ℕ) (p : ℕ) (within : p < length ws) where
     pub pad_at : read (drop p ws) ≡ reads.Padding → p % 8 ≢ 0 → scan p 0 padded (drop p ws) ≡ scan (p + 1) 0 true (drop (p + 1) ws)
     pad_at is line = let front : read (get_or ws p 0 ∷ drop (p + 1) ws) ≡ reads.Padding = ap read (sym more) ∙ is in let at : (p % 8 == 0) ≡ false = ne_eqb (p % 8) 0 line in ap (scan p 0 padded) more ∙ rw outside (rw (front, at) refl)
 
--- The same of what the code knows: left isn't above 0.
-module _ (ws : List ℕ) (p left : ℕ) (padded : Bool) (within : p < length ws) (none : left ≤ 0) (outside : (padded && not (p % 8 == 0)) ≡ false) where
-  is_zero : left ≡ 0
-  is_zero = omega (arith, none)
+-- The same of what the code knows.
+module _ (ws : List ℕ) (p : ℕ) (padded : Bool) (within : p < length ws) (outside : (padded && not (p % 8 == 0)) ≡ false) where
+  pub finds : (e : Entry) (n : ℕ) → reads.Entry e n ≡ read (drop p ws) → scan p 0 padded (drop p ws) ≡ with_entry p e (scan (p + 1) (n - 1) false (drop (p + 1) ws))
+  finds e n is = entry_at ws p within padded outside e n (sym is)
 
-  pub finds : (e : Entry) (n : ℕ) → reads.Entry e n ≡ read (drop p ws) → scan p left padded (drop p ws) ≡ with_entry p e (scan (p + 1) (n - 1) false (drop (p + 1) ws))
-  finds e n is = ap (λ k. scan p k padded (drop p ws)) is_zero ∙ entry_at ws p within padded outside e n (sym is)
+  pub refuses : (rule : ℕ) → reads.BadEntry rule ≡ read (drop p ws) → scan p 0 padded (drop p ws) ≡ broken
+  refuses rule is = bad_at ws p within padded outside rule (sym is)
 
-  pub refuses : (rule : ℕ) → reads.BadEntry rule ≡ read (drop p ws) → scan p left padded (drop p ws) ≡ broken
-  refuses rule is = ap (λ k. scan p k padded (drop p ws)) is_zero ∙ bad_at ws p within padded outside rule (sym is)
+  pub pads : reads.Padding ≡ read (drop p ws) → p % 8 ≢ 0 → scan p 0 padded (drop p ws) ≡ scan (p + 1) 0 true (drop (p + 1) ws)
+  pads is line = pad_at ws p within padded outside (sym is) line
 
-  pub pads : reads.Padding ≡ read (drop p ws) → p % 8 ≢ 0 → scan p left padded (drop p ws) ≡ scan (p + 1) 0 true (drop (p + 1) ws)
-  pads is line = ap (λ k. scan p k padded (drop p ws)) is_zero ∙ pad_at ws p within padded outside (sym is) line
+  pub ends_line : reads.Padding ≡ read (drop p ws) → p % 8 ≡ 0 → scan p 0 padded (drop p ws) ≡ broken
+  ends_line is line = line_at ws p within padded outside (sym is) line
 
-  pub ends_line : reads.Padding ≡ read (drop p ws) → p % 8 ≡ 0 → scan p left padded (drop p ws) ≡ broken
-  ends_line is line = ap (λ k. scan p k padded (drop p ws)) is_zero ∙ line_at ws p within padded outside (sym is) line
+-- Words that are left of an entry are passed over.
+pub passes : (left p : ℕ) (padded : Bool) (xs : List ℕ) → left ≤ length xs → scan p left padded xs ≡ scan (p + left) 0 padded (drop left xs)
+passes zero p padded xs within = let e : p ≡ p + 0 = omega arith in ap (λ n. scan n 0 padded xs) e
+passes (suc left) p padded [] within = let bad : ⊥ = omega (arith, within) in absurd bad
+passes (suc left) p padded (w ∷ ws) within =
+    let e : p + 1 + left ≡ p + suc left = omega arith in
+    passes left (p + 1) padded ws (omega (arith, within)) ∙ ap (λ n. scan n 0 padded (drop left ws)) e
+
+-- With as many words left as there are, or more, the end is reached.
+pub passes_all : (left p : ℕ) (padded : Bool) (xs : List ℕ) → length xs ≤ left → scan p left padded xs ≡ ended
+passes_all left p padded [] within = refl
+passes_all zero p padded (w ∷ ws) within = let bad : ⊥ = omega (arith, within) in absurd bad
+passes_all (suc left) p padded (w ∷ ws) within = passes_all left (p + 1) padded ws (omega (arith, within))

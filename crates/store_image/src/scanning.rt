@@ -1,5 +1,5 @@
 // Scanning a payload, place by place.
-ghost use Rattle.std.specs.Prelude.{◌≡◌, ℕ, ◌+◌, ◌*◌, ◌^◌, ◌<◌, ◌≤◌, ◌==◌, ◌&&◌, ◌%◌, not, length, OnOk, map};
+ghost use Rattle.std.specs.Prelude.{◌≡◌, ℕ, ◌+◌, ◌-◌, ◌*◌, ◌^◌, ◌<◌, ◌≤◌, ◌==◌, ◌&&◌, ◌%◌, not, length, OnOk, map, drop, Bool};
 ghost use Rattle.log_entry.specs.Batches.{Scan, ended, scan, scan_of};
 ghost use Rattle.store_image.specs.Scanned.{IsScan, IsNext, name_at};
 
@@ -22,7 +22,7 @@ pub struct AtPlace {
 #[derive(Clone, Copy)]
 enum Next {
     Stop,
-    On { left: u64, padded: bool },
+    Zero,
     Found { name: EntryName, left: u64 },
 }
 
@@ -32,24 +32,15 @@ fn is_inside(place: usize, padded: bool) -> bool
     padded && place as u64 % LINE_WORDS != 0
 }
 
-fn what_follows(payload: &[u64], place: usize, left: u64, padded: bool) -> Next
+fn what_follows(payload: &[u64], place: usize, padded: bool) -> Next
     requires { place < length payload.now }
-    ensures { IsNext payload.now place left padded result }
+    ensures { IsNext payload.now place padded result }
 {
-    if left > 0 {
-        return Next::On {
-            left: left - 1,
-            padded,
-        };
-    }
     if is_inside(place, padded) {
         if payload[place] != 0 {
             return Next::Stop;
         }
-        return Next::On {
-            left: 0,
-            padded: true,
-        };
+        return Next::Zero;
     }
     match read_name(payload, place as u64) {
         NameRead::Entry { name, length } => Next::Found {
@@ -60,14 +51,26 @@ fn what_follows(payload: &[u64], place: usize, left: u64, padded: bool) -> Next
             if place as u64 % LINE_WORDS == 0 {
                 Next::Stop
             } else {
-                Next::On {
-                    left: 0,
-                    padded: true,
-                }
+                Next::Zero
             }
         }
         NameRead::BadEntry { .. } => Next::Stop,
     }
+}
+
+// The place behind an entry of which so many words are left behind this place, or the end of the words.
+fn place_behind(payload: &[u64], place: usize, left: u64) -> usize
+    requires { place < length payload.now }
+    ensures above { place < result }
+    ensures within { result ≤ length payload.now }
+    ensures same { (padded : Bool) → scan (place + 1) left padded (drop (place + 1) payload.now)
+        ≡ scan result 0 padded (drop result payload.now) }
+{
+    let rest = (payload.len() - place - 1) as u64;
+    if left >= rest {
+        return payload.len();
+    }
+    place + 1 + left as usize
 }
 
 /// The entries up to the end, or up to the first place where none may stand.
@@ -103,28 +106,25 @@ impl Scanned {
         ensures { OnOk result (IsScan self.new (scan_of payload.now)) }
     {
         self.clear();
-        let mut left: u64 = 0;
         let mut padded = false;
-        for place in 0..payload.len() {
-            match what_follows(payload, place, left, padded) {
+        let mut place = 0;
+        while place < payload.len() {
+            match what_follows(payload, place, padded) {
                 Next::Stop => {
                     self.whole = false;
                     return Ok(());
                 }
-                Next::On {
-                    left: more,
-                    padded: zero,
-                } => {
-                    left = more;
-                    padded = zero;
+                Next::Zero => {
+                    padded = true;
+                    place += 1;
                 }
-                Next::Found { name, left: more } => {
+                Next::Found { name, left } => {
                     self.entries.push(AtPlace {
                         place: place as u64,
                         name,
                     })?;
-                    left = more;
                     padded = false;
+                    place = place_behind(payload, place, left);
                 }
             }
         }

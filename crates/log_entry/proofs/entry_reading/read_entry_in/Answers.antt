@@ -3,7 +3,7 @@ use Rattle.std.proofs.lemmas.List.{take_rest}
 use Rattle.log_entry.specs.Reading.{read}
 use Rattle.log_entry.specs.Grammar.{IsReading}
 use Rattle.log_entry.proofs.Answers.{reading_of}
-use Rattle.log_entry.proofs.entry_reading.read_entry.Goals as goal
+use Rattle.log_entry.proofs.entry_reading.read_entry_in.Goals as goal
 
 pub returns-clause-reading : goal.returns-clause-reading
 returns-clause-reading c =

@@ -3,7 +3,7 @@ use Rattle.pm_region.specs.Words.{lasts}
 use Rattle.chunk_map.specs.Layouts.{total_bytes}
 use Rattle.recover.specs.FoundEntries.{HasWords}
 use Rattle.recover.proofs.StandsLaws.{stands_read, not_out, body_found}
-use Rattle.recover.proofs.reading.read_at.Goals as goal
+use Rattle.recover.proofs.reading.read_in.Goals as goal
 
 pub returns-then-not-branch-clause-told : goal.returns-then-not-branch-clause-told
 returns-then-not-branch-clause-told g c = λ telling stands.
