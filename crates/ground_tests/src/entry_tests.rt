@@ -1,6 +1,6 @@
-ghost use Rattle.std.specs.Prelude.{◌<◌, length};
+ghost use Rattle.std.specs.Prelude.{◌≡◌, ◌<◌, [], length, IfOk};
 
-use fs_model::Value;
+use fs_model::{Memory, Value};
 use log_entry::{
     Body, Entry, EntryName, Read, WordBuffer, entry_lines, entry_words, read_entry, write_entry,
 };
@@ -63,25 +63,32 @@ fn the_vectors_are_read(rt: HostRuntime) -> Result<(), Fail> {
     Ok(())
 }
 
-#[test]
-fn the_vectors_are_written(rt: HostRuntime) -> Result<(), Fail> {
-    let alloc = rt.alloc();
-    let mut buffer = WordBuffer::with_room(alloc, 10)?;
+/// Writes the vectors behind each other. Gives words and lines of the first, and its name.
+fn write_vectors(alloc: Global, buffer: &mut WordBuffer) -> Result<(u64, u64, EntryName), Memory>
+    requires empty { buffer.old.words ≡ [] }
+    requires room { buffer.old.room ≡ 10 }
+    ensures { IfOk result (λ _. buffer.new.room ≡ 10) }
+{
     let embedded = Entry {
         key: 5,
         version: 1,
         body: Body::Embedded(Value::of(Vec::from_slice(alloc, b"abc")?)),
     };
-    assert_eq!(rt; entry_words(&embedded), 3);
-    assert_eq!(rt; entry_lines(&embedded), 1);
-    write_entry(&embedded, &mut buffer);
+    let last = Entry {
+        key: 9,
+        version: 1048574,
+        body: Body::Embedded(Value::of(Vec::from_slice(alloc, b"q")?)),
+    };
+    let words = entry_words(&embedded);
+    let lines = entry_lines(&embedded);
+    write_entry(&embedded, buffer);
     write_entry(
         &Entry {
             key: 5,
             version: 2,
             body: Body::Tombstone,
         },
-        &mut buffer,
+        buffer,
     );
     write_entry(
         &Entry {
@@ -89,16 +96,32 @@ fn the_vectors_are_written(rt: HostRuntime) -> Result<(), Fail> {
             version: 1,
             body: Body::Pointer(17),
         },
-        &mut buffer,
+        buffer,
     );
-    write_entry(
-        &Entry {
-            key: 9,
-            version: 1048574,
-            body: Body::Embedded(Value::of(Vec::from_slice(alloc, b"q")?)),
-        },
-        &mut buffer,
-    );
+    write_entry(&last, buffer);
+    let name = EntryName {
+        key: embedded.key,
+        version: embedded.version,
+    };
+    Ok((words, lines, name))
+}
+
+/// What is seen of the first vector, whether all four are these words, and whether the buffer then has a 7 alone that
+/// was emptied and given it.
+fn seen_of_vectors(
+    alloc: Global,
+    wanted: &[u64],
+) -> Result<((u64, u64, EntryName), bool, bool), Memory> {
+    let mut buffer = WordBuffer::with_room(alloc, 10)?;
+    let first = write_vectors(alloc, &mut buffer)?;
+    let same = buffer.words() == wanted;
+    buffer.clear();
+    buffer.push(7);
+    Ok((first, same, buffer.words() == [7].as_slice()))
+}
+
+#[test]
+fn the_vectors_are_written(rt: HostRuntime) -> Result<(), Fail> {
     let wanted = [
         word([0x15, 0, 0, 3, 0, 0, 0, 0]),
         5,
@@ -111,14 +134,10 @@ fn the_vectors_are_written(rt: HostRuntime) -> Result<(), Fail> {
         9,
         0x71,
     ];
-    assert_eq!(rt; buffer.words(), wanted.as_slice());
-    buffer.clear();
-    buffer.push(7);
-    assert_eq!(rt; buffer.words(), [7].as_slice());
-    let name = EntryName {
-        key: embedded.key,
-        version: embedded.version,
-    };
+    let ((words, lines, name), same, is_seven) = seen_of_vectors(rt.alloc(), &wanted)?;
+    assert_eq!(rt; (words, lines), (3, 1));
     assert!(rt; name == EntryName { key: 5, version: 1 });
+    assert!(rt; same, "the four entries are spelled as the vectors are");
+    assert!(rt; is_seven, "a word stands in a buffer that was emptied");
     Ok(())
 }

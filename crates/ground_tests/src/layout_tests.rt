@@ -88,27 +88,61 @@ fn empty_region(alloc: Global) -> Result<SteadyRegion, Fail> {
     Ok(region)
 }
 
+/// What is found of a region's superblock before and behind its writing, what the writing answers, and words of it.
+type Superblock = (
+    Option<Result<u64, NotARegion>>,
+    Option<Result<(), RegionFault>>,
+    [u64; 3],
+    Option<Result<u64, NotARegion>>,
+);
+
+fn superblock_of(alloc: Global, layout: &Layout) -> Result<Superblock, Fail> {
+    let mut region = empty_region(alloc)?;
+    let before = found(&region);
+    let written = format(&mut region, layout);
+    let words = [word(&region, 0), word(&region, 1), word(&region, 5)];
+    Ok((before, written, words, found(&region)))
+}
+
 #[test]
 fn a_superblock(rt: HostRuntime) -> Result<(), Fail> {
     let layout = Layout::new(1, 1, 4, 4096)?;
-    let mut region = empty_region(rt.alloc())?;
-    assert_eq!(rt; found(&region), Some(Err(NotARegion { rule: 2 })));
-    assert_eq!(rt; format(&mut region, &layout), Some(Ok(())));
-    assert_eq!(rt; word(&region, 0).to_le_bytes(), *b"FLATST01");
-    assert_eq!(rt; (word(&region, 1), word(&region, 5)), (1, 4096));
-    assert_eq!(rt; found(&region), Some(Ok(20480)));
+    let (before, written, words, behind) = superblock_of(rt.alloc(), &layout)?;
+    assert_eq!(rt; before, Some(Err(NotARegion { rule: 2 })));
+    assert_eq!(rt; written, Some(Ok(())));
+    assert_eq!(rt; words[0].to_le_bytes(), *b"FLATST01");
+    assert_eq!(rt; (words[1], words[2]), (1, 4096));
+    assert_eq!(rt; behind, Some(Ok(20480)));
     Ok(())
+}
+
+/// What is read behind a bad head, behind one of blocks, with that one's word, and where none was written.
+type Heads = (
+    Option<Result<Head, BadHead>>,
+    Option<Result<Head, BadHead>>,
+    u64,
+    Option<Result<Head, BadHead>>,
+);
+
+fn heads_of(alloc: Global, layout: &Layout) -> Result<Heads, Fail> {
+    let mut region = empty_region(alloc)?;
+    let past = turned(&mut region, layout, 512, Head::Log { tail: 488 });
+    let blocks = turned(&mut region, layout, 1024, Head::Data { class: 1 });
+    Ok((
+        past,
+        blocks,
+        word(&region, 1024),
+        head(&region, layout, 1536),
+    ))
 }
 
 #[test]
 fn heads(rt: HostRuntime) -> Result<(), Fail> {
     let layout = Layout::new(1, 1, 4, 4096)?;
-    let mut region = empty_region(rt.alloc())?;
-    let past = turned(&mut region, &layout, 512, Head::Log { tail: 488 });
+    let (past, blocks, word, free) = heads_of(rt.alloc(), &layout)?;
     assert!(rt; matches!(past, Some(Err(BadHead { rule: 5 }))));
-    let blocks = turned(&mut region, &layout, 1024, Head::Data { class: 1 });
     assert!(rt; matches!(blocks, Some(Ok(Head::Data { class: 1 }))));
-    assert_eq!(rt; word(&region, 1024), 258);
-    assert!(rt; matches!(head(&region, &layout, 1536), Some(Ok(Head::Free))));
+    assert_eq!(rt; word, 258);
+    assert!(rt; matches!(free, Some(Ok(Head::Free))));
     Ok(())
 }

@@ -47,9 +47,16 @@ fn text_of_lines(alloc: Global, input: &Input) -> Result<String, AllocError> {
     Ok(text)
 }
 
+// Whether the lines of a source are these, and how often it failed.
+fn reads_as(alloc: Global, text: &str, cores: u32, lines: &str) -> Result<(bool, u64), Fail> {
+    let mut source = SteadySource::new(bytes(alloc, text)?, 3);
+    let input = read_input(alloc, &mut source, cores)?;
+    let found = text_of_lines(alloc, &input)?;
+    Ok((found.as_str() == lines, source.faults()))
+}
+
 #[test]
 fn good_inputs(rt: HostRuntime) -> Result<(), Fail> {
-    let alloc = rt.alloc();
     let table = [
         ("", 1, ""),
         (
@@ -67,10 +74,8 @@ fn good_inputs(rt: HostRuntime) -> Result<(), Fail> {
         ),
     ];
     for (text, cores, lines) in table {
-        let mut source = SteadySource::new(bytes(alloc, text)?, 3);
-        let input = read_input(alloc, &mut source, cores)?;
-        assert_eq!(rt; text_of_lines(alloc, &input)?.as_str(), lines);
-        assert_eq!(rt; source.faults(), 0);
+        let read = reads_as(rt.alloc(), text, cores, lines)?;
+        assert_eq!(rt; read, (true, 0), "of {text}");
     }
     Ok(())
 }
@@ -106,9 +111,7 @@ fn bad_inputs(rt: HostRuntime) -> Result<(), Fail> {
 }
 
 // 64 lines of a mebibyte each are as many bytes as an input may have.
-#[test]
-fn largest_input(rt: HostRuntime) -> Result<(), Fail> {
-    let alloc = rt.alloc();
+fn largest_text(alloc: Global) -> Result<Vec<u8>, AllocError> {
     let mut line = bytes(alloc, "put 1 ")?;
     line.resize(1_048_575, b'x')?;
     line.push(b'\n')?;
@@ -116,41 +119,83 @@ fn largest_input(rt: HostRuntime) -> Result<(), Fail> {
     for _ in 0..64 {
         text.extend_from_slice(&line)?;
     }
-    assert_eq!(rt; fault(parse_input(alloc, &text, 1)), None);
+    Ok(text)
+}
+
+// What is said of the largest input, and of the same with two lines behind it.
+fn faults_of_largest(
+    alloc: Global,
+) -> Result<(Option<InputError>, Option<InputError>), AllocError> {
+    let mut text = largest_text(alloc)?;
+    let largest = fault(parse_input(alloc, &text, 1));
     text.extend_from_slice(b"get 1\nget 2\n")?;
     let mut source = SteadySource::new(text, 1_000_000);
-    let outcome = read_input(alloc, &mut source, 1);
-    assert_eq!(rt;
-        fault(outcome),
-        Some(InputError::BadInput { line: 65, rule: 1 })
-    );
+    Ok((largest, fault(read_input(alloc, &mut source, 1))))
+}
+
+fn fault_of_long_line(alloc: Global) -> Result<Option<InputError>, AllocError> {
     let mut long = Vec::new(alloc);
     long.resize(1_048_641, b'x')?;
-    let outcome = parse_input(alloc, &long, 1);
-    assert_eq!(rt;
-        fault(outcome),
-        Some(InputError::BadInput { line: 1, rule: 2 })
-    );
+    Ok(fault(parse_input(alloc, &long, 1)))
+}
+
+fn bad_line(line: u64, rule: u32) -> Option<InputError> {
+    Some(InputError::BadInput { line, rule })
+}
+
+#[test]
+fn largest_input(rt: HostRuntime) -> Result<(), Fail> {
+    let alloc = rt.alloc();
+    assert_eq!(rt; faults_of_largest(alloc)?, (None, bad_line(65, 1)));
+    assert_eq!(rt; fault_of_long_line(alloc)?, bad_line(1, 2));
     Ok(())
+}
+
+// What a source answers whose fourth call fails, and how often it failed.
+fn fault_of_source(alloc: Global) -> Result<(Option<InputError>, u64), AllocError> {
+    let text = bytes(alloc, "put 5 abc\nget 5\nget 6\n")?;
+    let mut source = MemSource::new(text, 9, vec![in alloc; 3]?);
+    let outcome = read_input(alloc, &mut source, 1);
+    Ok((fault(outcome), source.faults()))
 }
 
 #[test]
 fn source_fails(rt: HostRuntime) -> Result<(), Fail> {
-    let alloc = rt.alloc();
-    let text = "put 5 abc\nget 5\nget 6\n";
-    let mut source = MemSource::new(bytes(alloc, text)?, 9, vec![in alloc; 3]?);
-    let outcome = read_input(alloc, &mut source, 1);
-    assert_eq!(rt; fault(outcome), Some(InputError::SourceFault));
-    assert_eq!(rt; source.faults(), 1);
+    let found = fault_of_source(rt.alloc())?;
+    assert_eq!(rt; found, (Some(InputError::SourceFault), 1));
     Ok(())
+}
+
+fn two_replies(alloc: Global) -> Result<[Reply; 2], AllocError> {
+    let abc = value(alloc, "abc")?;
+    Ok([Reply::Stored, Reply::Value(abc)])
+}
+
+// What two replies to a sink that fails at this call come to: the error, whether this text was taken, how often it
+// failed.
+fn written_until(
+    alloc: Global,
+    call: u64,
+    text: &str,
+) -> Result<(Option<OutError>, bool, u64), Fail> {
+    let replies = two_replies(alloc)?;
+    let mut sink = MemSink::new(alloc, 100, 1, vec![in alloc; call]?)?;
+    let outcome = write_replies(alloc, &mut sink, &replies);
+    let same = sink.text() == Some(text.as_bytes());
+    Ok((outcome.err(), same, sink.faults()))
+}
+
+// Whether a sink for 16 bytes tells nothing of the 17.
+fn tells_nothing(alloc: Global) -> Result<bool, Fail> {
+    let replies = two_replies(alloc)?;
+    let mut narrow = SteadySink::new(alloc, 16, 5)?;
+    write_replies(alloc, &mut narrow, &replies)?;
+    Ok(narrow.text().is_none())
 }
 
 #[test]
 fn sink_fails(rt: HostRuntime) -> Result<(), Fail> {
     let alloc = rt.alloc();
-    let mut replies = Vec::new(alloc);
-    replies.push(Reply::Stored)?;
-    replies.push(Reply::Value(value(alloc, "abc")?))?;
     // The text has 17 bytes, so call 18 is the flush.
     let table = [
         (11, "stored\nval", Some(OutError::SinkFault), 1),
@@ -158,42 +203,51 @@ fn sink_fails(rt: HostRuntime) -> Result<(), Fail> {
         (19, "stored\nvalue abc\n", None, 0),
     ];
     for (call, text, error, faults) in table {
-        let mut sink = MemSink::new(alloc, 100, 1, vec![in alloc; call]?)?;
-        let outcome = write_replies(alloc, &mut sink, &replies);
-        assert_eq!(rt; outcome.err(), error);
-        assert_eq!(rt; sink.text(), Some(text.as_bytes()));
-        assert_eq!(rt; sink.faults(), faults);
+        let found = written_until(alloc, call, text)?;
+        assert_eq!(rt; found, (error, true, faults), "at call {call}");
     }
-    let mut narrow = SteadySink::new(alloc, 16, 5)?;
-    write_replies(alloc, &mut narrow, &replies)?;
-    assert_eq!(rt; narrow.text().is_none(), true);
+    assert!(rt; tells_nothing(alloc)?);
     Ok(())
 }
 
-#[test]
-fn texts(rt: HostRuntime) -> Result<(), Fail> {
-    let alloc = rt.alloc();
-    let mut replies = Vec::new(alloc);
-    replies.push(Reply::Stored)?;
-    replies.push(Reply::Value(value(alloc, "")?))?;
-    replies.push(Reply::Absent)?;
-    replies.push(Reply::Deleted)?;
-    replies.push(Reply::Full)?;
-    replies.push(Reply::VersionsSpent)?;
-    replies.push(Reply::TooLong)?;
-    replies.push(Reply::Stopped)?;
+fn is_text(sink: &SteadySink, text: &str) -> bool {
+    sink.text() == Some(text.as_bytes())
+}
+
+// Whether one reply of each kind is written as this text.
+fn replies_are(alloc: Global, text: &str) -> Result<bool, Fail> {
+    let empty = value(alloc, "")?;
+    let replies = [
+        Reply::Stored,
+        Reply::Value(empty),
+        Reply::Absent,
+        Reply::Deleted,
+        Reply::Full,
+        Reply::VersionsSpent,
+        Reply::TooLong,
+        Reply::Stopped,
+    ];
     let mut sink = SteadySink::new(alloc, 1_000, 7)?;
     write_replies(alloc, &mut sink, &replies)?;
-    let text = "stored\nvalue \nabsent\ndeleted\nfull\nversions spent\ntoo long\nstopped\n";
-    assert_eq!(rt; sink.text(), Some(text.as_bytes()));
+    Ok(is_text(&sink, text))
+}
 
+// Whether a pair of key 5 and the value `de` is written as this text.
+fn pair_is(alloc: Global, text: &str) -> Result<bool, Fail> {
     let pairs = [Pair {
         key: 5,
         value: value(alloc, "de")?,
     }];
     let mut sink = SteadySink::new(alloc, 1_000, 1_000)?;
     write_pairs(alloc, &mut sink, &pairs)?;
-    assert_eq!(rt; sink.text(), Some("5 de\n".as_bytes()));
+    Ok(is_text(&sink, text))
+}
+
+#[test]
+fn texts(rt: HostRuntime) -> Result<(), Fail> {
+    let text = "stored\nvalue \nabsent\ndeleted\nfull\nversions spent\ntoo long\nstopped\n";
+    assert!(rt; replies_are(rt.alloc(), text)?);
+    assert!(rt; pair_is(rt.alloc(), "5 de\n")?);
     Ok(())
 }
 
@@ -211,9 +265,8 @@ fn entry_at(place: u64, key: u64, body: Body) -> PlacedEntry {
     }
 }
 
-#[test]
-fn entries(rt: HostRuntime) -> Result<(), Fail> {
-    let alloc = rt.alloc();
+// Whether an entry of each kind is written as this text.
+fn entries_are(alloc: Global, text: &str) -> Result<bool, Fail> {
     let mut long = Vec::new(alloc);
     long.resize(255, b'a')?;
     let entries = [
@@ -223,16 +276,26 @@ fn entries(rt: HostRuntime) -> Result<(), Fail> {
     ];
     let mut sink = SteadySink::new(alloc, 1_000, 1_000)?;
     write_entries(alloc, &mut sink, &entries)?;
+    Ok(is_text(&sink, text))
+}
+
+#[test]
+fn entries(rt: HostRuntime) -> Result<(), Fail> {
     let text = "core 0 chunk 1 place 0 key 1 version 1 embedded 255\n\
         core 0 chunk 1 place 34 key 2 version 1 block 17\n\
         core 0 chunk 1 place 36 key 3 version 1 delete\n";
-    assert_eq!(rt; sink.text(), Some(text.as_bytes()));
+    assert!(rt; entries_are(rt.alloc(), text)?);
     Ok(())
+}
+
+fn tally_is(alloc: Global, tally: &LoadTally, text: &str) -> Result<bool, Fail> {
+    let mut sink = SteadySink::new(alloc, 1_000, 1_000)?;
+    write_tally(alloc, &mut sink, tally)?;
+    Ok(is_text(&sink, text))
 }
 
 #[test]
 fn tally(rt: HostRuntime) -> Result<(), Fail> {
-    let alloc = rt.alloc();
     let tally = LoadTally {
         requests: 200_000,
         stored: 100_000,
@@ -243,11 +306,9 @@ fn tally(rt: HostRuntime) -> Result<(), Fail> {
         live: 7_500,
         bytes: 173_099,
     };
-    let mut sink = SteadySink::new(alloc, 1_000, 1_000)?;
-    write_tally(alloc, &mut sink, &tally)?;
     let text = "requests 200000\nstored 100000\nvalue 47500\nabsent 30000\n\
         deleted 22500\nrefused 0\nlive 7500\nbytes 173099\n";
-    assert_eq!(rt; sink.text(), Some(text.as_bytes()));
+    assert!(rt; tally_is(rt.alloc(), &tally, text)?);
     Ok(())
 }
 
@@ -265,29 +326,40 @@ impl Write for Unflushed {
     }
 }
 
+fn written_unflushed(alloc: Global) -> (Option<OutError>, u64) {
+    let mut sink = StdSink::over(Unflushed);
+    let outcome = write_replies(alloc, &mut sink, &[Reply::Absent]);
+    (outcome.err(), sink.faults())
+}
+
 // The flush of a sink is the flush of its writer.
 #[test]
 fn flushes_the_writer(rt: HostRuntime) -> Result<(), Fail> {
-    let alloc = rt.alloc();
-    let mut sink = StdSink::over(Unflushed);
-    let outcome = write_replies(alloc, &mut sink, &[Reply::Absent]);
-    assert_eq!(rt; outcome.err(), Some(OutError::SinkFault));
-    assert_eq!(rt; sink.faults(), 1);
+    let found = written_unflushed(rt.alloc());
+    assert_eq!(rt; found, (Some(OutError::SinkFault), 1));
     Ok(())
+}
+
+// Whether a stream's lines are these, and how many there are.
+fn stream_reads_as(alloc: Global, text: &[u8], lines: &str) -> Result<(bool, usize), Fail> {
+    let mut source = StdSource::over(text);
+    let input = read_input(alloc, &mut source, 1)?;
+    let found = text_of_lines(alloc, &input)?;
+    Ok((found.as_str() == lines, input.into_lines().len()))
+}
+
+// How often a stream failed that took a reply.
+fn faults_of_stream(alloc: Global) -> Result<u64, Fail> {
+    let mut sink = StdSink::over(Vec::<u8>::new(alloc));
+    write_replies(alloc, &mut sink, &[Reply::Absent])?;
+    Ok(sink.faults())
 }
 
 #[test]
 fn std_streams(rt: HostRuntime) -> Result<(), Fail> {
-    let alloc = rt.alloc();
-    let mut source = StdSource::over(b"put 5 abc\nget 5\n".as_slice());
-    let input = read_input(alloc, &mut source, 1)?;
-    assert_eq!(rt;
-        text_of_lines(alloc, &input)?.as_str(),
-        "put 5 [97, 98, 99] / get 5 / "
-    );
-    assert_eq!(rt; input.into_lines().len(), 2);
-    let mut sink = StdSink::over(Vec::<u8>::new(alloc));
-    write_replies(alloc, &mut sink, &[Reply::Absent])?;
-    assert_eq!(rt; sink.faults(), 0);
+    let text = b"put 5 abc\nget 5\n".as_slice();
+    let read = stream_reads_as(rt.alloc(), text, "put 5 [97, 98, 99] / get 5 / ")?;
+    assert_eq!(rt; read, (true, 2));
+    assert_eq!(rt; faults_of_stream(rt.alloc())?, 0);
     Ok(())
 }

@@ -1,6 +1,6 @@
-ghost use Rattle.std.specs.Prelude.{◌≡◌, ◌/◌, vec_len, IfOk};
+ghost use Rattle.std.specs.Prelude.{◌≡◌, ◌*◌, length, vec_len, IfOk};
 
-use fs_model::Memory;
+use fs_model::{Memory, Pair};
 use image_yardstick::image_superblock::read_layout;
 use image_yardstick::{first_fault, recovered_cells};
 use std::alloc::Global;
@@ -31,11 +31,24 @@ fn image(alloc: Global, count: usize, writes: &[(usize, u64)]) -> Result<Vec<u64
     Ok(words)
 }
 
+/// What is found of an image of so many words and bytes, with these words and then those.
+fn found_of(
+    alloc: Global,
+    count: usize,
+    bytes: u64,
+    writes: &[(usize, u64)],
+    again: &[(usize, u64)],
+) -> Result<Option<Fault>, Memory>
+    requires { bytes ≡ 8 * count }
+{
+    let mut words = image(alloc, count, writes)?;
+    write(&mut words, again);
+    first_fault(alloc, &words, bytes)
+}
+
 /// What is found of an image of 20,480 bytes.
 fn found(alloc: Global, writes: &[(usize, u64)]) -> Result<Option<Fault>, Memory> {
-    let words = image(alloc, 2560, writes)?;
-    let fault = first_fault(alloc, &words, 20480)?;
-    Ok(fault)
+    found_of(alloc, 2560, 20480, writes, &[])
 }
 
 fn damaged(part: u32, chunk: u32, rule: u32) -> Option<Fault> {
@@ -47,12 +60,10 @@ fn superblocks(rt: HostRuntime) -> Result<(), Fail> {
     let alloc = rt.alloc();
     assert!(rt; found(alloc, &[])?.is_none());
     let refused = |rule| Some(Fault::NotARegion { rule });
-    let words = image(alloc, 511, &[])?;
-    assert!(rt; first_fault(alloc, &words, 4088)? == refused(1));
+    assert!(rt; found_of(alloc, 511, 4088, &[], &[])? == refused(1));
     assert!(rt; found(alloc, &[(1, 3)])? == refused(2));
     assert!(rt; found(alloc, &[(2, 3), (3, 2)])? == refused(3));
-    let words = image(alloc, 3072, &[])?;
-    assert!(rt; first_fault(alloc, &words, 24576)? == refused(3));
+    assert!(rt; found_of(alloc, 3072, 24576, &[], &[])? == refused(3));
     Ok(())
 }
 
@@ -94,10 +105,8 @@ fn parts(rt: HostRuntime) -> Result<(), Fail> {
         (545, 1),
         (546, 97),
     ];
-    let words = image(alloc, 4608, &put)?;
-    assert!(rt; first_fault(alloc, &words, 36864)? == damaged(0, 0, 7));
+    assert!(rt; found_of(alloc, 4608, 36864, &put, &[])? == damaged(0, 0, 7));
     // one group of two: the entry stands in both parts
-    let mut words = words;
     let again = [
         (3, 2),
         (2560, 1),
@@ -106,8 +115,7 @@ fn parts(rt: HostRuntime) -> Result<(), Fail> {
         (2593, 1),
         (2594, 97),
     ];
-    write(&mut words, &again);
-    assert!(rt; first_fault(alloc, &words, 36864)? == damaged(1, 0, 8));
+    assert!(rt; found_of(alloc, 4608, 36864, &put, &again)? == damaged(1, 0, 8));
     Ok(())
 }
 
@@ -150,9 +158,42 @@ fn blocks(rt: HostRuntime) -> Result<(), Fail> {
     Ok(())
 }
 
+/// Whether the cell at a place has this key, and a value of this length and begin.
+fn has_cell(pairs: &[Pair], place: usize, key: u64, length: usize, begin: &[u8]) -> bool {
+    match pairs.get(place) {
+        Some(pair) => {
+            let bytes = pair.value.bytes();
+            pair.key == key && bytes.len() == length && bytes.starts_with(begin)
+        }
+        None => false,
+    }
+}
+
+/// The cells of an image of 20,480 bytes, and none of what has no layout.
+fn cells_in(alloc: Global, words: &[u64]) -> Result<Vec<Pair>, Memory>
+    requires { length words.now ≡ 2560 }
+{
+    match read_layout(words, 20480) {
+        Ok(_) => recovered_cells(alloc, words),
+        Err(_) => Ok(Vec::new(alloc)),
+    }
+}
+
+/// How many cells are recovered, and whether they are those of the test.
+fn seen_of_cells(
+    alloc: Global,
+    writes: &[(usize, u64)],
+) -> Result<(Option<Fault>, usize, bool, bool), Memory> {
+    let words = image(alloc, 2560, writes)?;
+    let fault = first_fault(alloc, &words, 20480)?;
+    let pairs = cells_in(alloc, &words)?;
+    let first = has_cell(&pairs, 0, 2, 256, &[7, 0]);
+    let second = has_cell(&pairs, 1, 5, 3, b"abc");
+    Ok((fault, pairs.len(), first, second))
+}
+
 #[test]
 fn cells(rt: HostRuntime) -> Result<(), Fail> {
-    let alloc = rt.alloc();
     // key 2 with a block of 256 bytes, key 1 deleted, key 5 with `abc`
     let writes = [
         (512, 258),
@@ -171,17 +212,7 @@ fn cells(rt: HostRuntime) -> Result<(), Fail> {
         (1065, 5),
         (1066, 0x0063_6261),
     ];
-    let words = image(alloc, 2560, &writes)?;
-    assert!(rt; first_fault(alloc, &words, 20480)?.is_none());
-    let pairs = match read_layout(&words, 20480) {
-        Ok(_) => recovered_cells(alloc, &words)?,
-        Err(_) => Vec::new(alloc),
-    };
-    assert_eq!(rt; pairs.len(), 2);
-    assert_eq!(rt; pairs[0].key, 2);
-    assert_eq!(rt; pairs[0].value.bytes().len(), 256);
-    assert!(rt; pairs[0].value.bytes().starts_with(&[7, 0]));
-    assert_eq!(rt; pairs[1].key, 5);
-    assert_eq!(rt; pairs[1].value.bytes(), b"abc".as_slice());
+    let seen = seen_of_cells(rt.alloc(), &writes)?;
+    assert_eq!(rt; seen, (None, 2, true, true));
     Ok(())
 }

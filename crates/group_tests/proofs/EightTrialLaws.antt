@@ -1,14 +1,11 @@
 -- What the test of a full batch needs.
 use Rattle.std.proofs.Common.{◌≡◌, ◌≢◌, ◌⊎◌, inl, inr, ℕ, ◌+◌, ◌/◌, ◌%◌, ◌==◌, ◌≤◌, ◌<◌, Bool, true, false, cond, eqb, [], Option, Some, None, refl, sym, ◌∙◌, ap, subst, arith}
-use Rattle.std.specs.Prelude.{Result, Ok}
 use Rattle.std.proofs.lemmas.Bool.{ne_eqb, cases_eq}
 use Rattle.std.proofs.Math.ListN.{get_or-eq_default}
 use Rattle.pm_region.specs.Cell.{certain}
 use Rattle.pm_region.specs.State.{State, IsTelling, cell_now, InRange}
 use Rattle.pm_region.proofs.Clients.{certain_may_be}
 use Rattle.chunk_map.specs.declared.layouts.Geometry.{Geometry}
-use Rattle.chunk_map.specs.declared.layouts.BadLayout.{BadLayout}
-use Rattle.chunk_map.specs.Checked.{checked_layout}
 use Rattle.chunk_map.specs.Layouts.{chunk_first, head_by, part_first, payload_lines}
 use Rattle.store_image.specs.Soundness.{IsSound, first_fault}
 use Rattle.core_log.specs.Log.{LogState, IsOwn, tail_of, first_of}
@@ -158,9 +155,6 @@ core_0 = refl
 part_0 : (part_at eight_place 0 ≡ 512) × (part_end eight_place 0 ≡ 2560)
 unfolding core_of
 part_0 = (refl, refl)
-
-pub layout_eight : (l : Geometry) → Path (Result Geometry BadLayout) (Ok l) (checked_layout (record { cores = 8; group = 8; chunks = 4; chunk_bytes = 4096 })) → l ≡ eight_place.layout
-layout_eight l is = (let same : Path (Result Geometry BadLayout) (Ok l) (Ok eight_place.layout) = is in cc same)
 
 -- it may write its batch into chunk 2 of its part, in a region of zeros
 pub eight_may_write : (s : State) (u : Group) (log : LogState) (b : Batch) → s.frame.first ≡ 0 → s.frame.words ≡ 16896 → ((w : ℕ) → InRange s.frame w → IsTelling s → cell_now s w ≡ certain 0) → IsOwn log → log.layout ≡ eight_place.layout → log.part ≡ 0

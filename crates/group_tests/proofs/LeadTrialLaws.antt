@@ -1,8 +1,5 @@
 -- What the tests' helpers need.
 use Rattle.std.proofs.Common.{◌≡◌, inr, ℕ, ◌+◌, ◌≤◌, ◌<◌, Bool, true, false, cond, eqb, List, [], map, Option, Some, None, refl, sym, ◌∙◌, ap, subst, arith}
-use Rattle.std.specs.Prelude.{Result, Ok}
-use Rattle.chunk_map.specs.Checked.{checked_layout}
-use Rattle.chunk_map.specs.declared.layouts.BadLayout.{BadLayout}
 use Rattle.std.proofs.Math.ListN.{get_or-eq_default}
 use Rattle.pm_region.specs.Words.{lines_for}
 use Rattle.pm_region.specs.Cell.{certain}
@@ -134,6 +131,3 @@ unwritten_by w is = subst (λ (g : Group). IsUnwritten (view_of g 1)) (sym is) (
 
 pub may_post : (w : Group) (c : Change) → w ≡ fresh → c ≡ put_of 1 → MayPost w.place 1 (view_of w 1) 0 c []
 may_post w c is change = subst (λ (x : Change). MayPost w.place 1 (view_of w 1) 0 x []) (sym change) (subst (λ (g : Group). MayPost g.place 1 (view_of g 1) 0 (put_of 1) []) (sym is) (fresh_post 1 1 (omega arith) (omega arith) key_1))
-
-pub layout_small : (l : Geometry) → Path (Result Geometry BadLayout) (Ok l) (checked_layout (record { cores = 3; group = 3; chunks = 4; chunk_bytes = 4096 })) → l ≡ small.layout
-layout_small l is = (let same : Path (Result Geometry BadLayout) (Ok l) (Ok small.layout) = is in cc same)

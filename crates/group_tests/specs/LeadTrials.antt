@@ -6,6 +6,7 @@ use Rattle.pm_region.specs.Words.{KeepsOutside, lines_for}
 use Rattle.log_entry.specs.declared.entry.Body.TheVariants.{Embedded}
 use Rattle.core_log.specs.declared.types.Room.{Room}
 use Rattle.group_board.specs.declared.change.Change.{Change}
+use Rattle.chunk_map.specs.declared.layouts.Geometry.{Geometry}
 use Rattle.core_log.specs.Log.{LogState, IsOwn, tail_of}
 use Rattle.group_laws.specs.Places.{Place, members}
 use Rattle.group_laws.specs.State.{Group}
@@ -51,18 +52,26 @@ LeavesOthers before after m = IfSome before (λ w. IsSomeAnd after (λ u. KeepsO
 abbrev pub small_place : Place
 small_place = place_in 0 small_words
 
--- a region of three parts with nothing in them
-pub record IsBlankRegion (s : State) : Type 0 where
+-- a region of so many words with nothing in them
+pub record IsBlank (n : ℕ) (s : State) : Type 0 where
   pub first : s.frame.first ≡ 0
-  pub words : s.frame.words ≡ 6656
+  pub words : s.frame.words ≡ n
   pub zeros : (w : ℕ) → InRange s.frame w → IsTelling s → cell_now s w ≡ certain 0
 
--- the log of core m, with no chunk yet
-pub record IsEmptyLog (log : LogState) (m : ℕ) : Type 0 where
+-- a region of three parts with nothing in them
+abbrev pub IsBlankRegion : State → Type 0
+IsBlankRegion s = IsBlank 6656 s
+
+-- the log of core m in a region of this layout, with no chunk yet
+pub record IsEmptyLogOf (l : Geometry) (log : LogState) (m : ℕ) : Type 0 where
   pub own : IsOwn log
-  pub layout : log.layout ≡ small_place.layout
+  pub layout : log.layout ≡ l
   pub part : log.part ≡ m
   pub none : (j : ℕ) → tail_of log.chunks j ≡ None
+
+-- the same in a region of three cores
+abbrev pub IsEmptyLog : LogState → ℕ → Type 0
+IsEmptyLog log m = IsEmptyLogOf small_place.layout log m
 
 -- Member m may post this change in slot 0, and then lead.
 pub record MayGather (p : Place) (m : ℕ) (v : View) (c : Change) : Type 0 where

@@ -139,75 +139,127 @@ fn put_long() -> Change
     }
 }
 
-#[test]
-fn the_way_of_one_change(rt: HostRuntime) -> Result<(), Fail> {
-    let change = put(&rt)?;
-    let mut board = open_small(&rt)?;
-    let mut seat = LocalSeat {
-        board: &mut board,
-        member: 1,
-    };
+/// How far member 1's change came.
+#[derive(Clone, Copy, Debug, PartialEq, Eq)]
+enum Way {
+    LockHeld,
+    NotTaken,
+    TakenWithHome,
+    NotBack,
+    Back {
+        home: Option<u32>,
+        key: u64,
+        version: u32,
+    },
+}
+
+fn way_back(change: Option<Change>) -> Way {
+    match change {
+        Some(change) => Way::Back {
+            home: change.home,
+            key: change.entry.key,
+            version: change.entry.version,
+        },
+        None => Way::NotBack,
+    }
+}
+
+/// It is written.
+fn way_when_certain(board: &mut LocalBoard, change: Change) -> Way
+    requires board { state board.old.keeper.me.0 ≡ fresh }
+    requires change { change ≡ first_put }
+{
+    let mut seat = LocalSeat { board, member: 1 };
     if offer(&mut seat, change, &[]).is_err() {
-        assert!(rt; false, "the lock is free");
-        return Ok(());
+        return Way::LockHeld;
     }
     let Some(change) = collect(&mut seat) else {
-        assert!(rt; false, "the change is taken");
-        return Ok(());
+        return Way::NotTaken;
     };
-    assert_eq!(rt; change.home, None);
+    let has_home = change.home.is_some();
     give_back(&mut seat, change);
-    match settle(&mut seat) {
-        Some(change) => {
-            assert_eq!(rt; change.home, Some(1));
-            assert_eq!(rt; change.entry.version, 1);
-        }
-        None => assert!(rt; false, "the change is given back"),
+    if has_home {
+        return Way::TakenWithHome;
     }
-    Ok(())
+    way_back(settle(&mut seat))
+}
+
+/// It could not be written.
+fn way_when_lost(board: &mut LocalBoard, change: Change) -> Way
+    requires board { state board.old.keeper.me.0 ≡ fresh }
+    requires change { change ≡ first_put }
+{
+    let mut seat = LocalSeat { board, member: 1 };
+    if offer(&mut seat, change, &[]).is_err() {
+        return Way::LockHeld;
+    }
+    let Some(change) = collect(&mut seat) else {
+        return Way::NotTaken;
+    };
+    give_up(&mut seat, change);
+    way_back(settle(&mut seat))
+}
+
+/// It has a block, and is taken back.
+fn way_when_retracted(board: &mut LocalBoard) -> Way
+    requires { state board.old.keeper.me.0 ≡ fresh }
+{
+    let value = [7; 256];
+    let change = put_long();
+    let mut seat = LocalSeat { board, member: 1 };
+    if offer(&mut seat, change, &value).is_err() {
+        return Way::LockHeld;
+    }
+    way_back(retract(&mut seat))
+}
+
+/// What becomes of a change.
+#[derive(Clone, Copy)]
+enum End {
+    Certain,
+    Lost,
+    Retracted,
+}
+
+fn way_to(rt: &HostRuntime, end: End) -> Result<Way, Fail> {
+    let mut board = open_small(rt)?;
+    Ok(match end {
+        End::Certain => way_when_certain(&mut board, put(rt)?),
+        End::Lost => way_when_lost(&mut board, put(rt)?),
+        End::Retracted => way_when_retracted(&mut board),
+    })
 }
 
 #[test]
+fn the_way_of_one_change(rt: HostRuntime) -> Result<(), Fail> {
+    let way = way_to(&rt, End::Certain)?;
+    let back = Way::Back {
+        home: Some(1),
+        key: 1,
+        version: 1,
+    };
+    assert_eq!(rt; way, back);
+    Ok(())
+}
+
+/// As it was posted.
+const UNWRITTEN: Way = Way::Back {
+    home: None,
+    key: 1,
+    version: 1,
+};
+
+#[test]
 fn a_change_that_could_not_be_written(rt: HostRuntime) -> Result<(), Fail> {
-    let change = put(&rt)?;
-    let mut board = open_small(&rt)?;
-    let mut seat = LocalSeat {
-        board: &mut board,
-        member: 1,
-    };
-    if offer(&mut seat, change, &[]).is_err() {
-        assert!(rt; false, "the lock is free");
-        return Ok(());
-    }
-    let Some(change) = collect(&mut seat) else {
-        assert!(rt; false, "the change is taken");
-        return Ok(());
-    };
-    give_up(&mut seat, change);
-    match settle(&mut seat) {
-        Some(change) => assert_eq!(rt; change.home, None),
-        None => assert!(rt; false, "the change comes back failed"),
-    }
+    let way = way_to(&rt, End::Lost)?;
+    assert_eq!(rt; way, UNWRITTEN);
     Ok(())
 }
 
 #[test]
 fn a_change_that_is_taken_back(rt: HostRuntime) -> Result<(), Fail> {
-    let value = [7; 256];
-    let change = put_long();
-    let mut board = open_small(&rt)?;
-    let mut seat = LocalSeat {
-        board: &mut board,
-        member: 1,
-    };
-    if offer(&mut seat, change, &value).is_err() {
-        assert!(rt; false, "the lock is free");
-        return Ok(());
-    }
-    match retract(&mut seat) {
-        Some(change) => assert_eq!(rt; change.entry.key, 1),
-        None => assert!(rt; false, "the change is taken back"),
-    }
+    let way = way_to(&rt, End::Retracted)?;
+    assert_eq!(rt; way, UNWRITTEN);
     Ok(())
 }
 
@@ -226,13 +278,18 @@ fn lock(board: &mut LocalBoard, member: u32) -> Option<u32>
     }
 }
 
-#[test]
-fn the_lock_has_one_holder(rt: HostRuntime) -> Result<(), Fail> {
-    let mut board = open_small(&rt)?;
+/// What two members find, one behind the other.
+fn holders(rt: &HostRuntime) -> Result<(Option<u32>, Option<u32>), Fail> {
+    let mut board = open_small(rt)?;
     let free = lock(&mut board, 1);
     let held = lock(&mut board, 2);
-    assert_eq!(rt; free, None);
-    assert_eq!(rt; held, Some(1));
+    Ok((free, held))
+}
+
+#[test]
+fn the_lock_has_one_holder(rt: HostRuntime) -> Result<(), Fail> {
+    let found = holders(&rt)?;
+    assert_eq!(rt; found, (None, Some(1)));
     Ok(())
 }
 
@@ -285,22 +342,37 @@ fn holds_one(rt: &HostRuntime, board: &mut LocalBoard, from: u32, to: u32) -> Re
     Ok(!unsent && !first && second && read && !again)
 }
 
-#[test]
-fn a_mailbox_in_each_direction(rt: HostRuntime) -> Result<(), Fail> {
-    let mut board = open_small(&rt)?;
-    let there = is_refused(&rt, &mut board, 0, 1)?;
-    let back = holds_one(&rt, &mut board, 1, 0)?;
-    let on = holds_one(&rt, &mut board, 1, 2)?;
-    let home = holds_one(&rt, &mut board, 2, 1)?;
-    let far = holds_one(&rt, &mut board, 0, 2)?;
-    let near = holds_one(&rt, &mut board, 2, 0)?;
-    let read = is_received(&mut board, 0, 1);
-    assert_eq!(rt; (there, read), (false, true));
-    assert!(rt; back && on && home && far && near);
+/// The mailbox from member 0 to member 1 is filled first and read last: whether it was full, whether it had something,
+/// and whether each of the other five holds one message.
+fn hold_each(rt: &HostRuntime, board: &mut LocalBoard) -> Result<(bool, bool, bool), Fail>
+    requires { places.members (state board.old.keeper.me.0).place ≡ 3 }
+    ensures { IfOk result (λ _. places.members (state board.new.keeper.me.0).place ≡ 3) }
+{
+    let there = is_refused(rt, board, 0, 1)?;
+    let back = holds_one(rt, board, 1, 0)?;
+    let on = holds_one(rt, board, 1, 2)?;
+    let home = holds_one(rt, board, 2, 1)?;
+    let far = holds_one(rt, board, 0, 2)?;
+    let near = holds_one(rt, board, 2, 0)?;
+    let read = is_received(board, 0, 1);
+    Ok((there, read, back && on && home && far && near))
+}
+
+/// The same at a board that just opened, where nothing is cleaned afterwards.
+fn hold_on_small(rt: &HostRuntime) -> Result<(bool, bool, bool), Fail> {
+    let mut board = open_small(rt)?;
+    let held = hold_each(rt, &mut board)?;
     let mut seat = LocalSeat {
         board: &mut board,
         member: 1,
     };
     clean_nothing(&mut seat);
+    Ok(held)
+}
+
+#[test]
+fn a_mailbox_in_each_direction(rt: HostRuntime) -> Result<(), Fail> {
+    let held = hold_on_small(&rt)?;
+    assert_eq!(rt; held, (false, true, true));
     Ok(())
 }

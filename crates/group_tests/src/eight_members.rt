@@ -1,24 +1,26 @@
 // A full batch: one leader takes eight changes of each of eight members, at the board of one thread. What is expected
 // is what the format says of a batch.
 ghost use Rattle.std.specs.Prelude.{◌≡◌, ◌*◌, ◌+◌, ◌/◌, ◌%◌, ◌<◌, ◌≤◌, false, true, [], IfOk, IfSome, OnOk};
+ghost use Rattle.region_memory.specs.Steady.{steady_state};
 ghost use Rattle.group_laws.specs.Places.{members};
 ghost use Rattle.group_laws.specs.MemberViews.{view_of};
 ghost use Rattle.group_board.specs.Journals.{state};
 ghost use Rattle.group_board.specs.Conditions.{MayPost, MayLock};
 ghost use Rattle.group_board.specs.Views.{after_post};
 ghost use Rattle.batch_leader.specs.Leading.{IsBatchOf};
-ghost use Rattle.group_tests.specs.LeadTrials.{put_of, IsUnwritten, FitsFresh, KeepsOthers, LeavesOthers};
-ghost use Rattle.group_tests.specs.EightTrials.{eight_words, eight_fresh, key_at, IsPosted, HasBatch};
+ghost use Rattle.group_tests.specs.LeadTrials.{put_of, IsBlank, IsEmptyLogOf, IsUnwritten, FitsFresh, KeepsOthers, LeavesOthers};
+ghost use Rattle.group_tests.specs.EightTrials.{eight_words, eight_place, eight_fresh, key_at, IsPosted, HasBatch};
 
-use crate::leader_tests::{empty_room, has_words, name_in, put};
+use crate::leader_tests::{Name, empty_room, has_words, name_in, put};
 use crate::no_region::NoRegion;
 use crate::two_leaders::write_at;
 use batch_leader::{Batch, BatchBuffer, Collected, Released, lead};
 use chunk_map::Layout;
 use core_log::CoreLog;
 use group_board::{Board, Change, LocalBoard, LocalSeat, Opening, SlotState};
-use pm_region::{Region, SplitRegion};
+use pm_region::SplitRegion;
 use region_memory::SteadyRegion;
+use std::alloc::Global;
 use std::test::Fail;
 
 /// Eight cores of one group on an empty region.
@@ -148,36 +150,106 @@ fn all_done(board: &mut LocalBoard) -> bool
     true
 }
 
-#[test]
-fn a_batch_of_64_changes_from_eight_members(rt: HostRuntime) -> Result<(), Fail> {
-    let alloc = rt.alloc();
-    let buffer = BatchBuffer::open(alloc)?;
+/// What is seen of the batch. Where it could not be gathered there are no names, and where it could not be written
+/// nothing else is seen either.
+#[derive(Clone, Copy)]
+struct Seen {
+    names: Option<[Name; 4]>,
+    is_written: bool,
+    is_done: bool,
+    has_words: bool,
+}
+
+/// The entries whose numbers the test asks for.
+fn names_in(batch: &Batch) -> [Name; 4] {
+    [
+        name_in(batch, 0),
+        name_in(batch, 8),
+        name_in(batch, 63),
+        name_in(batch, 64),
+    ]
+}
+
+/// Chunk 2 of part 0: a log of 24 lines, 64 entries of three words.
+const WORDS: [(u64, u64); 3] = [(1536, 1), (1537, 192), (1568 + 3 * 63 + 1, 63)];
+
+/// Member 0's batch of all that was posted, written into its part.
+fn lead_all(
+    board: &mut LocalBoard,
+    region: &mut SteadyRegion,
+    log: &mut CoreLog,
+    buffer: BatchBuffer,
+) -> Seen
+    requires posted { IsPosted 64 (state board.old.keeper.me.0) }
+    requires region { IsBlank 16896 (steady_state region.old) }
+    requires log { IsEmptyLogOf eight_place.layout log.old 0 }
+{
+    let mut seen = Seen {
+        names: None,
+        is_written: false,
+        is_done: false,
+        has_words: false,
+    };
+    let Some(batch) = gather_at(board, buffer) else {
+        return seen;
+    };
+    seen.names = Some(names_in(&batch));
+    if write_at(region, log, board, 0, batch) {
+        seen.is_written = true;
+        seen.is_done = all_done(board);
+        seen.has_words = has_words(region, &WORDS);
+    }
+    seen
+}
+
+/// The batch of a group that just opened.
+fn batch_of_eight(
+    rt: &HostRuntime,
+    region: &mut SteadyRegion,
+    log: &mut CoreLog,
+) -> Result<Seen, Fail>
+    requires region { IsBlank 16896 (steady_state region.old) }
+    requires log { IsEmptyLogOf eight_place.layout log.old 0 }
+{
+    let mut board = open_eight(rt)?;
+    post_all(rt, &mut board)?;
+    let buffer = BatchBuffer::open(rt.alloc())?;
+    Ok(lead_all(&mut board, region, log, buffer))
+}
+
+/// The log of member 0, with no chunk yet.
+fn open_log(alloc: Global) -> Result<CoreLog, Fail>
+    ensures { IfOk result (λ log. IsEmptyLogOf eight_place.layout log 0) }
+{
     let layout = Layout::new(8, 8, 4, 4096)?;
-    let mut log = CoreLog::open(alloc, layout, 0, Vec::new(alloc))?;
+    let log = CoreLog::open(alloc, layout, 0, Vec::new(alloc))?;
+    Ok(log)
+}
+
+/// A region of eight parts with nothing in them.
+fn blank_region(alloc: Global) -> Result<SteadyRegion, Fail>
+    ensures { IfOk result (λ r. IsBlank 16896 (steady_state r)) }
+{
     let mut region = SteadyRegion::new(alloc, Vec::new(alloc), 100)?;
     region.create(alloc, 16896)?;
-    let mut board = open_eight(&rt)?;
-    post_all(&rt, &mut board)?;
-    let Some(batch) = gather_at(&mut board, buffer) else {
-        assert!(rt; false, "64 changes are gathered");
-        return Ok(());
-    };
+    Ok(region)
+}
+
+/// The batch in a blank region.
+fn seen_of_eight(rt: &HostRuntime) -> Result<Seen, Fail> {
+    let mut region = blank_region(rt.alloc())?;
+    let mut log = open_log(rt.alloc())?;
+    batch_of_eight(rt, &mut region, &mut log)
+}
+
+#[test]
+fn a_batch_of_64_changes_from_eight_members(rt: HostRuntime) -> Result<(), Fail> {
+    let seen = seen_of_eight(&rt)?;
     // own slots first, then member after member
+    let names = [Some((0, 1)), Some((1, 1)), Some((63, 1)), None];
     assert_eq!(rt;
-        (name_in(&batch, 0), name_in(&batch, 8)),
-        (Some((0, 1)), Some((1, 1)))
+        (seen.names, seen.is_written, seen.is_done, seen.has_words),
+        (Some(names), true, true, true)
     );
-    assert_eq!(rt;
-        (name_in(&batch, 63), name_in(&batch, 64)),
-        (Some((63, 1)), None)
-    );
-    if !write_at(&mut region, &mut log, &mut board, 0, batch) {
-        assert!(rt; false, "the batch is written");
-        return Ok(());
-    }
-    assert!(rt; all_done(&mut board));
-    // chunk 2 of part 0: a log of 24 lines, 64 entries of three words
-    let words = [(1536, 1), (1537, 192), (1568 + 3 * 63 + 1, 63)];
-    assert!(rt; has_words(&region, &words));
     Ok(())
 }

@@ -3,20 +3,23 @@
 ghost use Rattle.std.specs.Prelude.{◌≡◌, ◌<◌, ◌≤◌, true, false, [], IfOk, IfSome, Option};
 ghost use Rattle.region_memory.specs.Mem.{mem_state};
 ghost use Rattle.group_laws.specs.Places.{members};
+ghost use Rattle.group_board.specs.Journals.{state};
+ghost use Rattle.group_tests.specs.BoardTrials.{fresh};
+ghost use Rattle.group_tests.specs.LeadTrials.{put_of, IsBlankRegion, IsEmptyLog};
 ghost use Rattle.group_board.specs.Conditions.{MayPost, MayLock};
 ghost use Rattle.licence.specs.Writes.{Begins};
 ghost use Rattle.batch_leader.specs.Leading.{IsBatchOf};
 ghost use Rattle.batch_leader.specs.Persisting.{HasRoom};
 ghost use Rattle.batch_leader.specs.Rounds.{words_taken};
 
-use crate::leader_tests::{gather, open_small, put};
+use crate::leader_tests::{Name, gather, open_log, open_small, put};
 use crate::no_region::NoRegion;
 use batch_leader::{Batch, BatchBuffer, Released, lead};
-use chunk_map::Layout;
 use core_log::CoreLog;
-use group_board::{Board, Change, LocalSeat, SlotState};
+use group_board::{Board, Change, LocalBoard, LocalSeat, SlotState};
 use pm_region::SplitRegion;
 use region_memory::{Faults, FenceNumber, MemRegion};
+use std::alloc::Global;
 use std::test::Fail;
 
 /// Posts a change, leads, takes it back, finds no other, and gives the lock back.
@@ -77,51 +80,89 @@ fn is_given_up<B: Board>(board: &mut B) -> bool
     }
 }
 
+/// The name of member 1's change that came back, and none where another call answered otherwise.
+fn name_of_taken(board: &mut LocalBoard, change: Change, buffer: BatchBuffer) -> Name
+    requires board { state board.old.keeper.me.0 ≡ fresh }
+    requires change { change ≡ put_of 1 }
+{
+    let mut seat = LocalSeat { board, member: 1 };
+    let change = take_back(&mut seat, change, buffer)?;
+    Some((change.entry.key, change.entry.version))
+}
+
+/// The same in a group that just opened.
+fn name_of_first(rt: &HostRuntime) -> Result<Name, Fail> {
+    let mut board = open_small(rt)?;
+    let change = put(rt, 1)?;
+    let buffer = BatchBuffer::open(rt.alloc())?;
+    Ok(name_of_taken(&mut board, change, buffer))
+}
+
 #[test]
 fn a_change_that_is_taken_back(rt: HostRuntime) -> Result<(), Fail> {
-    let alloc = rt.alloc();
-    let change = put(&rt, 1)?;
-    let buffer = BatchBuffer::open(alloc)?;
-    let mut board = open_small(&rt)?;
-    let mut seat = LocalSeat {
-        board: &mut board,
-        member: 1,
-    };
-    match take_back(&mut seat, change, buffer) {
-        Some(change) => assert_eq!(rt; (change.entry.key, change.entry.version), (1, 1)),
-        None => assert!(rt; false, "the change is taken back"),
-    }
+    let name = name_of_first(&rt)?;
+    assert_eq!(rt; name, Some((1, 1)));
     Ok(())
+}
+
+/// A region of three parts with nothing in them, whose first fence fails.
+fn failing_region(alloc: Global) -> Result<MemRegion, Fail>
+    ensures { IfOk result (λ r. IsBlankRegion (mem_state r)) }
+{
+    let first = FenceNumber {
+        piece: 0,
+        number: 1,
+    };
+    let plan = Faults {
+        opens: Vec::new(alloc),
+        fences: vec![in alloc; first]?,
+    };
+    let mut region = MemRegion::new(alloc, Vec::new(alloc), 100, plan)?;
+    region.create(alloc, 6656)?;
+    Ok(region)
+}
+
+/// Member 1's batch, which can't be written: whether it was given up, and whether its change came back without a home.
+/// None where it could not be gathered.
+fn lead_in_vain(
+    board: &mut LocalBoard,
+    region: &mut MemRegion,
+    log: &mut CoreLog,
+    change: Change,
+    buffer: BatchBuffer,
+) -> Option<(bool, bool)>
+    requires board { state board.old.keeper.me.0 ≡ fresh }
+    requires change { change ≡ put_of 1 }
+    requires region { IsBlankRegion (mem_state region.old) }
+    requires log { IsEmptyLog log.old 1 }
+{
+    let mut seat = LocalSeat { board, member: 1 };
+    let batch = gather(&mut seat, change, buffer)?;
+    let lost = give_up(region, log, &mut seat, batch, 2);
+    let back = is_given_up(&mut seat);
+    Some((lost, back))
+}
+
+/// The batch of a group that just opened.
+fn lost_batch(rt: &HostRuntime, region: &mut MemRegion) -> Result<Option<(bool, bool)>, Fail>
+    requires { IsBlankRegion (mem_state region.old) }
+{
+    let mut log = open_log(rt.alloc(), 1)?;
+    let mut board = open_small(rt)?;
+    let change = put(rt, 1)?;
+    let buffer = BatchBuffer::open(rt.alloc())?;
+    Ok(lead_in_vain(&mut board, region, &mut log, change, buffer))
+}
+
+/// The same in a region that fails.
+fn lost_in_blank(rt: &HostRuntime) -> Result<Option<(bool, bool)>, Fail> {
+    let mut region = failing_region(rt.alloc())?;
+    lost_batch(rt, &mut region)
 }
 
 #[test]
 fn a_batch_that_could_not_be_written(rt: HostRuntime) -> Result<(), Fail> {
-    let alloc = rt.alloc();
-    let change = put(&rt, 1)?;
-    let buffer = BatchBuffer::open(alloc)?;
-    let layout = Layout::new(3, 3, 4, 4096)?;
-    let mut log = CoreLog::open(alloc, layout, 1, Vec::new(alloc))?;
-    let plan = Faults {
-        opens: Vec::new(alloc),
-        fences: vec![in alloc;
-            FenceNumber {
-                piece: 0,
-                number: 1
-            },
-        ]?,
-    };
-    let mut region = MemRegion::new(alloc, Vec::new(alloc), 100, plan)?;
-    region.create(alloc, 6656)?;
-    let mut board = open_small(&rt)?;
-    let mut seat = LocalSeat {
-        board: &mut board,
-        member: 1,
-    };
-    let Some(batch) = gather(&mut seat, change, buffer) else {
-        assert!(rt; false, "the change is gathered");
-        return Ok(());
-    };
-    assert!(rt; give_up(&mut region, &mut log, &mut seat, batch, 2));
-    assert!(rt; is_given_up(&mut seat));
+    let lost = lost_in_blank(&rt)?;
+    assert_eq!(rt; lost, Some((true, true)));
     Ok(())
 }

@@ -10,7 +10,7 @@ ghost use Rattle.group_tests.specs.BoardTrials.{small_words, fresh};
 ghost use Rattle.batch_leader.specs.Leading.{IsBatchOf, IsCertain};
 ghost use Rattle.batch_leader.specs.Persisting.{HasRoom, WritesPart};
 ghost use Rattle.batch_leader.specs.Rounds.{words_taken};
-ghost use Rattle.group_tests.specs.LeadTrials.{put_of, empty_room, IsUnwritten, LeavesOthers, FitsFresh};
+ghost use Rattle.group_tests.specs.LeadTrials.{put_of, empty_room, IsBlankRegion, IsEmptyLog, IsUnwritten, LeavesOthers, FitsFresh};
 
 use crate::no_region::NoRegion;
 use batch_leader::{Batch, BatchBuffer, Collected, Persisted, Released, lead};
@@ -21,6 +21,7 @@ use group_board::{Board, Change, LocalBoard, LocalSeat, Opening, SlotState};
 use log_entry::{Body, Entry};
 use pm_region::{Region, SplitRegion};
 use region_memory::SteadyRegion;
+use std::alloc::Global;
 use std::test::Fail;
 
 /// Three cores of one group on an empty region.
@@ -155,8 +156,11 @@ pub(crate) fn has_words(region: &SteadyRegion, words: &[(u64, u64)]) -> bool {
     true
 }
 
+/// The key and the version of an entry, where there is one.
+pub(crate) type Name = Option<(u64, u32)>;
+
 /// The key and the version of a batch's entry with this number.
-pub(crate) fn name_in(batch: &Batch, at: u64) -> Option<(u64, u32)> {
+pub(crate) fn name_in(batch: &Batch, at: u64) -> Name {
     batch.name_at(at).map(|name| (name.key, name.version))
 }
 
@@ -172,38 +176,99 @@ fn marks_one<B: Board>(done: &mut Persisted, board: &mut B) -> bool
     first && !second && done.is_done()
 }
 
-#[test]
-fn a_batch_of_one_change(rt: HostRuntime) -> Result<(), Fail> {
-    let alloc = rt.alloc();
-    let change = put(&rt, 1)?;
-    let buffer = BatchBuffer::open(alloc)?;
+/// Writes a batch into chunk 2 of the own part. Gives whether just one change is marked, and none where the batch could
+/// not be written.
+fn write_and_mark<B: Board>(
+    region: &mut SteadyRegion,
+    log: &mut CoreLog,
+    board: &mut B,
+    batch: Batch,
+) -> Option<bool>
+    requires batch { IsBatchOf (B.seat board.old) (B.view board.old) batch }
+    requires begins { Begins (steady_state region.old) (B.seat board.old).place
+        (B.seat board.old).number (B.view board.old) log.old }
+    requires room { HasRoom (steady_state region.old) log.old
+        (words_taken batch.changes.taken.items) (Option.Some 2) }
+    ensures seat { B.seat board.new ≡ B.seat board.old }
+{
+    let Ok(mut done) = batch.persist(region, log, board, Some(2)) else {
+        return None;
+    };
+    let marked = marks_one(&mut done, board);
+    let _buffer = done.done();
+    Some(marked)
+}
+
+/// What is seen of a batch of one change: whether it needs a chunk, its first two names, whether just one change is
+/// marked, and the home of the change that came back. Where it could not be written, nothing says whether it is marked.
+type Seen = (bool, (Name, Name), Option<bool>, Option<u32>);
+
+/// Member 1's batch, from its post to its return. None where it could not be gathered.
+fn lead_one(
+    board: &mut LocalBoard,
+    region: &mut SteadyRegion,
+    log: &mut CoreLog,
+    change: Change,
+    buffer: BatchBuffer,
+) -> Option<Seen>
+    requires board { state board.old.keeper.me.0 ≡ fresh }
+    requires change { change ≡ put_of 1 }
+    requires region { IsBlankRegion (steady_state region.old) }
+    requires log { IsEmptyLog log.old 1 }
+{
+    let mut seat = LocalSeat { board, member: 1 };
+    let batch = gather(&mut seat, change, buffer)?;
+    let needs_chunk = batch.needs_chunk();
+    let names = (name_in(&batch, 0), name_in(&batch, 1));
+    let marked = write_and_mark(region, log, &mut seat, batch);
+    let home = settle(&mut seat);
+    Some((needs_chunk, names, marked, home))
+}
+
+/// The log of a core, with no chunk yet.
+pub(crate) fn open_log(alloc: Global, core: u32) -> Result<CoreLog, Fail>
+    requires { core < 3 }
+    ensures { IfOk result (λ log. IsEmptyLog log core) }
+{
     let layout = Layout::new(3, 3, 4, 4096)?;
-    let mut log = CoreLog::open(alloc, layout, 1, Vec::new(alloc))?;
+    let log = CoreLog::open(alloc, layout, core, Vec::new(alloc))?;
+    Ok(log)
+}
+
+/// A region of three parts with nothing in them.
+pub(crate) fn blank_region(alloc: Global) -> Result<SteadyRegion, Fail>
+    ensures { IfOk result (λ r. IsBlankRegion (steady_state r)) }
+{
     let mut region = SteadyRegion::new(alloc, Vec::new(alloc), 100)?;
     region.create(alloc, 6656)?;
-    let mut board = open_small(&rt)?;
-    let mut seat = LocalSeat {
-        board: &mut board,
-        member: 1,
-    };
-    let Some(batch) = gather(&mut seat, change, buffer) else {
-        assert!(rt; false, "the change is gathered");
-        return Ok(());
-    };
-    assert!(rt; batch.needs_chunk());
-    assert_eq!(rt;
-        (name_in(&batch, 0), name_in(&batch, 1)),
-        (Some((1, 1)), None)
-    );
-    let Ok(mut done) = batch.persist(&mut region, &mut log, &mut seat, Some(2)) else {
-        assert!(rt; false, "the batch is written");
-        return Ok(());
-    };
-    assert!(rt; marks_one(&mut done, &mut seat));
-    let _buffer = done.done();
-    assert_eq!(rt; settle(&mut seat), Some(1));
-    // chunk 2 of part 1: a log of one line, with the entry's first word
-    let words = [(3584, 1), (3585, 8), (3616, 0x100_0015), (3617, 1)];
-    assert!(rt; has_words(&region, &words));
+    Ok(region)
+}
+
+/// The batch of a group that just opened.
+fn batch_of_one(rt: &HostRuntime, region: &mut SteadyRegion) -> Result<Option<Seen>, Fail>
+    requires { IsBlankRegion (steady_state region.old) }
+{
+    let mut log = open_log(rt.alloc(), 1)?;
+    let mut board = open_small(rt)?;
+    let change = put(rt, 1)?;
+    let buffer = BatchBuffer::open(rt.alloc())?;
+    Ok(lead_one(&mut board, region, &mut log, change, buffer))
+}
+
+/// What is seen of the batch, and whether the region has its words.
+fn seen_of_one(rt: &HostRuntime) -> Result<(Option<Seen>, bool), Fail> {
+    let mut region = blank_region(rt.alloc())?;
+    let seen = batch_of_one(rt, &mut region)?;
+    Ok((seen, has_words(&region, &WORDS)))
+}
+
+/// Chunk 2 of part 1: a log of one line, with the entry's first words.
+const WORDS: [(u64, u64); 4] = [(3584, 1), (3585, 8), (3616, 0x100_0015), (3617, 1)];
+
+#[test]
+fn a_batch_of_one_change(rt: HostRuntime) -> Result<(), Fail> {
+    let seen = seen_of_one(&rt)?;
+    let wanted = (true, (Some((1, 1)), None), Some(true), Some(1));
+    assert_eq!(rt; seen, (Some(wanted), true));
     Ok(())
 }

@@ -14,6 +14,7 @@ use atomic_board::{GroupTable, SeatToken};
 use fs_model::model::Value;
 use group_board::{Board, Change, Names, Notices, Opening, SlotState};
 use log_entry::entry::{Body, Entry};
+use std::alloc::Global;
 use std::test::Fail;
 use std::thread;
 use std::thread::Threads;
@@ -47,10 +48,10 @@ impl Opening for Three {
 }
 
 /// A member's first put, of one byte.
-fn put(rt: &HostRuntime, key: u64) -> Result<Change, Fail>
+fn put(alloc: Global, key: u64) -> Result<Change, Fail>
     ensures { IfOk result (λ c. c ≡ put_of key 1) }
 {
-    let bytes = Vec::from_slice(rt.alloc(), b"a")?;
+    let bytes = Vec::from_slice(alloc, b"a")?;
     Ok(Change {
         entry: Entry {
             key,
@@ -281,21 +282,45 @@ fn two_of(mut tokens: Vec<SeatToken>) -> Option<(SeatToken, SeatToken)>
     Some((a, b))
 }
 
+/// The first puts of three members.
+fn three_puts(alloc: Global) -> Result<(Change, Change, Change), Fail>
+    ensures { IfOk result (λ p. (p.0 ≡ put_of 0 1) × (p.1 ≡ put_of 1 1) × (p.2 ≡ put_of 2 1)) }
+{
+    let first = put(alloc, 0)?;
+    let second = put(alloc, 1)?;
+    let third = put(alloc, 2)?;
+    Ok((first, second, third))
+}
+
+/// What is seen of three members: how many changes of each came back, how many words the table had when it closed, and
+/// those of the lock and of each first slot.
+type ThreeSeen = ((u32, u32, u32), usize, [Option<u64>; 4]);
+
+/// Three members at a table that just opened. None where it gave fewer tokens.
+fn seen_of_three<R: Threads + Sync>(rt: &R, alloc: Global) -> Result<Option<ThreeSeen>, Fail> {
+    let mut table = GroupTable::open::<Three>(alloc, 3)?;
+    let tokens = table.seats(alloc)?;
+    let puts = three_puts(alloc)?;
+    let Some(tokens) = three_of(tokens) else {
+        return Ok(None);
+    };
+    let (a, b, c, done) = work_three(rt, &table, tokens, puts);
+    let tokens = Vec::from_array(alloc, [a, b, c])?;
+    let words = table.close(tokens);
+    let found = [
+        words.get(0).copied(),
+        words.get(4).copied(),
+        words.get(12).copied(),
+        words.get(20).copied(),
+    ];
+    Ok(Some((done, words.len(), found)))
+}
+
 #[test]
 fn three_threads_make_a_thousand_changes_each(rt: HostRuntime) -> Result<(), Fail> {
-    let mut table = GroupTable::open::<Three>(rt.alloc(), 3)?;
-    let tokens = table.seats(rt.alloc())?;
-    let puts = (put(&rt, 0)?, put(&rt, 1)?, put(&rt, 2)?);
-    let Some(tokens) = three_of(tokens) else {
-        assert!(rt; false, "there are three tokens");
-        return Ok(());
-    };
-    let (a, b, c, done) = work_three(&rt, &table, tokens, puts);
-    assert_eq!(rt; done, (ROUNDS, ROUNDS, ROUNDS));
-    let tokens = Vec::from_array(rt.alloc(), [a, b, c])?;
-    let words = table.close(tokens);
-    assert_eq!(rt; words.len(), 37);
-    assert_eq!(rt; (words[0], words[4], words[12], words[20]), (0, 0, 0, 0));
+    let seen = seen_of_three(&rt, rt.alloc())?;
+    let done = (ROUNDS, ROUNDS, ROUNDS);
+    assert_eq!(rt; seen, Some((done, 37, [Some(0); 4])));
     Ok(())
 }
 
@@ -400,24 +425,48 @@ fn both<R: Threads + Sync>(
     }
 }
 
+/// The first puts of two members.
+fn two_puts(alloc: Global) -> Result<(Change, Change), Fail>
+    ensures { IfOk result (λ p. (p.0 ≡ put_of 0 1) × (p.1 ≡ put_of 1 1)) }
+{
+    let first = put(alloc, 0)?;
+    let second = put(alloc, 1)?;
+    Ok((first, second))
+}
+
+/// What is seen of two members: the leader, the holder that the other found and how many changes the leader took, how
+/// many words the table had when it closed, and those of the lock and of each first slot.
+type TwoSeen = (Option<(u32, u32, u32)>, usize, [Option<u64>; 3]);
+
+/// Two members at a table that just opened. None where it gave fewer tokens.
+fn seen_of_two<R: Threads + Sync>(rt: &R, alloc: Global) -> Result<Option<TwoSeen>, Fail> {
+    let mut table = GroupTable::open::<TwoCores>(alloc, 2)?;
+    let tokens = table.seats(alloc)?;
+    let puts = two_puts(alloc)?;
+    let Some(tokens) = two_of(tokens) else {
+        return Ok(None);
+    };
+    let (a, b, told) = both(rt, &table, tokens, puts);
+    let tokens = Vec::from_array(alloc, [a, b])?;
+    let words = table.close(tokens);
+    let found = [
+        words.get(0).copied(),
+        words.get(3).copied(),
+        words.get(11).copied(),
+    ];
+    Ok(Some((told, words.len(), found)))
+}
+
 #[test]
 fn two_threads_post_and_one_takes_both(rt: HostRuntime) -> Result<(), Fail> {
-    let mut table = GroupTable::open::<TwoCores>(rt.alloc(), 2)?;
-    let tokens = table.seats(rt.alloc())?;
-    let puts = (put(&rt, 0)?, put(&rt, 1)?);
-    let Some(tokens) = two_of(tokens) else {
+    let Some(seen) = seen_of_two(&rt, rt.alloc())? else {
         assert!(rt; false, "there are two tokens");
         return Ok(());
     };
-    let (a, b, told) = both(&rt, &table, tokens, puts);
-    let tokens = Vec::from_array(rt.alloc(), [a, b])?;
-    let words = table.close(tokens);
-    match told {
+    match seen.0 {
         Some((leader, holder, taken)) => {
-            assert_eq!(rt; (holder, taken), (leader, 2));
-            assert_eq!(rt; words.len(), 23);
-            assert_eq!(rt; words[0], leader as u64 + 1);
-            assert_eq!(rt; (words[3], words[11]), (2, 2));
+            assert_eq!(rt; (holder, taken, seen.1), (leader, 2, 23));
+            assert_eq!(rt; seen.2, [Some(leader as u64 + 1), Some(2), Some(2)]);
         }
         None => assert!(rt; false, "the words are told"),
     }
@@ -516,21 +565,27 @@ fn hold_all<A: Board, B: Board, C: Board>(
 /// What may go to a thread.
 fn may_be_sent<T: Send>(_: &T) {}
 
-#[test]
-fn a_mailbox_in_each_direction(rt: HostRuntime) -> Result<(), Fail> {
+/// Whether a table gives its tokens once, and whether each mailbox of three members holds one message. None where it
+/// gave fewer tokens.
+fn hold_at_table(rt: &HostRuntime) -> Result<Option<(bool, bool)>, Fail> {
     let mut table = GroupTable::open::<Three>(rt.alloc(), 3)?;
     let tokens = table.seats(rt.alloc())?;
-    assert!(rt; table.seats(rt.alloc()).is_err());
+    let once = table.seats(rt.alloc()).is_err();
     let Some((a, b, c)) = three_of(tokens) else {
-        assert!(rt; false, "there are three tokens");
-        return Ok(());
+        return Ok(None);
     };
     may_be_sent(&a);
     let mut a = table.attend(a);
     let mut b = table.attend(b);
     let mut c = table.attend(c);
     may_be_sent(&a);
-    let all = hold_all(&rt, &mut a, &mut b, &mut c)?;
-    assert!(rt; all);
+    let all = hold_all(rt, &mut a, &mut b, &mut c)?;
+    Ok(Some((once, all)))
+}
+
+#[test]
+fn a_mailbox_in_each_direction(rt: HostRuntime) -> Result<(), Fail> {
+    let held = hold_at_table(&rt)?;
+    assert_eq!(rt; held, Some((true, true)));
     Ok(())
 }

@@ -8,9 +8,10 @@ ghost use Rattle.group_board.specs.Journals.{state};
 ghost use Rattle.group_tests.specs.BoardTrials.{fresh};
 ghost use Rattle.group_tests.specs.LeadTrials.{put_of, small_place, IsBlankRegion, IsEmptyLog, MayGather, Gathered, MayWrite, Wrote, HaveBatches};
 
-use crate::leader_tests::{gather, name_in, open_small, put, settle, word, write_back};
+use crate::leader_tests::{
+    Name, blank_region, gather, name_in, open_log, open_small, put, settle, word, write_back,
+};
 use batch_leader::{Batch, BatchBuffer};
-use chunk_map::Layout;
 use core_log::CoreLog;
 use group_board::{Change, LocalBoard, LocalSeat};
 use pm_region::{Region, SplitRegion};
@@ -100,16 +101,6 @@ fn settle_at(board: &mut LocalBoard, member: u32) -> Option<u32>
     settle(&mut seat)
 }
 
-/// The log of a core, with no chunk yet.
-fn open_log(alloc: Global, core: u32) -> Result<CoreLog, Fail>
-    requires { core < 3 }
-    ensures { IfOk result (λ log. IsEmptyLog log core) }
-{
-    let layout = Layout::new(3, 3, 4, 4096)?;
-    let log = CoreLog::open(alloc, layout, core, Vec::new(alloc))?;
-    Ok(log)
-}
-
 const PICKS: [Pick; 4] = [Pick::Oldest, Pick::Newest, Pick::Mixed(1), Pick::Mixed(2)];
 
 /// Whether the log chunk at this word has the batch of one put of the key. None where it is torn.
@@ -184,40 +175,79 @@ fn are_written_in_order(alloc: Global, region: &SteadyRegion, start: u64) -> Res
     Ok(first && last)
 }
 
+/// A batch of each of the two cores, which gather before either writes.
+fn gather_both(rt: &HostRuntime, board: &mut LocalBoard) -> Result<Option<(Batch, Batch)>, Fail>
+    requires { state board.old.keeper.me.0 ≡ fresh }
+    ensures { IfOk result (λ both. IfSome both
+        (λ b. HaveBatches (state board.new.keeper.me.0) b.0 b.1)) }
+{
+    let buffer = BatchBuffer::open(rt.alloc())?;
+    let another = BatchBuffer::open(rt.alloc())?;
+    let change = put(rt, 0)?;
+    let other = put(rt, 1)?;
+    Ok(both_gather(board, change, buffer, other, another))
+}
+
+/// Both write, the second first, each into its own log. Gives whether they could.
+fn write_both(
+    alloc: Global,
+    region: &mut SteadyRegion,
+    board: &mut LocalBoard,
+    first: Batch,
+    second: Batch,
+) -> Result<bool, Fail>
+    requires batches { HaveBatches (state board.old.keeper.me.0) first second }
+    requires region { IsBlankRegion (steady_state region.old) }
+    ensures { IfOk result (λ is_written. is_written ≡ true
+        → members (state board.new.keeper.me.0).place ≡ 3) }
+{
+    let mut log = open_log(alloc, 0)?;
+    let mut other = open_log(alloc, 1)?;
+    Ok(both_write(region, &mut log, &mut other, board, first, second))
+}
+
+/// What is seen of the two batches: their first names, the homes of the changes that came back, and whether the images
+/// show them in their order. Where they could not be written, nothing says of homes and images.
+type Seen = (
+    (Name, Name),
+    Option<(Option<u32>, Option<u32>)>,
+    Option<bool>,
+);
+
+/// The ways of both batches. None where they could not be gathered.
+fn lead_both(
+    rt: &HostRuntime,
+    region: &mut SteadyRegion,
+    board: &mut LocalBoard,
+) -> Result<Option<Seen>, Fail>
+    requires region { IsBlankRegion (steady_state region.old) }
+    requires board { state board.old.keeper.me.0 ≡ fresh }
+{
+    let start = region.stamp();
+    let Some((first, second)) = gather_both(rt, board)? else {
+        return Ok(None);
+    };
+    let names = (name_in(&first, 0), name_in(&second, 0));
+    if !write_both(rt.alloc(), region, board, first, second)? {
+        return Ok(Some((names, None, None)));
+    }
+    let homes = (settle_at(board, 0), settle_at(board, 1));
+    let in_order = are_written_in_order(rt.alloc(), region, start)?;
+    Ok(Some((names, Some(homes), Some(in_order))))
+}
+
+/// Both batches in a blank region.
+fn seen_of_both(rt: &HostRuntime) -> Result<Option<Seen>, Fail> {
+    let mut region = blank_region(rt.alloc())?;
+    let mut board = open_small(rt)?;
+    lead_both(rt, &mut region, &mut board)
+}
+
 #[test]
 fn a_second_leader_before_the_first_wrote(rt: HostRuntime) -> Result<(), Fail> {
-    let alloc = rt.alloc();
-    let change = put(&rt, 0)?;
-    let other = put(&rt, 1)?;
-    let buffer = BatchBuffer::open(alloc)?;
-    let another = BatchBuffer::open(alloc)?;
-    let mut board = open_small(&rt)?;
-    let Some((first, second)) = both_gather(&mut board, change, buffer, other, another) else {
-        assert!(rt; false, "both leaders gather");
-        return Ok(());
-    };
-    assert_eq!(rt;
-        (name_in(&first, 0), name_in(&second, 0)),
-        (Some((0, 1)), Some((1, 1)))
-    );
-    let mut log = open_log(alloc, 0)?;
-    let mut next_log = open_log(alloc, 1)?;
-    let mut region = SteadyRegion::new(alloc, Vec::new(alloc), 100)?;
-    region.create(alloc, 6656)?;
-    let start = region.stamp();
-    if !both_write(
-        &mut region,
-        &mut log,
-        &mut next_log,
-        &mut board,
-        first,
-        second,
-    ) {
-        assert!(rt; false, "both batches are written");
-        return Ok(());
-    }
-    let homes = (settle_at(&mut board, 0), settle_at(&mut board, 1));
-    assert_eq!(rt; homes, (Some(0), Some(1)));
-    assert!(rt; are_written_in_order(alloc, &region, start)?);
+    let seen = seen_of_both(&rt)?;
+    let names = (Some((0, 1)), Some((1, 1)));
+    let homes = (Some(0), Some(1));
+    assert_eq!(rt; seen, Some((names, Some(homes), Some(true))));
     Ok(())
 }

@@ -7,22 +7,22 @@ use Rattle.group_tests.specs.BoardTrials.{small_words}
 use Rattle.group_tests.proofs.BoardTrialLaws.{small_sound}
 use Rattle.group_tests.specs.ThreadTrials.{IsStart}
 use Rattle.group_tests.proofs.ThreadTrialLaws.{starts, are_three}
-use Rattle.group_tests.proofs.thread_board_tests.three_threads_make_a_thousand_changes_each.Goals as goal
+use Rattle.group_tests.proofs.thread_board_tests.seen_of_three.Goals as goal
 
 pub open-requires-clause-sound : goal.open-requires-clause-sound
 open-requires-clause-sound g c = small_sound
 
 pub work_three-a-requires-clause-a : goal.work_three-a-requires-clause-a
 work_three-a-requires-clause-a g c = let s = c.in_ok-tokens.ensures in let t = c.in_ok-table.table in
-    λ _. subst (λ (x : GroupTable). IsStart small_words (id_of x) 0 c.in-Some.tokens.0) (sym s.same) (starts small_words (origin_of t) (id_of t) c.in_ok-tokens.tokens.items 0 c.in-Some.tokens.0 c.in_ok-table.ensures.opened s.tokens s.fresh (ap (λ l. get_elem? l 0) c.in-Some.ensures))
+    λ _ _. subst (λ (x : GroupTable). IsStart small_words (id_of x) 0 c.in-Some.tokens.0) (sym s.same) (starts small_words (origin_of t) (id_of t) c.in_ok-tokens.tokens.items 0 c.in-Some.tokens.0 c.in_ok-table.ensures.opened s.tokens s.fresh (ap (λ l. get_elem? l 0) c.in-Some.ensures))
 
 pub work_three-a-requires-clause-b : goal.work_three-a-requires-clause-b
 work_three-a-requires-clause-b g c = let s = c.in_ok-tokens.ensures in let t = c.in_ok-table.table in
-    λ _. subst (λ (x : GroupTable). IsStart small_words (id_of x) 1 c.in-Some.tokens.1) (sym s.same) (starts small_words (origin_of t) (id_of t) c.in_ok-tokens.tokens.items 1 c.in-Some.tokens.1 c.in_ok-table.ensures.opened s.tokens s.fresh (ap (λ l. get_elem? l 1) c.in-Some.ensures))
+    λ _ _. subst (λ (x : GroupTable). IsStart small_words (id_of x) 1 c.in-Some.tokens.1) (sym s.same) (starts small_words (origin_of t) (id_of t) c.in_ok-tokens.tokens.items 1 c.in-Some.tokens.1 c.in_ok-table.ensures.opened s.tokens s.fresh (ap (λ l. get_elem? l 1) c.in-Some.ensures))
 
 pub work_three-a-requires-clause-c : goal.work_three-a-requires-clause-c
 work_three-a-requires-clause-c g c = let s = c.in_ok-tokens.ensures in let t = c.in_ok-table.table in
-    λ _. subst (λ (x : GroupTable). IsStart small_words (id_of x) 2 c.in-Some.tokens.2) (sym s.same) (starts small_words (origin_of t) (id_of t) c.in_ok-tokens.tokens.items 2 c.in-Some.tokens.2 c.in_ok-table.ensures.opened s.tokens s.fresh (ap (λ l. get_elem? l 2) c.in-Some.ensures))
+    λ _ _. subst (λ (x : GroupTable). IsStart small_words (id_of x) 2 c.in-Some.tokens.2) (sym s.same) (starts small_words (origin_of t) (id_of t) c.in_ok-tokens.tokens.items 2 c.in-Some.tokens.2 c.in_ok-table.ensures.opened s.tokens s.fresh (ap (λ l. get_elem? l 2) c.in-Some.ensures))
 
 pub close-words-requires-clause-tokens : goal.close-words-requires-clause-tokens
 close-words-requires-clause-tokens g c = let s = c.in_ok-tokens.ensures in let t = c.in_ok-table.table in
