@@ -49,3 +49,4 @@ mod Rejoining
 mod Blocks
 mod Assembly
 mod HandedTo
+mod FlatWork

@@ -18,3 +18,4 @@ pub mod Collected
 pub mod Noted
 pub mod Supplied
 pub mod Printed
+pub mod FlatWork

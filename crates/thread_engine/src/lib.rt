@@ -8,6 +8,7 @@ pub mod core_side;
 pub mod crew;
 pub mod cut_rules;
 pub mod desk;
+pub mod for_each_flat;
 pub mod group_leads;
 pub mod group_tables;
 pub mod opening_rules;

@@ -5,6 +5,7 @@ ghost use Rattle.thread_engine.specs.WorkStates.{sight_by};
 ghost use Rattle.thread_engine.specs.WindowJobs.{IsReady, WorksWindow};
 
 use crate::core_job::CoreJob;
+use crate::for_each_flat::for_each_flat;
 use crate::group_leads::AllLeads;
 use answer_queue::AnswerQueue;
 use core_worker::Gate;
@@ -13,12 +14,11 @@ use pm_region::Region;
 use std::alloc::Global;
 use std::sync::Wait;
 use std::sync::atomic::AtomicBool;
-use std::thread;
 use std::thread::Threads;
 use std::time::Clock;
 
 /// Does the work of all cores in a window, each in a thread of its own, and returns when all have ended and have handed
-/// their answers over. Where a thread can't be started, its core's work is done by another one, before or after its own.
+/// their answers over. Where a thread can't be started, its core's work is done by this one, behind that of its own.
 /// Where there was no memory already, `short` says so: then nothing is begun. It takes no memory.
 pub fn work_all<
     R: Threads + Wait + Clock + Sync,
@@ -41,15 +41,10 @@ pub fn work_all<
         → WorksWindow B.seat (sight_by B.view B.trail B.at) P.state (G.may_refuse gate.now)
         answers.now (slice_index_or jobs.old c d) (slice_index_or jobs.new c d) }
 {
-    if jobs.is_empty() {
-        return;
-    }
     let short = AtomicBool::new(short);
-    let threads = jobs.len();
-    thread::for_each_mut(
+    for_each_flat(
         rt,
         jobs,
-        threads,
         &|core, job| job.work_window(rt, alloc, gate, &short, answers, leads, core),
     );
 }
