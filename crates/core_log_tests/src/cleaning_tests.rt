@@ -1,64 +1,18 @@
 // The worked cases of cleaning: log chunk 0 has key 1 in versions 1 to 60, a line each, and log chunk 1 is open and has
 // version 61. Expected values are those of the rules of cleaning.
-ghost use Rattle.std.specs.Prelude.{◌≡◌, ◌≤◌, ◌<◌, true, false, is_some, OnOk, IfOk};
+ghost use Rattle.std.specs.Prelude.{◌≡◌, ◌≢◌, ◌≤◌, ◌<◌, Some, true, false, is_some, OnOk, IfOk};
 ghost use Rattle.region_memory.specs.Steady.{steady_state};
 ghost use Rattle.core_log.specs.Log.{StandsIn, tail_of};
 
-use chunk_map::Layout;
+use crate::silent_region::{OpenLog, Silent, opened, word};
 use core_log::{CoreLog, Room};
 use fs_model::{Memory, Value};
 use log_cleaner::{Clearing, Standing, Victim, copy_live, to_copy, victim};
 use log_entry::{Body, Entry, EntryName, WordBuffer, entry_words, write_entry};
-use pm_region::{Region, RegionFault, SplitRegion};
+use pm_region::{Region, SplitRegion};
 use region_memory::{Pick, SteadyRegion};
 use std::alloc::Global;
-use std::process::Abort;
 use std::test::Fail;
-
-// A region that tells nothing, as a file does. What it has inside tells what a crash may leave.
-#[derive(Drop)]
-struct Silent {
-    region: SteadyRegion,
-}
-
-impl Region for Silent {
-    ghost use Rattle.std.specs.Prelude.{false};
-    ghost use Rattle.region_memory.specs.Steady.{steady_state};
-
-    ghost state = { λ a. record (steady_state a.region) { told = λ t. false } };
-
-    fn first(&self) -> u64 {
-        self.region.first()
-    }
-
-    fn words(&self) -> u64 {
-        self.region.words()
-    }
-
-    fn load(&self, at: u64) -> u64 {
-        self.region.load(at)
-    }
-
-    fn store(&mut self, at: u64, value: u64) {
-        self.region.store(at, value);
-    }
-
-    fn flush(&mut self, line: u64) {
-        self.region.flush(line);
-    }
-
-    fn fence(&mut self) -> Result<(), RegionFault> {
-        self.region.fence()
-    }
-
-    fn stamp(&self) -> u64 {
-        self.region.stamp()
-    }
-
-    fn faults(&self) -> u64 {
-        self.region.faults()
-    }
-}
 
 #[derive(Drop)]
 struct Stage {
@@ -84,6 +38,15 @@ fn has_chunk(log: &CoreLog, chunk: u32) -> bool
         }
     }
     false
+}
+
+// Chunk 0 is one of the log's, and not the open one.
+fn check_chunk(log: &CoreLog) -> Result<(), Memory>
+    ensures has { OnOk result (is_some (tail_of log.now.chunks 0) ≡ true) }
+    ensures closed { OnOk result (log.now.opened ≢ Some 0) }
+{
+    check(has_chunk(log, 0))?;
+    check(log.opened() != Some(0))
 }
 
 fn name(version: u32) -> EntryName {
@@ -155,14 +118,13 @@ fn begun(alloc: Global) -> Result<Stage, Fail>
     ensures chunks { IfOk result (λ r. r.log.layout.chunks ≡ 4) }
     ensures room { IfOk result (λ r. 2176 ≤ r.buffer.room) }
 {
-    let layout = Layout::new(1, 1, 4, 4096)?;
-    let mut inside = SteadyRegion::new(alloc, Vec::new(alloc), 4000)?;
-    inside.create(alloc, 2560)?;
-    let mut region = Silent { region: inside };
-    let mut log = CoreLog::open(alloc, layout, 0, Vec::new(alloc))?;
-    log.open_chunk(&mut region, 0)?;
     let standing = Standing::open(alloc, &[])?;
     let buffer = WordBuffer::with_room(alloc, 2176)?;
+    let OpenLog {
+        region,
+        log,
+        before: _,
+    } = opened(alloc, 4000, 0)?;
     Ok(Stage {
         region,
         log,
@@ -187,17 +149,6 @@ fn fill(alloc: Global, stage: &mut Stage, dead: u32) -> Result<(), Fail>
     }
     stage.log.open_chunk(&mut stage.region, 1)?;
     add_version(alloc, stage, 61, dead)
-}
-
-fn prepared(alloc: Global, dead: u32) -> Result<Stage, Fail>
-    ensures stands { IfOk result
-        (λ r. StandsIn (record (steady_state r.region.region) { told = λ t. false }) r.log) }
-    ensures chunks { IfOk result (λ r. r.log.layout.chunks ≡ 4) }
-    ensures room { IfOk result (λ r. 2176 ≤ r.buffer.room) }
-{
-    let mut stage = begun(alloc)?;
-    fill(alloc, &mut stage, dead)?;
-    Ok(stage)
 }
 
 const ROOM: Room = Room {
@@ -234,8 +185,7 @@ fn copied(stage: &mut Stage) -> Result<u64, Fail>
     ensures chunks { OnOk result (stage.new.log.layout.chunks ≡ 4) }
     ensures room { OnOk result (2176 ≤ stage.new.buffer.room) }
 {
-    check(has_chunk(&stage.log, 0))?;
-    check(stage.log.opened() != Some(0))?;
+    check_chunk(&stage.log)?;
     let chosen = to_copy(&stage.region, &stage.log, &stage.standing, 0);
     let copied = copy_live(
         &mut stage.region,
@@ -247,28 +197,29 @@ fn copied(stage: &mut Stage) -> Result<u64, Fail>
     Ok(copied.unwrap_or(0))
 }
 
-// Gives up chunk 0: how many names were doomed, how many are gone, and the last of these.
-fn cleared(alloc: Global, stage: &mut Stage) -> Result<(usize, usize, Option<EntryName>), Fail>
-    requires stands { StandsIn (record (steady_state stage.old.region.region)
-        { told = λ t. false }) stage.old.log }
-    requires chunks { stage.old.log.layout.chunks ≡ 4 }
+// What is to vanish with chunk 0.
+fn gathered(alloc: Global, stage: &Stage) -> Result<Clearing, Memory>
+    requires stands { StandsIn (record (steady_state stage.now.region.region)
+        { told = λ t. false }) stage.now.log }
+    requires has { is_some (tail_of stage.now.log.chunks 0) ≡ true }
+    ensures { IfOk result (λ c. c.chunk ≡ 0) }
 {
-    check(has_chunk(&stage.log, 0))?;
-    check(stage.log.opened() != Some(0))?;
     let chosen = to_copy(&stage.region, &stage.log, &stage.standing, 0);
     let mut clearing = Clearing::begin(alloc, &stage.region, &stage.log, &chosen)?;
     clearing.gather(&stage.region, &stage.log, &stage.standing);
+    Ok(clearing)
+}
+
+// Gives up chunk 0: how many names were doomed, how many are gone, and the last of these.
+fn cleared(alloc: Global, stage: &mut Stage) -> Result<(usize, usize, Option<EntryName>), Fail>
+    requires { StandsIn (record (steady_state stage.old.region.region)
+        { told = λ t. false }) stage.old.log }
+{
+    check_chunk(&stage.log)?;
+    let clearing = gathered(alloc, stage)?;
     let doomed = clearing.doomed_of().len();
     let cleared = clearing.clear(&mut stage.region, &mut stage.log, &mut stage.standing)?;
     Ok((doomed, cleared.gone.len(), cleared.gone.last().copied()))
-}
-
-fn word(region: &SteadyRegion, at: u64) -> u64 {
-    if region.first() == 0 && at < region.words() {
-        region.load(at)
-    } else {
-        0
-    }
 }
 
 // How often a version stands in the logs of the part. Each entry begins a line.
@@ -288,32 +239,66 @@ fn times(region: &SteadyRegion, version: u64) -> u64 {
     found
 }
 
-fn all_dead_steps(test: &impl Abort, alloc: Global, stage: &mut Stage) -> Result<(), Fail>
+// What a cleaning gives where nothing of chunk 0 lives: what it chooses, how many names were doomed, how many are gone,
+// the last of these, the head of the chunk behind it, and in how many copies the versions 60 and 61 stand.
+#[derive(Clone, Copy, Debug, PartialEq, Eq)]
+struct AllDead {
+    chosen: Option<Victim>,
+    doomed: usize,
+    gone: usize,
+    last_gone: Option<EntryName>,
+    head: u64,
+    copies: (u64, u64),
+}
+
+fn all_dead_steps(alloc: Global, stage: &mut Stage) -> Result<AllDead, Fail>
     requires stands { StandsIn (record (steady_state stage.old.region.region)
         { told = λ t. false }) stage.old.log }
     requires chunks { stage.old.log.layout.chunks ≡ 4 }
+    requires room { 2176 ≤ stage.old.buffer.room }
 {
-    let chosen = Victim {
+    fill(alloc, stage, 60)?;
+    let chosen = found(alloc, stage)?;
+    let (doomed, gone, last_gone) = cleared(alloc, stage)?;
+    Ok(AllDead {
+        chosen,
+        doomed,
+        gone,
+        last_gone,
+        head: word(&stage.region.region, 512),
+        copies: (
+            stage.standing.copies(name(60)),
+            stage.standing.copies(name(61)),
+        ),
+    })
+}
+
+fn seen_of_all_dead(alloc: Global) -> Result<AllDead, Fail> {
+    let mut stage = begun(alloc)?;
+    all_dead_steps(alloc, &mut stage)
+}
+
+const ALL_DEAD: AllDead = AllDead {
+    chosen: Some(Victim {
         chunk: 0,
         entries: 0,
         words: 0,
-    };
-    assert_eq!(*test; found(alloc, stage)?, Some(chosen));
-    assert_eq!(*test; cleared(alloc, stage)?, (60, 60, Some(name(60))));
-    assert_eq!(*test; word(&stage.region.region, 512), 0);
-    let standing = &stage.standing;
-    assert_eq!(*test;
-        (standing.copies(name(60)), standing.copies(name(61))),
-        (0, 1)
-    );
-    Ok(())
-}
+    }),
+    doomed: 60,
+    gone: 60,
+    last_gone: Some(EntryName {
+        key: 1,
+        version: 60,
+    }),
+    head: 0,
+    copies: (0, 1),
+};
 
 #[test]
 fn all_dead(rt: HostRuntime) -> Result<(), Fail> {
-    let alloc = rt.alloc();
-    let mut stage = prepared(alloc, 60)?;
-    all_dead_steps(&rt, alloc, &mut stage)
+    let seen = seen_of_all_dead(rt.alloc())?;
+    assert_eq!(rt; seen, ALL_DEAD);
+    Ok(())
 }
 
 const PICKS: [Pick; 6] = [
@@ -342,42 +327,92 @@ fn images(alloc: Global, region: &SteadyRegion, from: u64, to: u64) -> Result<(u
     Ok((have, seen))
 }
 
-fn one_lives_steps(test: &impl Abort, alloc: Global, stage: &mut Stage) -> Result<(), Fail>
+// What a cleaning gives where version 60 alone lives in chunk 0.
+#[derive(Clone, Copy, Debug, PartialEq, Eq)]
+struct OneLives {
+    chosen: Option<Victim>,
+    copied: u64,
+    copied_again: u64,
+    doomed: usize,
+    gone: usize,
+    // How often the versions 60 and 59 stand behind it, and the head of the chunk.
+    times_of_60: u64,
+    times_of_59: u64,
+    head: u64,
+    copies_of_60: u64,
+    steps: u64,
+    images: (u64, u64),
+}
+
+// What it changed: how many entries were copied, and copied again, and how many names were doomed and are gone.
+type Changes = (u64, u64, usize, usize);
+
+fn copy_and_clear(alloc: Global, stage: &mut Stage) -> Result<Changes, Fail>
     requires stands { StandsIn (record (steady_state stage.old.region.region)
         { told = λ t. false }) stage.old.log }
     requires chunks { stage.old.log.layout.chunks ≡ 4 }
     requires room { 2176 ≤ stage.old.buffer.room }
 {
-    let chosen = Victim {
+    let first = copied(stage)?;
+    let again = copied(stage)?;
+    let (doomed, gone, _) = cleared(alloc, stage)?;
+    Ok((first, again, doomed, gone))
+}
+
+fn one_lives_steps(alloc: Global, stage: &mut Stage) -> Result<OneLives, Fail>
+    requires stands { StandsIn (record (steady_state stage.old.region.region)
+        { told = λ t. false }) stage.old.log }
+    requires chunks { stage.old.log.layout.chunks ≡ 4 }
+    requires room { 2176 ≤ stage.old.buffer.room }
+{
+    fill(alloc, stage, 59)?;
+    let chosen = found(alloc, stage)?;
+    let begin = stage.region.stamp();
+    let (copied, copied_again, doomed, gone) = copy_and_clear(alloc, stage)?;
+    let end = stage.region.stamp();
+    let region = &stage.region.region;
+    Ok(OneLives {
+        chosen,
+        copied,
+        copied_again,
+        doomed,
+        gone,
+        times_of_60: times(region, 60),
+        times_of_59: times(region, 59),
+        head: word(region, 512),
+        copies_of_60: stage.standing.copies(name(60)),
+        steps: end.saturating_sub(begin),
+        images: images(alloc, region, begin, end.saturating_add(1))?,
+    })
+}
+
+fn seen_of_one_alive(alloc: Global) -> Result<OneLives, Fail> {
+    let mut stage = begun(alloc)?;
+    one_lives_steps(alloc, &mut stage)
+}
+
+const ONE_LIVES: OneLives = OneLives {
+    chosen: Some(Victim {
         chunk: 0,
         entries: 1,
         words: 3,
-    };
-    assert_eq!(*test; found(alloc, stage)?, Some(chosen));
-    let begin = stage.region.stamp();
-    assert_eq!(*test; copied(stage)?, 1);
-    assert_eq!(*test; copied(stage)?, 0);
-    let (doomed, gone, _) = cleared(alloc, stage)?;
-    assert_eq!(*test; (doomed, gone), (59, 59));
-    let end = stage.region.stamp();
-    let region = &stage.region.region;
-    assert_eq!(*test;
-        (times(region, 60), times(region, 59), word(region, 512)),
-        (1, 0, 0)
-    );
-    assert_eq!(*test; stage.standing.copies(name(60)), 1);
+    }),
+    copied: 1,
+    copied_again: 0,
+    doomed: 59,
+    gone: 59,
+    times_of_60: 1,
+    times_of_59: 0,
+    head: 0,
+    copies_of_60: 1,
     // the copy of a line makes 13 steps, and the end of the chunk 3: at each of them the living ones stand
-    assert_eq!(*test; end.saturating_sub(begin), 16);
-    assert_eq!(*test;
-        images(alloc, region, begin, end.saturating_add(1))?,
-        (102, 102)
-    );
-    Ok(())
-}
+    steps: 16,
+    images: (102, 102),
+};
 
 #[test]
 fn one_lives(rt: HostRuntime) -> Result<(), Fail> {
-    let alloc = rt.alloc();
-    let mut stage = prepared(alloc, 59)?;
-    one_lives_steps(&rt, alloc, &mut stage)
+    let seen = seen_of_one_alive(rt.alloc())?;
+    assert_eq!(rt; seen, ONE_LIVES);
+    Ok(())
 }

@@ -7,4 +7,6 @@ mod append_tests;
 #[cfg(test)]
 mod cleaning_tests;
 #[cfg(test)]
+mod silent_region;
+#[cfg(test)]
 mod standing_tests;

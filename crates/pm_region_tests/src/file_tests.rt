@@ -1,166 +1,51 @@
 // Regions in real files. What a file has at the end is worked out by hand, byte by byte.
-ghost use Rattle.std.specs.Prelude.{◌≡◌, false, ℕ, ◌+◌, ◌*◌, ◌^◌, ◌≤◌, ◌<◌, length};
+ghost use Rattle.std.specs.Prelude.{◌≡◌, false, ◌+◌, ◌*◌, ◌^◌, ◌≤◌, ◌<◌};
 ghost use Rattle.pm_region.specs.State.{During, cell_now};
 ghost use Rattle.pm_region.specs.Words.{KeepsOutside};
 
-use crate::region_tests::{get, put, write_first, write_part};
-use pm_region::{AttachError, ReadRegion, Region, RegionFault, Snapshot, SplitRegion};
+use crate::calls::{
+    Answer, Call, Opening, Other, WrittenPart, bytes_of, fault, flush, get, make, write_first,
+    write_part,
+};
+use pm_region::{AttachError, ReadRegion, Region, Snapshot, SplitRegion};
 use region_file::FileRegion;
 use std::alloc::Global;
 use std::fs;
-use std::process::Abort;
 use std::test::Fail;
-
-fn flush<R: Region>(region: &mut R, line: u64)
-    requires { line < 1000 }
-{
-    let first = region.first();
-    if first <= 8 * line && 8 * line - first + 8 <= region.words() {
-        region.flush(line);
-    }
-}
-
-// Stores the first word of a line, and writes the line.
-fn write_line<R: Region>(region: &mut R, line: u64, value: u64) -> Result<(), RegionFault>
-    requires { line < 1000 }
-{
-    put(region, 8 * line, value);
-    flush(region, line);
-    region.fence()
-}
-
-// Attaches the region, and gives its first word.
-fn first_word<R: SplitRegion>(alloc: Global, region: &mut R) -> Result<u64, AttachError> {
-    region.attach(alloc)?;
-    Ok(get(region, 0))
-}
 
 fn region_in(rt: &HostRuntime, name: &str) -> Result<FileRegion<HostRuntime>, Fail> {
     Ok(FileRegion::at(rt.clone()?, String::from_str(rt.alloc(), name)?))
 }
 
-// Writes a file of so many zero bytes.
-fn put_file(rt: &HostRuntime, name: &str, bytes: usize) -> Result<(), Fail> {
-    let zeros = vec![in rt.alloc(); 0u8; bytes]?;
-    fs::write(rt, name, zeros.as_slice())?;
+fn write_file(
+    rt: &HostRuntime,
+    name: &str,
+    length: usize,
+    bytes: &[(usize, u8)],
+) -> Result<(), Fail> {
+    let bytes = bytes_of(rt.alloc(), length, bytes)?;
+    fs::write(rt, name, bytes.as_slice())?;
     Ok(())
 }
 
-fn has_bytes(rt: &HostRuntime, name: &str, want: &[u8]) -> Result<bool, Fail> {
+fn has_bytes(
+    rt: &HostRuntime,
+    name: &str,
+    length: usize,
+    bytes: &[(usize, u8)],
+) -> Result<bool, Fail> {
+    let expected = bytes_of(rt.alloc(), length, bytes)?;
     let found = fs::read(rt, name)?;
-    Ok(found.as_slice() == want)
+    Ok(found.as_slice() == expected.as_slice())
 }
 
-fn words_of_a_file_steps<R: SplitRegion>(
-    test: &impl Abort,
-    rt: &HostRuntime,
-    name: &str,
-    region: &mut R,
-) -> Result<(), Fail> {
-    // Before it is attached it has no words, and a fence is a fault.
-    assert_eq!(*test; (region.words(), region.fence()), (0, Err(RegionFault)));
-    assert_eq!(*test; region.attach(rt.alloc()), Ok(()));
-    assert_eq!(*test; (region.words(), region.bytes()), (25, 200));
-    put(region, 2, 12);
-    put(region, 9, 13);
-    assert_eq!(*test; write_line(region, 0, 11), Ok(()));
-    // The region that is attached once more gives its own lock back first.
-    assert_eq!(*test; first_word(rt.alloc(), region), Ok(11));
-    assert_eq!(*test;
-        (get(region, 2), get(region, 8), get(region, 9)),
-        (12, 7, 0)
-    );
-    fs::remove_file(rt, name)?;
-    let attached = region.attach(rt.alloc());
-    assert_eq!(*test;
-        (attached, region.faults()),
-        (Err(AttachError::RegionFault), 2)
-    );
-    Ok(())
-}
-
-#[test]
-fn words_of_a_file(rt: HostRuntime) -> Result<(), Fail> {
-    let name = "pm_region_words_of_a_file";
-    let mut bytes = [0u8; 200];
-    bytes[64] = 7;
-    fs::write(&rt, name, &bytes)?;
-    let mut region = region_in(&rt, name)?;
-    words_of_a_file_steps(&rt, &rt, name, &mut region)
-}
-
-fn made_anew<R: SplitRegion>(
-    test: &impl Abort,
-    rt: &HostRuntime,
-    region: &mut R,
-) -> Result<(), Fail> {
-    region.create(rt.alloc(), 16)?;
-    assert_eq!(*test; (region.words(), region.bytes()), (16, 128));
-    assert_eq!(*test; write_part(rt.alloc(), region, 8, 21), Ok(true));
-    assert_eq!(*test; get(region, 0), 21);
-    assert_eq!(*test; first_word(rt.alloc(), region), Ok(21));
-    Ok(())
-}
-
-#[test]
-fn a_file_that_is_made_anew(rt: HostRuntime) -> Result<(), Fail> {
-    let name = "pm_region_a_file_that_is_made_anew";
-    put_file(&rt, name, 200)?;
-    let mut region = region_in(&rt, name)?;
-    made_anew(&rt, &rt, &mut region)?;
-    fs::remove_file(&rt, name)?;
-    Ok(())
-}
-
-fn store_last_words<R: Region>(region: &mut R, lines: &[u64]) {
-    for line in lines {
-        if *line < 1000 {
-            put(region, 8 * *line + 7, *line + 1);
-        }
-    }
-}
-
-fn flush_all<R: Region>(region: &mut R, lines: &[u64]) {
-    for line in lines {
-        if *line < 1000 {
-            flush(region, *line);
-        }
-    }
-}
-
-// Lines 0, 1, 3, 7 and 8 of ten are written, in three runs; line 5 is stored and not flushed.
-fn runs_of_lines_steps<R: SplitRegion>(
-    test: &impl Abort,
-    rt: &HostRuntime,
-    name: &str,
-    region: &mut R,
-) -> Result<(), Fail> {
-    assert_eq!(*test; region.create(rt.alloc(), 80), Ok(()));
-    store_last_words(region, &[8, 7, 5, 3, 1, 0]);
-    // More flushes than the file has lines.
+// More flushes than the file has lines.
+fn flush_often<R: Region>(region: &mut R) {
     for _ in 0..12 {
-        flush_all(region, &[8, 0, 3, 7, 1]);
+        for line in [8, 0, 3, 7, 1] {
+            flush(region, line);
+        }
     }
-    assert_eq!(*test; region.fence(), Ok(()));
-    let mut want = [0u8; 640];
-    for (place, byte) in [(56, 1), (120, 2), (248, 4), (504, 8), (568, 9)] {
-        want[place] = byte;
-    }
-    assert!(*test; has_bytes(rt, name, &want)?);
-    flush(region, 5);
-    assert_eq!(*test; region.fence(), Ok(()));
-    want[376] = 6;
-    assert!(*test; has_bytes(rt, name, &want)?);
-    Ok(())
-}
-
-#[test]
-fn runs_of_lines(rt: HostRuntime) -> Result<(), Fail> {
-    let name = "pm_region_runs_of_lines";
-    let mut region = region_in(&rt, name)?;
-    runs_of_lines_steps(&rt, &rt, name, &mut region)?;
-    fs::remove_file(&rt, name)?;
-    Ok(())
 }
 
 // Stores a word of a piece and flushes its line, with no fence.
@@ -210,206 +95,411 @@ fn split_once_more<R: SplitRegion>(alloc: Global, region: &mut R) -> Result<bool
     write_part(alloc, region, 8, 23)
 }
 
-fn pieces_of_a_file_steps<R: SplitRegion>(
-    test: &impl Abort,
+fn of_split(outcome: Result<bool, AttachError>) -> Answer {
+    match outcome {
+        Ok(done) => Answer::Is(done),
+        Err(error) => fault(error),
+    }
+}
+
+// Creates a region, gives another file its name, and splits it.
+fn create_rename_and_split<R: SplitRegion>(
     rt: &HostRuntime,
-    name: &str,
     region: &mut R,
-) -> Result<(), Fail> {
-    assert!(*test; create_and_write_two(rt.alloc(), region)?);
-    assert_eq!(*test;
-        (region.words(), get(region, 8), get(region, 24)),
-        (40, 21, 22)
-    );
-    // What was flushed before the split was written by it; line 3 is written by the next fence of the whole.
-    let mut want = [0u8; 320];
-    want[8] = 20;
-    want[64] = 21;
-    assert!(*test; has_bytes(rt, name, &want)?);
-    assert_eq!(*test; region.fence(), Ok(()));
-    want[192] = 22;
-    assert!(*test; has_bytes(rt, name, &want)?);
+    words: u64,
+    from: &str,
+    to: &str,
+) -> Result<Answer, Fail>
+    requires { words ≤ 1000 }
+{
+    region.create(rt.alloc(), words)?;
+    fs::rename(rt, from, to)?;
+    Ok(of_split(split_once_more(rt.alloc(), region)))
+}
+
+// Creates a region, cuts its file to so many zeros, and splits it.
+fn create_cut_and_split<R: SplitRegion>(
+    rt: &HostRuntime,
+    region: &mut R,
+    words: u64,
+    name: &str,
+    length: usize,
+) -> Result<Answer, Fail>
+    requires { words ≤ 1000 }
+{
+    region.create(rt.alloc(), words)?;
+    write_file(rt, name, length, &[])?;
+    Ok(of_split(split_once_more(rt.alloc(), region)))
+}
+
+fn snapshot_words<R: ReadRegion>(region: &R, first: u64, second: u64) -> Answer {
+    let snapshot = Snapshot::of(region);
+    Answer::Numbers([
+        snapshot.words(),
+        get(&snapshot, first),
+        get(&snapshot, second),
+    ])
+}
+
+fn make_with_files<R: SplitRegion>(
+    rt: &HostRuntime,
+    region: &mut R,
+    call: Call,
+) -> Result<Answer, Fail> {
+    match call {
+        Call::WriteFile(name, length, bytes) => write_file(rt, name, length, bytes)?,
+        Call::Rename(from, to) => fs::rename(rt, from, to)?,
+        Call::Remove(name) => fs::remove_file(rt, name)?,
+        Call::HasBytes(name, length, bytes) => {
+            return Ok(Answer::Is(has_bytes(rt, name, length, bytes)?));
+        }
+        Call::CreateRenameAndSplit(words, from, to) if words <= 1000 => {
+            return create_rename_and_split(rt, region, words, from, to);
+        }
+        Call::CreateCutAndSplit(words, name, length) if words <= 1000 => {
+            return create_cut_and_split(rt, region, words, name, length);
+        }
+        _ => return Ok(make(rt.alloc(), region, call)),
+    }
+    Ok(Answer::Done)
+}
+
+fn make_in_file<R: SplitRegion + ReadRegion>(
+    rt: &HostRuntime,
+    region: &mut R,
+    call: Call,
+) -> Result<Answer, Fail> {
+    Ok(match call {
+        Call::WriteTwoPieces => of_split(create_and_write_two(rt.alloc(), region)),
+        Call::FlushOften => {
+            flush_often(region);
+            Answer::Done
+        }
+        Call::Snapshot(first, second) => snapshot_words(region, first, second),
+        _ => make_with_files(rt, region, call)?,
+    })
+}
+
+fn play<R: SplitRegion + ReadRegion>(
+    rt: &HostRuntime,
+    region: &mut R,
+    calls: &[(Call, Answer)],
+) -> Result<Other, Fail> {
+    for (place, (call, expected)) in calls.iter().enumerate() {
+        let found = make_in_file(rt, region, *call)?;
+        if found != *expected {
+            return Ok(Some((place, found)));
+        }
+    }
+    Ok(None)
+}
+
+fn first_other(rt: &HostRuntime, name: &str, calls: &[(Call, Answer)]) -> Result<Other, Fail> {
+    let mut region = region_in(rt, name)?;
+    play(rt, &mut region, calls)
+}
+
+const WORDS: &str = "pm_region_words_of_a_file";
+
+// Before it is attached it has no words, and a fence is a fault. The region that is attached once more gives its own
+// lock back first.
+const WORDS_OF_A_FILE: [(Call, Answer); 19] = [
+    (Call::WriteFile(WORDS, 200, &[(64, 7)]), Answer::Done),
+    (Call::Words, Answer::Number(0)),
+    (Call::Fence, Answer::RegionFault),
+    (Call::Attach, Answer::Done),
+    (Call::Words, Answer::Number(25)),
+    (Call::Bytes, Answer::Number(200)),
+    (Call::Put(2, 12), Answer::Done),
+    (Call::Put(9, 13), Answer::Done),
+    (Call::Put(0, 11), Answer::Done),
+    (Call::Flush(0), Answer::Done),
+    (Call::Fence, Answer::Done),
+    (Call::Attach, Answer::Done),
+    (Call::Get(0), Answer::Number(11)),
+    (Call::Get(2), Answer::Number(12)),
+    (Call::Get(8), Answer::Number(7)),
+    (Call::Get(9), Answer::Number(0)),
+    (Call::Remove(WORDS), Answer::Done),
+    (Call::Attach, Answer::RegionFault),
+    (Call::Faults, Answer::Number(2)),
+];
+
+#[test]
+fn words_of_a_file(rt: HostRuntime) -> Result<(), Fail> {
+    let other = first_other(&rt, WORDS, &WORDS_OF_A_FILE)?;
+    assert_eq!(rt; other, None);
     Ok(())
 }
+
+const ANEW: &str = "pm_region_a_file_that_is_made_anew";
+
+const MADE_ANEW: [(Call, Answer); 6] = [
+    (Call::WriteFile(ANEW, 200, &[]), Answer::Done),
+    (
+        Call::WritePart(WrittenPart {
+            opening: Opening::Create(16),
+            words: 16,
+            bytes: 128,
+            cut: 8,
+            value: 21,
+        }),
+        Answer::Is(true),
+    ),
+    (Call::Get(0), Answer::Number(21)),
+    (Call::Attach, Answer::Done),
+    (Call::Get(0), Answer::Number(21)),
+    (Call::Remove(ANEW), Answer::Done),
+];
+
+#[test]
+fn a_file_that_is_made_anew(rt: HostRuntime) -> Result<(), Fail> {
+    let other = first_other(&rt, ANEW, &MADE_ANEW)?;
+    assert_eq!(rt; other, None);
+    Ok(())
+}
+
+const RUNS: &str = "pm_region_runs_of_lines";
+
+// Lines 0, 1, 3, 7 and 8 of ten are written, in three runs; line 5 is stored and not flushed. Of each it is the last
+// word.
+const RUNS_OF_LINES: [(Call, Answer); 14] = [
+    (Call::Create(80), Answer::Done),
+    (Call::Put(71, 9), Answer::Done),
+    (Call::Put(63, 8), Answer::Done),
+    (Call::Put(47, 6), Answer::Done),
+    (Call::Put(31, 4), Answer::Done),
+    (Call::Put(15, 2), Answer::Done),
+    (Call::Put(7, 1), Answer::Done),
+    (Call::FlushOften, Answer::Done),
+    (Call::Fence, Answer::Done),
+    (
+        Call::HasBytes(
+            RUNS,
+            640,
+            &[(56, 1), (120, 2), (248, 4), (504, 8), (568, 9)],
+        ),
+        Answer::Is(true),
+    ),
+    (Call::Flush(5), Answer::Done),
+    (Call::Fence, Answer::Done),
+    (
+        Call::HasBytes(
+            RUNS,
+            640,
+            &[(56, 1), (120, 2), (248, 4), (504, 8), (568, 9), (376, 6)],
+        ),
+        Answer::Is(true),
+    ),
+    (Call::Remove(RUNS), Answer::Done),
+];
+
+#[test]
+fn runs_of_lines(rt: HostRuntime) -> Result<(), Fail> {
+    let other = first_other(&rt, RUNS, &RUNS_OF_LINES)?;
+    assert_eq!(rt; other, None);
+    Ok(())
+}
+
+const PIECES: &str = "pm_region_pieces_of_a_file";
+
+// What was flushed before the split was written by it; line 3 is written by the next fence of the whole.
+const PIECES_OF_A_FILE: [(Call, Answer); 8] = [
+    (Call::WriteTwoPieces, Answer::Is(true)),
+    (Call::Words, Answer::Number(40)),
+    (Call::Get(8), Answer::Number(21)),
+    (Call::Get(24), Answer::Number(22)),
+    (
+        Call::HasBytes(PIECES, 320, &[(8, 20), (64, 21)]),
+        Answer::Is(true),
+    ),
+    (Call::Fence, Answer::Done),
+    (
+        Call::HasBytes(PIECES, 320, &[(8, 20), (64, 21), (192, 22)]),
+        Answer::Is(true),
+    ),
+    (Call::Remove(PIECES), Answer::Done),
+];
 
 #[test]
 fn pieces_of_a_file(rt: HostRuntime) -> Result<(), Fail> {
-    let name = "pm_region_pieces_of_a_file";
-    let mut region = region_in(&rt, name)?;
-    pieces_of_a_file_steps(&rt, &rt, name, &mut region)?;
-    fs::remove_file(&rt, name)?;
+    let other = first_other(&rt, PIECES, &PIECES_OF_A_FILE)?;
+    assert_eq!(rt; other, None);
     Ok(())
 }
 
+const ANOTHER: &str = "pm_region_another_file";
+
+const NAMED_AS_IT: &str = "pm_region_other_file";
+
 // Another file of the same name is none to split.
-fn another_file_steps<R: SplitRegion>(
-    test: &impl Abort,
-    rt: &HostRuntime,
-    name: &str,
-    region: &mut R,
-) -> Result<(), Fail> {
-    put_file(rt, "pm_region_other_file", 64)?;
-    region.create(rt.alloc(), 8)?;
-    fs::rename(rt, "pm_region_other_file", name)?;
-    assert_eq!(*test;
-        split_once_more(rt.alloc(), region),
-        Err(AttachError::RegionFault)
-    );
-    assert_eq!(*test; region.faults(), 1);
-    Ok(())
-}
+const ANOTHER_FILE: [(Call, Answer); 4] = [
+    (Call::WriteFile(NAMED_AS_IT, 64, &[]), Answer::Done),
+    (
+        Call::CreateRenameAndSplit(8, NAMED_AS_IT, ANOTHER),
+        Answer::RegionFault,
+    ),
+    (Call::Faults, Answer::Number(1)),
+    (Call::Remove(ANOTHER), Answer::Done),
+];
 
 #[test]
 fn another_file(rt: HostRuntime) -> Result<(), Fail> {
-    let name = "pm_region_another_file";
-    let mut region = region_in(&rt, name)?;
-    another_file_steps(&rt, &rt, name, &mut region)?;
-    fs::remove_file(&rt, name)?;
+    let other = first_other(&rt, ANOTHER, &ANOTHER_FILE)?;
+    assert_eq!(rt; other, None);
     Ok(())
 }
 
+const CUT: &str = "pm_region_a_cut_file";
+
 // A file that was cut since it was attached is not written.
-fn a_cut_file_steps<R: SplitRegion>(
-    test: &impl Abort,
-    rt: &HostRuntime,
-    name: &str,
-    region: &mut R,
-) -> Result<(), Fail> {
-    region.create(rt.alloc(), 16)?;
-    put_file(rt, name, 64)?;
-    assert_eq!(*test;
-        split_once_more(rt.alloc(), region),
-        Err(AttachError::RegionFault)
-    );
-    assert_eq!(*test; write_line(region, 0, 5), Err(RegionFault));
-    assert!(*test; has_bytes(rt, name, &[0; 64])?);
-    assert_eq!(*test; region.create(rt.alloc(), 8), Ok(()));
-    Ok(())
-}
+const A_CUT_FILE: [(Call, Answer); 7] = [
+    (Call::CreateCutAndSplit(16, CUT, 64), Answer::RegionFault),
+    (Call::Put(0, 5), Answer::Done),
+    (Call::Flush(0), Answer::Done),
+    (Call::Fence, Answer::RegionFault),
+    (Call::HasBytes(CUT, 64, &[]), Answer::Is(true)),
+    (Call::Create(8), Answer::Done),
+    (Call::Remove(CUT), Answer::Done),
+];
 
 #[test]
 fn a_cut_file(rt: HostRuntime) -> Result<(), Fail> {
-    let name = "pm_region_a_cut_file";
-    let mut region = region_in(&rt, name)?;
-    a_cut_file_steps(&rt, &rt, name, &mut region)?;
-    fs::remove_file(&rt, name)?;
+    let other = first_other(&rt, CUT, &A_CUT_FILE)?;
+    assert_eq!(rt; other, None);
     Ok(())
 }
 
+const TAKEN: &str = "pm_region_a_taken_name";
+
+const TAKER: &str = "pm_region_taker_of_a_name";
+
 // A file that another one took the name of is not written, and neither is that one.
-fn a_taken_name_steps<R: SplitRegion>(
-    test: &impl Abort,
-    rt: &HostRuntime,
-    name: &str,
-    region: &mut R,
-) -> Result<(), Fail> {
-    region.create(rt.alloc(), 8)?;
-    put_file(rt, "pm_region_taker_of_a_name", 64)?;
-    fs::rename(rt, "pm_region_taker_of_a_name", name)?;
-    assert_eq!(*test; write_line(region, 0, 6), Err(RegionFault));
-    assert!(*test; has_bytes(rt, name, &[0; 64])?);
-    Ok(())
-}
+const A_TAKEN_NAME: [(Call, Answer); 8] = [
+    (Call::Create(8), Answer::Done),
+    (Call::WriteFile(TAKER, 64, &[]), Answer::Done),
+    (Call::Rename(TAKER, TAKEN), Answer::Done),
+    (Call::Put(0, 6), Answer::Done),
+    (Call::Flush(0), Answer::Done),
+    (Call::Fence, Answer::RegionFault),
+    (Call::HasBytes(TAKEN, 64, &[]), Answer::Is(true)),
+    (Call::Remove(TAKEN), Answer::Done),
+];
 
 #[test]
 fn a_taken_name(rt: HostRuntime) -> Result<(), Fail> {
-    let name = "pm_region_a_taken_name";
-    let mut region = region_in(&rt, name)?;
-    a_taken_name_steps(&rt, &rt, name, &mut region)?;
-    fs::remove_file(&rt, name)?;
+    let other = first_other(&rt, TAKEN, &A_TAKEN_NAME)?;
+    assert_eq!(rt; other, None);
     Ok(())
 }
 
-// A region that is neither attached nor made, as another holds its file.
-fn is_held<R: SplitRegion>(alloc: Global, region: &mut R) -> bool {
-    let fault = Err(AttachError::RegionFault);
-    region.attach(alloc) == fault && region.create(alloc, 16) == fault && region.faults() == 2
-}
+const HELD: &str = "pm_region_a_held_region";
 
-// The holder writes, while the other is refused; its own lock is no hindrance to itself.
-fn held_steps<R: SplitRegion>(
-    test: &impl Abort,
+const THE_HOLDER_WRITES: [(Call, Answer); 4] = [
+    (Call::Create(8), Answer::Done),
+    (Call::Put(0, 5), Answer::Done),
+    (Call::Flush(0), Answer::Done),
+    (Call::Fence, Answer::Done),
+];
+
+// It is neither attached nor made, as another holds its file.
+const THE_OTHER_IS_REFUSED: [(Call, Answer); 3] = [
+    (Call::Attach, Answer::RegionFault),
+    (Call::Create(16), Answer::RegionFault),
+    (Call::Faults, Answer::Number(2)),
+];
+
+// Its own lock is no hindrance to itself.
+const THE_HOLDER_READS: [(Call, Answer); 3] = [
+    (Call::HasBytes(HELD, 64, &[(0, 5)]), Answer::Is(true)),
+    (Call::Attach, Answer::Done),
+    (Call::Get(0), Answer::Number(5)),
+];
+
+const THE_OTHER_READS: [(Call, Answer); 3] = [
+    (Call::Attach, Answer::Done),
+    (Call::Get(0), Answer::Number(5)),
+    (Call::Remove(HELD), Answer::Done),
+];
+
+// The holder writes, while the other is refused.
+fn others_while_held<R: SplitRegion + ReadRegion>(
     rt: &HostRuntime,
-    name: &str,
     holder: &mut R,
     other: &mut R,
-) -> Result<(), Fail> {
-    assert_eq!(*test; holder.create(rt.alloc(), 8), Ok(()));
-    assert_eq!(*test; write_line(holder, 0, 5), Ok(()));
-    assert!(*test; is_held(rt.alloc(), other));
-    let mut want = [0u8; 64];
-    want[0] = 5;
-    assert!(*test; has_bytes(rt, name, &want)?);
-    assert_eq!(*test; first_word(rt.alloc(), holder), Ok(5));
-    Ok(())
+) -> Result<[Other; 3], Fail> {
+    Ok([
+        play(rt, holder, &THE_HOLDER_WRITES)?,
+        play(rt, other, &THE_OTHER_IS_REFUSED)?,
+        play(rt, holder, &THE_HOLDER_READS)?,
+    ])
+}
+
+// The holder lives as long as this call.
+fn others_with_holder(
+    rt: &HostRuntime,
+    other: &mut FileRegion<HostRuntime>,
+) -> Result<[Other; 3], Fail> {
+    let mut holder = region_in(rt, HELD)?;
+    others_while_held(rt, &mut holder, other)
+}
+
+fn others_of_held(rt: &HostRuntime) -> Result<([Other; 3], Other), Fail> {
+    let mut other = region_in(rt, HELD)?;
+    let held = others_with_holder(rt, &mut other)?;
+    Ok((held, play(rt, &mut other, &THE_OTHER_READS)?))
 }
 
 #[test]
 fn a_held_region(rt: HostRuntime) -> Result<(), Fail> {
-    let name = "pm_region_a_held_region";
-    let mut other = region_in(&rt, name)?;
-    let mut holder = region_in(&rt, name)?;
-    held_steps(&rt, &rt, name, &mut holder, &mut other)?;
-    drop(holder);
-    assert_eq!(rt; first_word(rt.alloc(), &mut other), Ok(5));
-    fs::remove_file(&rt, name)?;
+    let others = others_of_held(&rt)?;
+    assert_eq!(rt; others, ([None, None, None], None));
     Ok(())
 }
 
-fn snapshot_of_a_file_steps<R: SplitRegion + ReadRegion>(
-    test: &impl Abort,
-    rt: &HostRuntime,
-    region: &mut R,
-) -> Result<(), Fail> {
-    assert_eq!(*test; region.create(rt.alloc(), 16), Ok(()));
-    put(region, 9, 13);
-    let snapshot = Snapshot::of(region);
-    assert_eq!(*test;
-        (snapshot.words(), get(&snapshot, 8), get(&snapshot, 9)),
-        (16, 0, 13)
-    );
-    Ok(())
-}
+const SNAPSHOT: &str = "pm_region_snapshot_of_a_file";
+
+// How many words it has, and what stands in words 8 and 9.
+const SNAPSHOT_OF_A_FILE: [(Call, Answer); 4] = [
+    (Call::Create(16), Answer::Done),
+    (Call::Put(9, 13), Answer::Done),
+    (Call::Snapshot(8, 9), Answer::Numbers([16, 0, 13])),
+    (Call::Remove(SNAPSHOT), Answer::Done),
+];
 
 #[test]
 fn snapshot_of_a_file(rt: HostRuntime) -> Result<(), Fail> {
-    let name = "pm_region_snapshot_of_a_file";
-    let mut region = region_in(&rt, name)?;
-    snapshot_of_a_file_steps(&rt, &rt, &mut region)?;
-    fs::remove_file(&rt, name)?;
+    let other = first_other(&rt, SNAPSHOT, &SNAPSHOT_OF_A_FILE)?;
+    assert_eq!(rt; other, None);
     Ok(())
 }
 
-// A file is in its place while its name leads to it and it has its length.
-fn the_place_of_a_file_steps<R: SplitRegion>(
-    test: &impl Abort,
-    rt: &HostRuntime,
-    name: &str,
-    region: &mut R,
-) -> Result<(), Fail> {
-    let away = "pm_region_the_place_of_a_file_before";
-    // Without a file it has no place.
-    assert_eq!(*test; region.revalidate(), Err(RegionFault));
-    region.create(rt.alloc(), 16)?;
-    put(region, 3, 9);
-    assert_eq!(*test; region.revalidate(), Ok(()));
-    fs::rename(rt, name, away)?;
-    assert_eq!(*test; region.revalidate(), Err(RegionFault));
-    put_file(rt, name, 128)?;
-    assert_eq!(*test; region.revalidate(), Err(RegionFault));
-    fs::rename(rt, away, name)?;
-    assert_eq!(*test; region.revalidate(), Ok(()));
-    put_file(rt, name, 192)?;
-    assert_eq!(*test; region.revalidate(), Err(RegionFault));
-    assert_eq!(*test; (region.faults(), get(region, 3)), (4, 9));
-    Ok(())
-}
+const PLACE: &str = "pm_region_the_place_of_a_file";
+
+const AWAY: &str = "pm_region_the_place_of_a_file_before";
+
+// A file is in its place while its name leads to it and it has its length. Without a file a region has no place.
+const THE_PLACE_OF_A_FILE: [(Call, Answer); 15] = [
+    (Call::Revalidate, Answer::RegionFault),
+    (Call::Create(16), Answer::Done),
+    (Call::Put(3, 9), Answer::Done),
+    (Call::Revalidate, Answer::Done),
+    (Call::Rename(PLACE, AWAY), Answer::Done),
+    (Call::Revalidate, Answer::RegionFault),
+    (Call::WriteFile(PLACE, 128, &[]), Answer::Done),
+    (Call::Revalidate, Answer::RegionFault),
+    (Call::Rename(AWAY, PLACE), Answer::Done),
+    (Call::Revalidate, Answer::Done),
+    (Call::WriteFile(PLACE, 192, &[]), Answer::Done),
+    (Call::Revalidate, Answer::RegionFault),
+    (Call::Faults, Answer::Number(4)),
+    (Call::Get(3), Answer::Number(9)),
+    (Call::Remove(PLACE), Answer::Done),
+];
 
 #[test]
 fn the_place_of_a_file(rt: HostRuntime) -> Result<(), Fail> {
-    let name = "pm_region_the_place_of_a_file";
-    let mut region = region_in(&rt, name)?;
-    the_place_of_a_file_steps(&rt, &rt, name, &mut region)?;
-    fs::remove_file(&rt, name)?;
+    let other = first_other(&rt, PLACE, &THE_PLACE_OF_A_FILE)?;
+    assert_eq!(rt; other, None);
     Ok(())
 }

@@ -1,35 +1,12 @@
-// Each kind of region once, at small sizes. Expected values are worked out by hand from the rule of values and marks.
-ghost use Rattle.std.specs.Prelude.{◌≡◌, false, ℕ, ◌+◌, ◌-◌, ◌*◌, ◌/◌, ◌%◌, ◌^◌, ◌≤◌, ◌<◌, length};
-ghost use Rattle.pm_region.specs.State.{During, cell_now};
-ghost use Rattle.pm_region.specs.Words.{KeepsOutside};
-
-use pm_region::{AttachError, Region, RegionFault, Snapshot, SplitRegion};
-use region_memory::{Faults, FenceNumber, ImageError, MemRegion, Pick, SteadyRegion};
+// Each kind of region in memory once, at small sizes. Expected values are worked out by hand from the rule of values
+// and marks.
+use crate::calls::{Answer, Call, Opening, Other, WrittenPart, bytes_of, flush, get, make, put};
+use pm_region::{Region, RegionFault, Snapshot, SplitRegion};
+use region_memory::{
+    FaultPlan, Faults, FenceNumber, ImageError, MemRegion, MemoryRegion, Pick, SteadyRegion,
+};
 use std::alloc::Global;
-use std::process::Abort;
 use std::test::Fail;
-
-pub(crate) fn put<R: Region>(region: &mut R, at: u64, value: u64) {
-    let first = region.first();
-    if first <= at && at - first < region.words() {
-        region.store(at, value);
-    }
-}
-
-pub(crate) fn get<R: Region>(region: &R, at: u64) -> u64 {
-    let first = region.first();
-    if first <= at && at - first < region.words() {
-        region.load(at)
-    } else {
-        u64::MAX
-    }
-}
-
-fn flush_first<R: Region>(region: &mut R) {
-    if region.first() == 0 && region.words() >= 8 {
-        region.flush(0);
-    }
-}
 
 // A word after an attach, and the greatest of all where there is none.
 fn attached_word<R: SplitRegion>(alloc: Global, image: &mut R, at: u64) -> u64 {
@@ -39,87 +16,90 @@ fn attached_word<R: SplitRegion>(alloc: Global, image: &mut R, at: u64) -> u64 {
     }
 }
 
-// The first word after an attach, in the image of this stamp.
-fn first_of_image(
+// A word after an attach, in the image of this stamp.
+fn word_of_image<P: FaultPlan + Send + Drop>(
     alloc: Global,
-    region: &SteadyRegion,
+    region: &MemoryRegion<P>,
     stamp: u64,
     pick: Pick,
-) -> Result<u64, ImageError> {
-    let mut image = region.image_at(alloc, stamp, pick)?;
-    Ok(attached_word(alloc, &mut image, 0))
+    at: u64,
+) -> Answer {
+    match region.image_at(alloc, stamp, pick) {
+        Ok(mut image) => Answer::Number(attached_word(alloc, &mut image, at)),
+        Err(ImageError::NotTold) => Answer::NotTold,
+        Err(ImageError::Memory) => Answer::Memory,
+    }
 }
 
-// The values of word 0 are 0, 5 and 6 at stamp 3, with the mark at 5, and 5 and 6 at stamp 4.
-const IMAGES: [(u64, Pick, u64); 8] = [
-    (0, Pick::Newest, 0),
-    (1, Pick::Oldest, 0),
-    (1, Pick::Newest, 5),
-    (3, Pick::Oldest, 0),
-    (3, Pick::Mixed(1), 5),
-    (3, Pick::Mixed(2), 6),
-    (4, Pick::Oldest, 5),
-    (4, Pick::Newest, 6),
-];
+fn make_in_memory<P: FaultPlan + Send + Drop>(
+    alloc: Global,
+    region: &mut MemoryRegion<P>,
+    call: Call,
+) -> Answer {
+    match call {
+        Call::Image(stamp, pick, at) => word_of_image(alloc, region, stamp, pick, at),
+        Call::OldestImage(at) => word_of_image(alloc, region, region.stamp(), Pick::Oldest, at),
+        _ => make(alloc, region, call),
+    }
+}
 
-// The first image with another first word, by its stamp.
-fn other_image(alloc: Global, region: &SteadyRegion) -> Option<(u64, Result<u64, ImageError>)> {
-    for (stamp, pick, want) in IMAGES {
-        let found = first_of_image(alloc, region, stamp, pick);
-        if found != Ok(want) {
-            return Some((stamp, found));
+fn play<P: FaultPlan + Send + Drop>(
+    alloc: Global,
+    region: &mut MemoryRegion<P>,
+    calls: &[(Call, Answer)],
+) -> Other {
+    for (place, (call, expected)) in calls.iter().enumerate() {
+        let found = make_in_memory(alloc, region, *call);
+        if found != *expected {
+            return Some((place, found));
         }
     }
     None
 }
 
-// Stores 5 in word 0 with a flush, then 6, and makes a fence.
-fn write_twice<R: Region>(region: &mut R) -> Result<(), RegionFault> {
-    put(region, 0, 5);
-    flush_first(region);
-    put(region, 0, 6);
-    region.fence()
+// Of a region that begins with so many zero bytes, but for these, and has room for so many steps.
+fn other_of_steady(
+    alloc: Global,
+    length: usize,
+    bytes: &[(usize, u8)],
+    steps: u64,
+    calls: &[(Call, Answer)],
+) -> Result<Other, Fail> {
+    let bytes = bytes_of(alloc, length, bytes)?;
+    let mut region = SteadyRegion::new(alloc, bytes, steps)?;
+    Ok(play(alloc, &mut region, calls))
 }
 
-fn images_steps(test: &impl Abort, alloc: Global, region: &mut SteadyRegion) -> Result<(), Fail> {
-    assert_eq!(*test; region.words(), 0);
-    region.attach(alloc)?;
-    assert_eq!(*test;
-        (region.words(), region.bytes(), get(region, 1)),
-        (16, 131, 0x0200_0000_0000_0001)
-    );
-    assert_eq!(*test; (write_twice(region), region.stamp()), (Ok(()), 4));
-    assert_eq!(*test; other_image(alloc, region), None);
-    put(region, 0, 7);
-    assert_eq!(*test;
-        first_of_image(alloc, region, 5, Pick::Newest),
-        Err(ImageError::NotTold)
-    );
-    assert_eq!(*test; first_of_image(alloc, region, 4, Pick::Newest), Ok(6));
-    Ok(())
-}
+// The values of word 0 are 0, 5 and 6 at stamp 3, with the mark at 5, and 5 and 6 at stamp 4.
+const IMAGES: [(Call, Answer); 21] = [
+    (Call::Words, Answer::Number(0)),
+    (Call::Attach, Answer::Done),
+    (Call::Words, Answer::Number(16)),
+    (Call::Bytes, Answer::Number(131)),
+    (Call::Get(1), Answer::Number(0x0200_0000_0000_0001)),
+    (Call::Put(0, 5), Answer::Done),
+    (Call::Flush(0), Answer::Done),
+    (Call::Put(0, 6), Answer::Done),
+    (Call::Fence, Answer::Done),
+    (Call::Stamp, Answer::Number(4)),
+    (Call::Image(0, Pick::Newest, 0), Answer::Number(0)),
+    (Call::Image(1, Pick::Oldest, 0), Answer::Number(0)),
+    (Call::Image(1, Pick::Newest, 0), Answer::Number(5)),
+    (Call::Image(3, Pick::Oldest, 0), Answer::Number(0)),
+    (Call::Image(3, Pick::Mixed(1), 0), Answer::Number(5)),
+    (Call::Image(3, Pick::Mixed(2), 0), Answer::Number(6)),
+    (Call::Image(4, Pick::Oldest, 0), Answer::Number(5)),
+    (Call::Image(4, Pick::Newest, 0), Answer::Number(6)),
+    (Call::Put(0, 7), Answer::Done),
+    (Call::Image(5, Pick::Newest, 0), Answer::NotTold),
+    (Call::Image(4, Pick::Newest, 0), Answer::Number(6)),
+];
 
 #[test]
 fn images_of_a_steady_region(rt: HostRuntime) -> Result<(), Fail> {
-    let alloc = rt.alloc();
-    let mut bytes = vec![in alloc; 0u8; 131]?;
-    bytes[8] = 1;
-    bytes[15] = 2;
-    let mut region = SteadyRegion::new(alloc, bytes, 4)?;
-    images_steps(&rt, alloc, &mut region)
-}
-
-// Stores word 3, and writes its line.
-fn write_third<R: Region>(region: &mut R, value: u64) -> Result<(), RegionFault> {
-    put(region, 3, value);
-    flush_first(region);
-    region.fence()
-}
-
-// Word 3 in the oldest image of the moment.
-fn oldest(alloc: Global, region: &MemRegion) -> Result<u64, ImageError> {
-    let mut image = region.image_at(alloc, region.stamp(), Pick::Oldest)?;
-    Ok(attached_word(alloc, &mut image, 3))
+    let other = other_of_steady(rt.alloc(), 131, &[(8, 1), (15, 2)], 4, &IMAGES)?;
+    assert_eq!(rt; other, None);
+    Ok(())
 }
 
 // A region of so many zero bytes, of whose calls these fail.
@@ -136,188 +116,175 @@ fn planned(
     Ok(region)
 }
 
-fn faults_of_a_region_steps(
-    test: &impl Abort,
+fn other_of_planned(
     alloc: Global,
-    region: &mut MemRegion,
-) -> Result<(), Fail> {
-    assert_eq!(*test; region.attach(alloc), Err(AttachError::RegionFault));
-    assert_eq!(*test; (region.faults(), region.words()), (1, 0));
-    assert_eq!(*test; (region.attach(alloc), region.words()), (Ok(()), 8));
-    assert_eq!(*test; write_third(region, 9), Ok(()));
-    assert_eq!(*test;
-        (write_third(region, 10), region.faults()),
-        (Err(RegionFault), 2)
-    );
-    assert_eq!(*test; oldest(alloc, region), Ok(9));
-    assert_eq!(*test; region.fence(), Ok(()));
-    assert_eq!(*test; oldest(alloc, region), Ok(10));
-    Ok(())
+    bytes: usize,
+    opens: &[u64],
+    fences: &[FenceNumber],
+    calls: &[(Call, Answer)],
+) -> Result<Other, Fail> {
+    let mut region = planned(alloc, bytes, opens, fences)?;
+    Ok(play(alloc, &mut region, calls))
 }
+
+// The first attach fails, and the second fence.
+const FAULTS_OF_A_REGION: [(Call, Answer); 15] = [
+    (Call::Attach, Answer::RegionFault),
+    (Call::Faults, Answer::Number(1)),
+    (Call::Words, Answer::Number(0)),
+    (Call::Attach, Answer::Done),
+    (Call::Words, Answer::Number(8)),
+    (Call::Put(3, 9), Answer::Done),
+    (Call::Flush(0), Answer::Done),
+    (Call::Fence, Answer::Done),
+    (Call::Put(3, 10), Answer::Done),
+    (Call::Flush(0), Answer::Done),
+    (Call::Fence, Answer::RegionFault),
+    (Call::Faults, Answer::Number(2)),
+    (Call::OldestImage(3), Answer::Number(9)),
+    (Call::Fence, Answer::Done),
+    (Call::OldestImage(3), Answer::Number(10)),
+];
 
 #[test]
 fn faults_of_a_region(rt: HostRuntime) -> Result<(), Fail> {
-    let alloc = rt.alloc();
     let fence = FenceNumber {
         piece: 0,
         number: 2,
     };
-    let mut region = planned(alloc, 64, &[1], &[fence])?;
-    faults_of_a_region_steps(&rt, alloc, &mut region)
-}
-
-// Stores a word of a piece, flushes its line and makes a fence.
-pub(crate) fn write_first<P: Region>(
-    piece: &mut P,
-    line: u64,
-    value: u64,
-) -> Result<(), RegionFault>
-    requires low { (P.state piece.old).frame.first ≤ 8 * line }
-    requires high { 8 * line + 8 ≤ (P.state piece.old).frame.first
-        + (P.state piece.old).frame.words }
-    requires fits { 8 * line < 2 ^ 64 }
-    ensures run { During (P.state piece.old) (P.state piece.new)
-        (KeepsOutside (cell_now (P.state piece.old)) (8 * line) (8 * line + 8)) }
-{
-    piece.store(8 * line, value);
-    piece.flush(line);
-    piece.fence()
-}
-
-// Splits the region at a cut, writes in the piece below it, and joins.
-pub(crate) fn write_part<R: SplitRegion>(
-    alloc: Global,
-    region: &mut R,
-    cut: u64,
-    value: u64,
-) -> Result<bool, AttachError>
-    requires whole { (R.state region.old).frame.parted ≡ false }
-    requires cut { cut % 8 ≡ 0 }
-    requires some { 8 ≤ cut }
-    requires within { cut ≤ (R.state region.old).frame.words }
-{
-    let cuts = [0, cut];
-    let mut pieces = region.split(alloc, &cuts)?;
-    let done = write_first(&mut pieces[0], 0, value).is_ok();
-    region.join(pieces);
-    Ok(done)
-}
-
-// Attaches a region, and writes in the piece below the cut. None where the region has not 16 words.
-fn attach_and_write<R: SplitRegion>(
-    alloc: Global,
-    region: &mut R,
-    cut: u64,
-) -> Result<Option<bool>, AttachError>
-    requires cut { cut % 8 ≡ 0 }
-    requires some { 8 ≤ cut }
-    requires within { cut ≤ 16 }
-{
-    region.attach(alloc)?;
-    if region.words() != 16 {
-        return Ok(None);
-    }
-    let done = write_part(alloc, region, cut, 77)?;
-    Ok(Some(done))
-}
-
-fn pieces_steps(test: &impl Abort, alloc: Global, region: &mut SteadyRegion) -> Result<(), Fail> {
-    assert_eq!(*test; attach_and_write(alloc, region, 8), Ok(Some(true)));
-    assert_eq!(*test; (region.words(), region.stamp()), (16, 4));
-    assert_eq!(*test; first_of_image(alloc, region, 4, Pick::Oldest), Ok(77));
-    assert_eq!(*test;
-        first_of_image(alloc, region, 3, Pick::Oldest),
-        Err(ImageError::NotTold)
-    );
+    let other = other_of_planned(rt.alloc(), 64, &[1], &[fence], &FAULTS_OF_A_REGION)?;
+    assert_eq!(rt; other, None);
     Ok(())
 }
+
+const PIECES_OF_A_REGION: [(Call, Answer); 5] = [
+    (
+        Call::WritePart(WrittenPart {
+            opening: Opening::Attach,
+            words: 16,
+            bytes: 128,
+            cut: 8,
+            value: 77,
+        }),
+        Answer::Is(true),
+    ),
+    (Call::Words, Answer::Number(16)),
+    (Call::Stamp, Answer::Number(4)),
+    (Call::Image(4, Pick::Oldest, 0), Answer::Number(77)),
+    (Call::Image(3, Pick::Oldest, 0), Answer::NotTold),
+];
 
 #[test]
 fn pieces_of_a_region(rt: HostRuntime) -> Result<(), Fail> {
-    let alloc = rt.alloc();
-    let bytes = vec![in alloc; 0u8; 128]?;
-    let mut region = SteadyRegion::new(alloc, bytes, 100)?;
-    pieces_steps(&rt, alloc, &mut region)
-}
-
-fn faults_of_a_piece_steps(
-    test: &impl Abort,
-    alloc: Global,
-    region: &mut MemRegion,
-) -> Result<(), Fail> {
-    assert_eq!(*test; attach_and_write(alloc, region, 16), Ok(Some(false)));
-    assert_eq!(*test; (region.faults(), get(region, 0)), (1, 77));
-    assert_eq!(*test; region.create(alloc, 8), Err(AttachError::RegionFault));
-    assert_eq!(*test; region.create(alloc, 8), Ok(()));
-    assert_eq!(*test; (region.bytes(), get(region, 0)), (64, 0));
+    let other = other_of_steady(rt.alloc(), 128, &[], 100, &PIECES_OF_A_REGION)?;
+    assert_eq!(rt; other, None);
     Ok(())
 }
 
+// The first fence of the first piece fails, and the first create behind it.
+const FAULTS_OF_A_PIECE: [(Call, Answer); 7] = [
+    (
+        Call::WritePart(WrittenPart {
+            opening: Opening::Attach,
+            words: 16,
+            bytes: 128,
+            cut: 16,
+            value: 77,
+        }),
+        Answer::Is(false),
+    ),
+    (Call::Faults, Answer::Number(1)),
+    (Call::Get(0), Answer::Number(77)),
+    (Call::Create(8), Answer::RegionFault),
+    (Call::Create(8), Answer::Done),
+    (Call::Bytes, Answer::Number(64)),
+    (Call::Get(0), Answer::Number(0)),
+];
+
 #[test]
 fn faults_of_a_piece(rt: HostRuntime) -> Result<(), Fail> {
-    let alloc = rt.alloc();
     let fence = FenceNumber {
         piece: 1,
         number: 1,
     };
-    let mut region = planned(alloc, 128, &[3], &[fence])?;
-    faults_of_a_piece_steps(&rt, alloc, &mut region)
-}
-
-fn a_place_that_is_lost_steps(
-    test: &impl Abort,
-    alloc: Global,
-    region: &mut MemRegion,
-) -> Result<(), Fail> {
-    region.attach(alloc)?;
-    assert_eq!(*test; (region.revalidate(), region.faults()), (Ok(()), 0));
-    assert_eq!(*test;
-        (region.revalidate(), region.faults()),
-        (Err(RegionFault), 1)
-    );
-    assert_eq!(*test; (region.words(), region.revalidate()), (8, Ok(())));
-    assert_eq!(*test; region.attach(alloc), Err(AttachError::RegionFault));
+    let other = other_of_planned(rt.alloc(), 128, &[3], &[fence], &FAULTS_OF_A_PIECE)?;
+    assert_eq!(rt; other, None);
     Ok(())
-}
-
-// Whether a region that was never attached is in its place.
-fn steady_place(alloc: Global) -> Result<bool, Fail> {
-    let mut region = SteadyRegion::new(alloc, Vec::new(alloc), 4)?;
-    Ok(region.revalidate().is_ok())
 }
 
 // Attaches, splits and revalidations share the numbers of the plan.
+const A_LOST_PLACE: [(Call, Answer); 8] = [
+    (Call::Attach, Answer::Done),
+    (Call::Revalidate, Answer::Done),
+    (Call::Faults, Answer::Number(0)),
+    (Call::Revalidate, Answer::RegionFault),
+    (Call::Faults, Answer::Number(1)),
+    (Call::Words, Answer::Number(8)),
+    (Call::Revalidate, Answer::Done),
+    (Call::Attach, Answer::RegionFault),
+];
+
+// A region that was never attached is in its place.
+const STEADY_PLACE: [(Call, Answer); 1] = [(Call::Revalidate, Answer::Done)];
+
 #[test]
 fn a_place_that_is_lost(rt: HostRuntime) -> Result<(), Fail> {
-    let alloc = rt.alloc();
-    let mut region = planned(alloc, 64, &[3, 5], &[])?;
-    a_place_that_is_lost_steps(&rt, alloc, &mut region)?;
-    assert!(rt; steady_place(alloc)?);
+    let lost = other_of_planned(rt.alloc(), 64, &[3, 5], &[], &A_LOST_PLACE)?;
+    let steady = other_of_steady(rt.alloc(), 0, &[], 4, &STEADY_PLACE)?;
+    assert_eq!(rt; [lost, steady], [None, None]);
     Ok(())
 }
 
-fn stored_in_a_snapshot<R: Region>(test: &impl Abort, snapshot: &mut R) {
-    assert_eq!(*test; (snapshot.words(), snapshot.stamp()), (16, 0));
-    assert_eq!(*test; (get(snapshot, 3), get(snapshot, 4)), (9, 0));
+/// What a snapshot says before and behind a store, a flush and a fence.
+#[derive(Clone, Copy, Debug, PartialEq, Eq)]
+struct StoredInASnapshot {
+    words: u64,
+    stamp: u64,
+    third_and_fourth: [u64; 2],
+    fence: Result<(), RegionFault>,
+    stamp_behind: u64,
+    fourth_behind: u64,
+}
+
+fn stored_in<R: Region>(snapshot: &mut R) -> StoredInASnapshot {
+    let words = snapshot.words();
+    let stamp = snapshot.stamp();
+    let third_and_fourth = [get(snapshot, 3), get(snapshot, 4)];
     put(snapshot, 4, 10);
-    flush_first(snapshot);
-    assert_eq!(*test; snapshot.fence(), Ok(()));
-    assert_eq!(*test; (snapshot.stamp(), get(snapshot, 4)), (3, 0));
+    flush(snapshot, 0);
+    let fence = snapshot.fence();
+    StoredInASnapshot {
+        words,
+        stamp,
+        third_and_fourth,
+        fence,
+        stamp_behind: snapshot.stamp(),
+        fourth_behind: get(snapshot, 4),
+    }
 }
 
-fn snapshot_steps(test: &impl Abort, alloc: Global, region: &mut SteadyRegion) -> Result<(), Fail> {
+// What is found of a snapshot, and then the stamp, the third and the fourth word of its region.
+fn found_of_snapshot(alloc: Global) -> Result<(StoredInASnapshot, [u64; 3]), Fail> {
+    let mut region = SteadyRegion::new(alloc, Vec::new(alloc), 4)?;
     region.create(alloc, 16)?;
-    put(region, 3, 9);
-    let mut snapshot = Snapshot::of(&*region);
-    stored_in_a_snapshot(test, &mut snapshot);
-    assert_eq!(*test; (region.stamp(), get(region, 3), get(region, 4)), (1, 9, 0));
-    Ok(())
+    put(&mut region, 3, 9);
+    let mut snapshot = Snapshot::of(&region);
+    let stored = stored_in(&mut snapshot);
+    Ok((stored, [region.stamp(), get(&region, 3), get(&region, 4)]))
 }
 
 // What is stored in a snapshot is not kept, and the region is as it was.
 #[test]
 fn words_of_a_snapshot(rt: HostRuntime) -> Result<(), Fail> {
-    let alloc = rt.alloc();
-    let mut region = SteadyRegion::new(alloc, Vec::new(alloc), 4)?;
-    snapshot_steps(&rt, alloc, &mut region)
+    let (stored, region) = found_of_snapshot(rt.alloc())?;
+    let expected = StoredInASnapshot {
+        words: 16,
+        stamp: 0,
+        third_and_fourth: [9, 0],
+        fence: Ok(()),
+        stamp_behind: 3,
+        fourth_behind: 0,
+    };
+    assert_eq!(rt; (stored, region), (expected, [1, 9, 0]));
+    Ok(())
 }
