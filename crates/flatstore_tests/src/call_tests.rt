@@ -257,11 +257,15 @@ impl Env for NoText {
     }
 }
 
+// How many words there are in such an environment.
+fn words_of_no_text(alloc: Global) -> Result<usize, Memory> {
+    let words = command_line(&NoText { alloc }, alloc)?;
+    Ok(words.len())
+}
+
 #[test]
 fn words_that_are_no_text(rt: HostRuntime) -> Result<(), Fail> {
-    let alloc = rt.alloc();
-    let words = command_line(&NoText { alloc }, alloc)?;
-    assert_eq!(rt; words.len(), 0);
+    assert_eq!(rt; words_of_no_text(rt.alloc())?, 0);
     Ok(())
 }
 
@@ -334,8 +338,10 @@ fn a_full_log(rt: HostRuntime) -> Result<(), Fail> {
         free_blocks: 0,
     });
     let (ended, refused) = many_on_a_fresh_region(&rt, &[Refusal { request: 36, why }])?;
-    assert_eq!(rt; (ended.said(), refused), ((Status::Done, true), true));
-    assert_eq!(rt; ended.finishes, 36);
+    assert_eq!(rt;
+        (ended.said(), refused, ended.finishes),
+        ((Status::Done, true), true, 36)
+    );
     Ok(())
 }
 
@@ -385,13 +391,20 @@ fn failing_fences(rt: HostRuntime) -> Result<(), Fail> {
     Ok(())
 }
 
+// How the put of a value that stands in a block ends, where the fence with this number fails.
+fn block_fails_at(
+    rt: &(impl Threads + AllocGlobal),
+    number: u64,
+) -> Result<((Status, bool), bool), Fail> {
+    let input = put(rt.alloc(), 1, b'b', 256)?;
+    fails_at(rt, number, input.as_str(), "stopped\n", &[b'b'; 256])
+}
+
 #[test]
 fn failing_fences_of_a_block(rt: HostRuntime) -> Result<(), Fail> {
-    let input = put(rt.alloc(), 1, b'b', 256)?;
     // the head of the block's chunk and the value, the head of the log's chunk, and the batch
     for number in 1..7 {
-        let found = fails_at(&rt, number, input.as_str(), "stopped\n", &[b'b'; 256])?;
-        assert_eq!(rt; found, STOPPED, "at {number}");
+        assert_eq!(rt; block_fails_at(&rt, number)?, STOPPED, "at {number}");
     }
     Ok(())
 }
@@ -430,12 +443,19 @@ fn finish_of_three(
     Ok(stamp_of(&report, 0).unwrap_or(u64::MAX))
 }
 
+// Whether that stamp has come, and whether the images of all stamps have what they must.
+fn three_and_their_images(rt: &(impl Threads + AllocGlobal)) -> Result<(bool, bool), Fail> {
+    let mut region = steady(rt.alloc())?;
+    let finish = finish_of_three(rt, &mut region)?;
+    Ok((
+        finish <= region.stamp(),
+        have_abc(rt.alloc(), &region, finish)?,
+    ))
+}
+
 #[test]
 fn images_at_each_stamp(rt: HostRuntime) -> Result<(), Fail> {
-    let mut region = steady(rt.alloc())?;
-    let finish = finish_of_three(&rt, &mut region)?;
-    assert!(rt; finish <= region.stamp());
-    assert!(rt; have_abc(rt.alloc(), &region, finish)?);
+    assert_eq!(rt; three_and_their_images(&rt)?, (true, true));
     Ok(())
 }
 

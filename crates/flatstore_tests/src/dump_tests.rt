@@ -36,15 +36,19 @@ fn with_a_failing_sink(
     Ok(Ended::of(&report, sink.text().unwrap_or(b"not kept"), text.as_bytes()))
 }
 
+// How a put ends, and then such a dump, where the beginning of the pair is wanted.
+fn put_and_dumped(rt: &(impl Threads + AllocGlobal)) -> Result<(Ended, Ended), Fail> {
+    let mut region = region(rt.alloc(), &[])?;
+    let replayed = ends(rt, &mut region, "put 5 abc\n", "stored\n")?;
+    Ok((replayed, with_a_failing_sink(rt, &mut region, "5 a")?))
+}
+
 #[test]
 fn a_failing_sink(rt: HostRuntime) -> Result<(), Fail> {
-    let mut region = region(rt.alloc(), &[])?;
-    let replayed = ends(&rt, &mut region, "put 5 abc\n", "stored\n")?;
-    assert_eq!(rt; replayed.said(), (Status::Done, true));
-    let ended = with_a_failing_sink(&rt, &mut region, "5 a")?;
+    let (replayed, dumped) = put_and_dumped(&rt)?;
     assert_eq!(rt;
-        (ended.said(), ended.complete),
-        ((Status::SinkFault, true), true)
+        (replayed.said(), dumped.said(), dumped.complete),
+        ((Status::Done, true), (Status::SinkFault, true), true)
     );
     Ok(())
 }

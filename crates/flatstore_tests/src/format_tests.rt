@@ -61,13 +61,20 @@ fn is_empty<R: Region>(alloc: Global, region: &R) -> Result<bool, Fail> {
     Ok(words.len() * 8 == BYTES)
 }
 
-#[test]
-fn a_new_region(rt: HostRuntime) -> Result<(), Fail> {
+// What a format in the place of other bytes says, whether the region is empty then, and what its image breaks.
+fn formatted(
+    rt: &(impl Threads + AllocGlobal),
+) -> Result<((Status, bool), bool, Option<Fault>), Fail> {
     let alloc = rt.alloc();
     let mut region = SteadyRegion::new(alloc, vec![in alloc; 7u8; 100]?, 50)?;
-    assert_eq!(rt; call(&rt, FORMAT, &mut region)?, (Status::Done, true));
-    assert!(rt; is_empty(alloc, &region)?);
-    assert_eq!(rt; fault(alloc, &mut region)?, None);
+    let said = call(rt, FORMAT, &mut region)?;
+    let empty = is_empty(alloc, &region)?;
+    Ok((said, empty, fault(alloc, &mut region)?))
+}
+
+#[test]
+fn a_new_region(rt: HostRuntime) -> Result<(), Fail> {
+    assert_eq!(rt; formatted(&rt)?, ((Status::Done, true), true, None));
     Ok(())
 }
 
@@ -102,30 +109,38 @@ fn failing(alloc: Global, number: u64) -> Result<MemRegion, Fail> {
     Ok(MemRegion::new(alloc, Vec::new(alloc), 50, plan)?)
 }
 
+// What a format says whose fence with this number fails, and whether each image is refused or sound.
+fn fails_at(
+    rt: &(impl Threads + AllocGlobal),
+    number: u64,
+) -> Result<((Status, bool), bool), Fail> {
+    let mut region = failing(rt.alloc(), number)?;
+    let said = call(rt, FORMAT, &mut region)?;
+    Ok((said, are_refused_or_sound(rt.alloc(), &region)?))
+}
+
 #[test]
 fn failing_fences(rt: HostRuntime) -> Result<(), Fail> {
     for number in 1..3 {
-        let mut region = failing(rt.alloc(), number)?;
-        assert_eq!(rt;
-            call(&rt, FORMAT, &mut region)?,
-            (Status::RegionFault, true)
-        );
-        assert!(rt; are_refused_or_sound(rt.alloc(), &region)?);
+        let found = fails_at(&rt, number)?;
+        assert_eq!(rt; found, ((Status::RegionFault, true), true), "at {number}");
     }
     Ok(())
 }
 
-#[test]
-fn a_failing_create(rt: HostRuntime) -> Result<(), Fail> {
+// What a format says whose region can't be created.
+fn with_a_failing_create(rt: &(impl Threads + AllocGlobal)) -> Result<(Status, bool), Fail> {
     let alloc = rt.alloc();
     let plan = Faults {
         opens: vec![in alloc; 1]?,
         fences: Vec::new(alloc),
     };
     let mut region = MemRegion::new(alloc, Vec::new(alloc), 50, plan)?;
-    assert_eq!(rt;
-        call(&rt, FORMAT, &mut region)?,
-        (Status::RegionFault, false)
-    );
+    call(rt, FORMAT, &mut region)
+}
+
+#[test]
+fn a_failing_create(rt: HostRuntime) -> Result<(), Fail> {
+    assert_eq!(rt; with_a_failing_create(&rt)?, (Status::RegionFault, false));
     Ok(())
 }

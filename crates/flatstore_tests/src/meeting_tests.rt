@@ -87,14 +87,22 @@ fn met(
     threads_end(rt, &RUN, region, input, text, gate)
 }
 
+// How such a run of four cores in one group ends.
+fn four_met(
+    rt: &(impl Threads + Wait + Clock + Sync + AllocGlobal),
+    gate: &Gathering,
+) -> Result<Ended, Fail> {
+    let mut region = SteadyRegion::new(rt.alloc(), fresh_of(rt.alloc(), 4, 4)?, 5000)?;
+    met(rt, &mut region, "stored\nstored\nstored\nstored\n", gate)
+}
+
 // Each core waits with its first post for the other three.
 #[test]
 fn four_cores_meet(rt: HostRuntime) -> Result<(), Fail> {
     let gate = Gathering::new(4, 1);
-    let mut region = SteadyRegion::new(rt.alloc(), fresh_of(rt.alloc(), 4, 4)?, 5000)?;
-    let ended = met(&rt, &mut region, "stored\nstored\nstored\nstored\n", &gate)?;
-    assert_eq!(rt; ended.said(), (Status::Done, true));
-    assert!(rt; !gate.missed.load(Ordering::SeqCst));
+    let ended = four_met(&rt, &gate)?;
+    let missed = gate.missed.load(Ordering::SeqCst);
+    assert_eq!(rt; (ended.said(), missed), ((Status::Done, true), false));
     Ok(())
 }
 
@@ -130,18 +138,36 @@ fn image_has_all<R: SplitRegion>(
 
 const AT_EXIT: [(u64, Option<&[u8]>); 3] = [(0, Some(b"c")), (1, None), (3, Some(b"d"))];
 
-#[test]
-fn images_at_exit(rt: HostRuntime) -> Result<(), Fail> {
+// Whether each image of the last stamp has these cells.
+fn images_have_all(
+    alloc: Global,
+    region: &SteadyRegion,
+    cells: &[(u64, Option<&[u8]>)],
+) -> Result<bool, Fail> {
+    for pick in PICKS {
+        let mut image = region.image_at(alloc, region.stamp(), pick)?;
+        if !image_has_all(alloc, &mut image, cells)? {
+            return Ok(false);
+        }
+    }
+    Ok(true)
+}
+
+// How a run of five changes ends, and whether a crash then leaves their cells.
+fn ran_to_exit(
+    rt: &(impl Threads + Wait + Clock + Sync + AllocGlobal),
+) -> Result<((Status, bool), bool), Fail> {
     let alloc = rt.alloc();
     let mut region = SteadyRegion::new(alloc, fresh_of(alloc, 2, 2)?, 5000)?;
     let input = "put 0 a\nput 1 b\nput 0 c\ndelete 1\nput 3 d\n";
     let text = "stored\nstored\nstored\ndeleted\nstored\n";
-    let ended = threads_end(&rt, &RUN, &mut region, input, text, &OpenGate)?;
-    assert_eq!(rt; ended.said(), (Status::Done, true));
-    for pick in PICKS {
-        let mut image = region.image_at(alloc, region.stamp(), pick)?;
-        assert!(rt; image_has_all(alloc, &mut image, &AT_EXIT)?);
-    }
+    let ended = threads_end(rt, &RUN, &mut region, input, text, &OpenGate)?;
+    Ok((ended.said(), images_have_all(alloc, &region, &AT_EXIT)?))
+}
+
+#[test]
+fn images_at_exit(rt: HostRuntime) -> Result<(), Fail> {
+    assert_eq!(rt; ran_to_exit(&rt)?, ((Status::Done, true), true));
     Ok(())
 }
 
@@ -176,20 +202,26 @@ fn has_none(alloc: Global, region: &MemRegion) -> Result<bool, Fail> {
     Ok(true)
 }
 
+// How such a run ends on that region, and whether no image then has a value.
+fn two_failed(
+    rt: &(impl Threads + Wait + Clock + Sync + AllocGlobal),
+    gate: &Gathering,
+) -> Result<(Ended, bool), Fail> {
+    let mut region = failing_batch(rt.alloc())?;
+    let text = "stopped\nstopped\nstopped\nstopped\n";
+    let ended = met(rt, &mut region, text, gate)?;
+    Ok((ended, has_none(rt.alloc(), &region)?))
+}
+
 // Both cores have posted when they meet, so the first batch is of both; it fails, whoever makes it.
 #[test]
 fn batch_of_two_cores_fails(rt: HostRuntime) -> Result<(), Fail> {
     let gate = Gathering::new(2, 2);
-    let mut region = failing_batch(rt.alloc())?;
-    let ended = met(
-        &rt,
-        &mut region,
-        "stopped\nstopped\nstopped\nstopped\n",
-        &gate,
-    )?;
-    assert_eq!(rt; ended.said(), (Status::RegionFault, true));
-    assert_eq!(rt; (ended.complete, ended.finishes), (true, 0));
-    assert!(rt; !gate.missed.load(Ordering::SeqCst));
-    assert!(rt; has_none(rt.alloc(), &region)?);
+    let (ended, none) = two_failed(&rt, &gate)?;
+    let missed = gate.missed.load(Ordering::SeqCst);
+    assert_eq!(rt;
+        (ended.said(), ended.complete, ended.finishes, missed, none),
+        ((Status::RegionFault, true), true, 0, false, true)
+    );
     Ok(())
 }

@@ -210,12 +210,20 @@ const BY_TURNS: [(&str, &str); 2] = [
     ("go 1 3\n", "stopped\nstopped\nstopped\nstopped\n"),
 ];
 
+// How two puts and two gets end whose third fence fails, with these turns behind them, where this text is wanted.
+fn ends_by_turns(
+    rt: &(impl Threads + AllocGlobal),
+    turns: &str,
+    text: &str,
+) -> Result<((Status, bool), bool), Fail> {
+    let input = format!(in rt.alloc(); "{FAILS_THIRD}{turns}")?;
+    ends_with_images(rt, 2, &[3], input.as_str(), text, &OF_TWO_CORES)
+}
+
 #[test]
 fn a_core_that_stops(rt: HostRuntime) -> Result<(), Fail> {
-    let alloc = rt.alloc();
     for (turns, text) in BY_TURNS {
-        let input = format!(in alloc; "{FAILS_THIRD}{turns}")?;
-        let found = ends_with_images(&rt, 2, &[3], input.as_str(), text, &OF_TWO_CORES)?;
+        let found = ends_by_turns(&rt, turns, text)?;
         assert_eq!(rt; found, ((Status::RegionFault, true), true), "{turns}");
     }
     Ok(())
@@ -232,8 +240,10 @@ fn withdrawn(rt: &(impl Threads + AllocGlobal)) -> Result<(Ended, usize), Fail> 
 #[test]
 fn a_change_that_is_taken_back(rt: HostRuntime) -> Result<(), Fail> {
     let (ended, log) = withdrawn(&rt)?;
-    assert_eq!(rt; ended.said(), (Status::RegionFault, true));
-    assert_eq!(rt; (ended.finishes, log), (0, 0));
+    assert_eq!(rt;
+        (ended.said(), ended.finishes, log),
+        ((Status::RegionFault, true), 0, 0)
+    );
     Ok(())
 }
 
@@ -251,8 +261,10 @@ fn lost_at(rt: &(impl Threads + AllocGlobal), look: u64, input: &str) -> Result<
 #[test]
 fn an_attach_that_fails(rt: HostRuntime) -> Result<(), Fail> {
     let ended = lost_at(&rt, 1, "put 5 abc\nget 5\ndelete 5\nget 5\n")?;
-    assert_eq!(rt; ended.said(), (Status::RegionFault, true));
-    assert_eq!(rt; ended.attached, false);
+    assert_eq!(rt;
+        (ended.said(), ended.attached),
+        ((Status::RegionFault, true), false)
+    );
     Ok(())
 }
 
@@ -260,8 +272,9 @@ fn an_attach_that_fails(rt: HostRuntime) -> Result<(), Fail> {
 #[test]
 fn a_place_that_is_lost(rt: HostRuntime) -> Result<(), Fail> {
     let ended = lost_at(&rt, 2, "put 5 abc\nget 5\n")?;
-    assert_eq!(rt; ended.said(), (Status::RegionFault, true));
-    assert_eq!(rt; (ended.complete, ended.in_place), (true, false));
-    assert_eq!(rt; ended.finishes, 1);
+    assert_eq!(rt;
+        (ended.said(), ended.complete, ended.in_place, ended.finishes),
+        ((Status::RegionFault, true), true, false, 1)
+    );
     Ok(())
 }

@@ -62,18 +62,24 @@ fn with_a_failing_source(
     Ok(Ended::of(&report, sink.text().unwrap_or(b"not kept"), text.as_bytes()))
 }
 
+// How a scan ends whose sink fails, and then one whose source does.
+fn with_failing_ends(rt: &(impl Threads + AllocGlobal + Abort)) -> Result<(Ended, Ended), Fail> {
+    let mut region = with_three(rt)?;
+    let sink = with_a_failing_sink(rt, &mut region, "1 a")?;
+    Ok((sink, with_a_failing_source(rt, &mut region, "")?))
+}
+
 #[test]
 fn failing_ends(rt: HostRuntime) -> Result<(), Fail> {
-    let mut region = with_three(&rt)?;
-    let ended = with_a_failing_sink(&rt, &mut region, "1 a")?;
+    let (sink, source) = with_failing_ends(&rt)?;
     assert_eq!(rt;
-        (ended.said(), ended.complete),
-        ((Status::SinkFault, true), true)
-    );
-    let ended = with_a_failing_source(&rt, &mut region, "")?;
-    assert_eq!(rt;
-        (ended.said(), ended.complete),
-        ((Status::SourceFault, true), false)
+        (sink.said(), sink.complete, source.said(), source.complete),
+        (
+            (Status::SinkFault, true),
+            true,
+            (Status::SourceFault, true),
+            false
+        )
     );
     Ok(())
 }

@@ -1,6 +1,6 @@
 // The worked rows of cleaning, on the top call: a key of which nothing is left begins anew, and what was deleted stays
 // deleted.
-use crate::call_tests::{PICKS, replay, spent, stamp_of, with};
+use crate::call_tests::{PICKS, ends, replay, spent, stamp_of, with};
 use crate::row_tests::text_of;
 use flatstore_commands::{CommandReport, Status};
 use pm_region::Region;
@@ -38,21 +38,40 @@ fn count_of(text: &[u8], part: &[u8]) -> usize {
     count
 }
 
-// The key has the last version of all when it is deleted.
-#[test]
-fn a_forgotten_key_begins_anew(rt: HostRuntime) -> Result<(), Fail> {
+// Whether a replay on the region gives the replies to two changes of key 9, to so many puts of key 2, and to a put and
+// a get of key 9 behind these.
+fn is_forgotten(
+    rt: &(impl Threads + AllocGlobal),
+    region: &mut SteadyRegion,
+    count: u64,
+) -> Result<bool, Fail> {
     let alloc = rt.alloc();
-    let mut region = SteadyRegion::new(alloc, spent(alloc)?, 5000)?;
     let first = "put 9 r\ndelete 9\n";
     let last = "go 0 20000\nput 9 z\nget 9\n";
-    let input = around(alloc, first, "put 2 x\n", 300, last)?;
-    let (_, written) = replay(&rt, &mut region, input.as_str())?;
+    let input = around(alloc, first, "put 2 x\n", count, last)?;
+    let (_, written) = replay(rt, region, input.as_str())?;
     let first = "versions spent\ndeleted\n";
-    let replies = around(alloc, first, "stored\n", 300, "stored\nvalue z\n")?;
-    assert_eq!(rt; written.as_slice(), replies.as_bytes());
-    let log = text_of(&rt, "log", &mut region)?;
-    assert_eq!(rt; count_of(&log, b" key 9 "), 1);
-    assert_eq!(rt; count_of(&log, b" key 9 version 1 embedded 1\n"), 1);
+    let replies = around(alloc, first, "stored\n", count, "stored\nvalue z\n")?;
+    Ok(written.as_slice() == replies.as_bytes())
+}
+
+// Whether such a replay gives them, where the key has the last version of all when it is deleted; then how many
+// entries of the key the log has, and how many of its first version.
+fn begun_anew(rt: &(impl Threads + AllocGlobal)) -> Result<(bool, usize, usize), Fail> {
+    let alloc = rt.alloc();
+    let mut region = SteadyRegion::new(alloc, spent(alloc)?, 5000)?;
+    let forgotten = is_forgotten(rt, &mut region, 300)?;
+    let log = text_of(rt, "log", &mut region)?;
+    Ok((
+        forgotten,
+        count_of(&log, b" key 9 "),
+        count_of(&log, b" key 9 version 1 embedded 1\n"),
+    ))
+}
+
+#[test]
+fn a_forgotten_key_begins_anew(rt: HostRuntime) -> Result<(), Fail> {
+    assert_eq!(rt; begun_anew(&rt)?, (true, 1, 1));
     Ok(())
 }
 
@@ -95,17 +114,32 @@ fn crowded(rt: &(impl Threads + AllocGlobal)) -> Result<SteadyRegion, Fail> {
     Ok(region.image_at(alloc, region.stamp(), Pick::Oldest)?)
 }
 
+// Whether a delete of key 1 and puts behind it are answered so on the region, and the stamp by which it is finished.
+fn deleted_at(
+    rt: &(impl Threads + AllocGlobal),
+    region: &mut SteadyRegion,
+) -> Result<(bool, Option<u64>), Fail> {
+    let alloc = rt.alloc();
+    let input = around(alloc, "delete 1\n", "put 2 x\n", 8, "get 1\n")?;
+    let (report, written) = replay(rt, region, input.as_str())?;
+    let replies = around(alloc, "deleted\n", "stored\n", 8, "absent\n")?;
+    Ok((
+        written.as_slice() == replies.as_bytes(),
+        stamp_of(&report, 0),
+    ))
+}
+
+// Whether they are answered so, whether the delete is finished, and whether the key stays deleted from then on.
+fn deleted_for_good(rt: &(impl Threads + AllocGlobal)) -> Result<(bool, bool, bool), Fail> {
+    let mut region = crowded(rt)?;
+    let (answered, since) = deleted_at(rt, &mut region)?;
+    let stays = stays_deleted(rt, &region, since.unwrap_or(0))?;
+    Ok((answered, since.is_some(), stays))
+}
+
 #[test]
 fn what_was_deleted_stays_deleted(rt: HostRuntime) -> Result<(), Fail> {
-    let alloc = rt.alloc();
-    let mut region = crowded(&rt)?;
-    let input = around(alloc, "delete 1\n", "put 2 x\n", 8, "get 1\n")?;
-    let (report, written) = replay(&rt, &mut region, input.as_str())?;
-    let replies = around(alloc, "deleted\n", "stored\n", 8, "absent\n")?;
-    assert_eq!(rt; written.as_slice(), replies.as_bytes());
-    let since = stamp_of(&report, 0);
-    assert!(rt; since.is_some());
-    assert!(rt; stays_deleted(&rt, &region, since.unwrap_or(0))?);
+    assert_eq!(rt; deleted_for_good(&rt)?, (true, true, true));
     Ok(())
 }
 
@@ -146,19 +180,51 @@ fn left_behind_a_copy(rt: &(impl Threads + AllocGlobal)) -> Result<Option<Steady
     image_with_two(rt, &region, near.unwrap_or(0))
 }
 
+// Whether an image has the one pair `2 x`.
+fn has_two_alone(
+    rt: &(impl Threads + AllocGlobal),
+    image: &mut SteadyRegion,
+) -> Result<bool, Fail> {
+    let pairs = text_of(rt, "dump", image)?;
+    Ok(pairs.as_slice() == b"2 x\n".as_slice())
+}
+
+// Whether an image answers as a fresh region does, once more.
+fn answers_again(
+    rt: &(impl Threads + AllocGlobal),
+    image: &mut SteadyRegion,
+) -> Result<bool, Fail> {
+    let (input, replies) = deleted_then_crowded(rt.alloc(), 400)?;
+    let (_, written) = replay(rt, image, input.as_str())?;
+    Ok(written.as_slice() == replies.as_bytes())
+}
+
+// How such an image is opened by a replay of nothing, where nothing is to be written; then whether it has the pair
+// alone, and whether it answers again.
+fn opened_behind_a_copy(
+    rt: &(impl Threads + AllocGlobal),
+    image: &mut SteadyRegion,
+) -> Result<((Status, bool), bool, bool), Fail> {
+    let said = ends(rt, image, "", "")?.said();
+    let alone = has_two_alone(rt, image)?;
+    Ok((said, alone, answers_again(rt, image)?))
+}
+
+// The same of the image that a power failure leaves, where the delete stands in two chunks.
+fn power_failed(
+    rt: &(impl Threads + AllocGlobal),
+) -> Result<Option<((Status, bool), bool, bool)>, Fail> {
+    match left_behind_a_copy(rt)? {
+        None => Ok(None),
+        Some(mut image) => Ok(Some(opened_behind_a_copy(rt, &mut image)?)),
+    }
+}
+
 #[test]
 fn a_power_failure_behind_a_copy(rt: HostRuntime) -> Result<(), Fail> {
-    let Some(mut image) = left_behind_a_copy(&rt)? else {
-        assert!(rt; false, "the delete stands in two chunks");
-        return Ok(());
-    };
-    let (report, written) = replay(&rt, &mut image, "")?;
-    assert_eq!(rt; report.status, Status::Done);
-    assert!(rt; written.is_empty());
-    let pairs = text_of(&rt, "dump", &mut image)?;
-    assert_eq!(rt; pairs.as_slice(), b"2 x\n".as_slice());
-    let (input, replies) = deleted_then_crowded(rt.alloc(), 400)?;
-    let (_, written) = replay(&rt, &mut image, input.as_str())?;
-    assert_eq!(rt; written.as_slice(), replies.as_bytes());
+    assert_eq!(rt;
+        power_failed(&rt)?,
+        Some(((Status::Done, true), true, true))
+    );
     Ok(())
 }

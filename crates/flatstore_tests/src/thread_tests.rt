@@ -156,9 +156,12 @@ fn met(
 #[test]
 fn two_cores_meet(rt: HostRuntime) -> Result<(), Fail> {
     let gate = Meeting::new();
-    assert_eq!(rt; met(&rt, &gate)?, ((Status::Done, true), true));
-    assert!(rt; !gate.missed.load(Ordering::SeqCst));
-    assert_eq!(rt; (gate.asks_of(0), gate.asks_of(1)), (2, 2));
+    let (said, begins) = met(&rt, &gate)?;
+    let missed = gate.missed.load(Ordering::SeqCst);
+    assert_eq!(rt;
+        (said, begins, missed, gate.asks_of(0), gate.asks_of(1)),
+        ((Status::Done, true), true, false, 2, 2)
+    );
     Ok(())
 }
 
@@ -202,23 +205,41 @@ fn is_fresh(alloc: Global, region: &MemRegion) -> Result<bool, Fail> {
     Ok(words.as_slice() == fresh.as_slice())
 }
 
+// How a run ends whose split fails, and whether the region is fresh then.
+fn with_a_failing_split(
+    rt: &(impl Threads + Wait + Clock + Sync + AllocGlobal),
+) -> Result<(Ended, bool), Fail> {
+    let mut region = lost_at(rt.alloc(), 2)?;
+    let ended = run(rt, &mut region, "put 5 abc\nget 5\n", "")?;
+    Ok((ended, is_fresh(rt.alloc(), &region)?))
+}
+
 #[test]
 fn a_split_that_fails(rt: HostRuntime) -> Result<(), Fail> {
-    let mut region = lost_at(rt.alloc(), 2)?;
-    let ended = run(&rt, &mut region, "put 5 abc\nget 5\n", "")?;
-    assert_eq!(rt; ended.said(), (Status::RegionFault, true));
-    assert_eq!(rt; (ended.attached, ended.complete), (true, false));
-    assert!(rt; is_fresh(rt.alloc(), &region)?);
+    let (ended, fresh) = with_a_failing_split(&rt)?;
+    assert_eq!(rt;
+        (ended.said(), ended.attached, ended.complete, fresh),
+        ((Status::RegionFault, true), true, false, true)
+    );
     Ok(())
+}
+
+// How a run ends in which core 1's piece fails at its first fence.
+fn with_a_failing_piece(
+    rt: &(impl Threads + Wait + Clock + Sync + AllocGlobal),
+) -> Result<Ended, Fail> {
+    let mut region = failing_piece(rt.alloc(), 1)?;
+    let input = "put 0 a\nput 1 b\nget 0\nget 1\n";
+    let text = "stored\nstopped\nvalue a\nstopped\n";
+    run(rt, &mut region, input, text)
 }
 
 #[test]
 fn a_piece_that_fails(rt: HostRuntime) -> Result<(), Fail> {
-    let mut region = failing_piece(rt.alloc(), 1)?;
-    let input = "put 0 a\nput 1 b\nget 0\nget 1\n";
-    let text = "stored\nstopped\nvalue a\nstopped\n";
-    let ended = run(&rt, &mut region, input, text)?;
-    assert_eq!(rt; ended.said(), (Status::RegionFault, true));
-    assert_eq!(rt; (ended.complete, ended.finishes), (true, 1));
+    let ended = with_a_failing_piece(&rt)?;
+    assert_eq!(rt;
+        (ended.said(), ended.complete, ended.finishes),
+        ((Status::RegionFault, true), true, 1)
+    );
     Ok(())
 }

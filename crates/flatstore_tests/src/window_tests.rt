@@ -81,11 +81,10 @@ fn a_sink_that_fails_in_a_window(rt: HostRuntime) -> Result<(), Fail> {
     for (call, status, bytes, changes) in CALLS {
         let ended = with_a_failing_sink(&rt, call, bytes)?;
         assert_eq!(rt;
-            (ended.said(), ended.finishes),
-            ((status, true), changes),
+            (ended.said(), ended.finishes, ended.complete, ended.in_place),
+            ((status, true), changes, true, true),
             "at {call}"
         );
-        assert_eq!(rt; (ended.complete, ended.in_place), (true, true));
     }
     Ok(())
 }
@@ -118,13 +117,11 @@ fn with_a_lost_place(
 fn a_place_that_is_lost_at_work(rt: HostRuntime) -> Result<(), Fail> {
     for (look, bytes, changes) in LOOKS {
         let ended = with_a_lost_place(&rt, look, bytes)?;
-        let said = (Status::RegionFault, true);
         assert_eq!(rt;
-            (ended.said(), ended.finishes),
-            (said, changes),
+            (ended.said(), ended.finishes, ended.complete, ended.in_place),
+            ((Status::RegionFault, true), changes, true, false),
             "at {look}"
         );
-        assert_eq!(rt; (ended.complete, ended.in_place), (true, false));
     }
     Ok(())
 }
