@@ -3,7 +3,7 @@ ghost use Rattle.std.specs.Prelude.{◌≡◌, false, ◌+◌, ◌*◌, ◌^◌,
 ghost use Rattle.pm_region.specs.State.{During, cell_now};
 ghost use Rattle.pm_region.specs.Words.{KeepsOutside};
 
-use crate::calls::{
+use crate::region_calls::{
     Answer, Call, Opening, Other, WrittenPart, bytes_of, fault, flush, get, make, write_first,
     write_part,
 };

@@ -3,8 +3,8 @@
 #![tactic(auto)]
 
 #[cfg(test)]
-mod calls;
-#[cfg(test)]
 mod file_tests;
+#[cfg(test)]
+mod region_calls;
 #[cfg(test)]
 mod region_tests;

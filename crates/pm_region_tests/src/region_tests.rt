@@ -1,6 +1,8 @@
 // Each kind of region in memory once, at small sizes. Expected values are worked out by hand from the rule of values
 // and marks.
-use crate::calls::{Answer, Call, Opening, Other, WrittenPart, bytes_of, flush, get, make, put};
+use crate::region_calls::{
+    Answer, Call, Opening, Other, WrittenPart, bytes_of, flush, get, make, put,
+};
 use pm_region::{Region, RegionFault, Snapshot, SplitRegion};
 use region_memory::{
     FaultPlan, Faults, FenceNumber, ImageError, MemRegion, MemoryRegion, Pick, SteadyRegion,
