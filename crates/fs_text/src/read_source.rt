@@ -7,8 +7,10 @@ use crate::source::{Source, SourceFault};
 use std::alloc::{AllocError, Global};
 use thiserror::Error;
 
-/// The bytes that are made room for at first.
+/// The bytes that are made room for at first, and at most at a time.
 const FIRST_ROOM: usize = 65_536;
+
+const MOST_ROOM: usize = 1_048_576;
 
 /// Why a source gives no bytes.
 #[derive(Clone, Copy, Debug, PartialEq, Eq, Error)]
@@ -41,8 +43,8 @@ impl From<AllocError> for ReadError {
     }
 }
 
-// Makes room behind the filled front of the buffer. It makes it twice as long, so that a whole source takes time by its
-// length.
+// Makes room behind the filled front of the buffer, which the vector's capacity grows for by its own rule: so a whole source
+// takes time by its length. A long one gets it piece by piece, since room has to be filled before it is read into.
 fn make_room(bytes: &mut Vec<u8>, filled: usize, most: usize) -> Result<(), AllocError>
     requires within { filled ≤ length bytes.old.items }
     requires room { filled < most }
@@ -54,8 +56,8 @@ fn make_room(bytes: &mut Vec<u8>, filled: usize, most: usize) -> Result<(), Allo
     if filled < bytes.len() {
         return Ok(());
     }
-    let twice = filled * 2;
-    bytes.resize(twice.max(FIRST_ROOM).min(most), 0)
+    let longer = filled + filled.max(FIRST_ROOM).min(MOST_ROOM);
+    bytes.resize(longer.min(most), 0)
 }
 
 // Reads once into the buffer behind its filled front, and answers how many bytes came.

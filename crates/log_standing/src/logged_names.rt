@@ -1,11 +1,11 @@
 // The names of a log: those that were found at the start in a sorted table, and later ones in a map.
-ghost use Rattle.std.specs.Prelude.{◌≡◌, ℕ, ◌+◌, ◌<◌, ◌≤◌, max, Some, None, IsSome, OnOk, length, if◌then◌else◌};
+ghost use Rattle.std.specs.Prelude.{◌≡◌, ℕ, ◌+◌, ◌^◌, ◌<◌, ◌≤◌, max, Some, None, IsSome, OnOk, length, if◌then◌else◌};
 ghost use Rattle.std.specs.HashMap.{get, spare};
-ghost use Rattle.log_standing.specs.NameCounts.{name_eq, count_in};
+ghost use Rattle.log_standing.specs.NameCounts.{name_eq, count_in, one_more};
 ghost use Rattle.log_standing.specs.NameItems.{copies_among, one_of, Recounts, Writes};
 
 use crate::name_table::NameTable;
-use crate::types::Copies;
+use crate::types::{Copies, NOWHERE};
 use fs_model::{Key, Memory, Version};
 use log_entry::EntryName;
 use std::alloc::Global;
@@ -30,6 +30,24 @@ impl Model for LoggedNames {
     ghost view = { λ a. record { entries = a.table ++ a.later.entries; spare = spare a.later } };
 
     ghost invariant = { λ a. AreApart a.table a.later.entries };
+}
+
+/// One copy more.
+pub fn one_more(copies: Option<Copies>) -> Copies
+    requires { count_in copies + 1 < 2 ^ 64 }
+    ensures { result ≡ one_more copies }
+{
+    match copies {
+        Some(copies) => Copies {
+            count: copies.count + 1,
+            ..copies
+        },
+        None => Copies {
+            count: 1,
+            dead: false,
+            spot: NOWHERE,
+        },
+    }
 }
 
 // What a name of the map has.
@@ -63,6 +81,23 @@ fn put_in(names: &mut HashMap<(Key, Version), Copies>, name: EntryName, copies: 
 {
     let put: Result<_, _> = names.insert((name.key, name.version), copies);
     let _ = put.unwrap();
+}
+
+// One copy more of a name of the map, in which there is a place for it. A name rarely stands there already.
+fn add_in(names: &mut HashMap<(Key, Version), Copies>, name: EntryName)
+    requires room { 0 < spare names.old }
+    requires fits { count_in (get name_eq names.old (name.key, name.version)) + 1 < 2 ^ 64 }
+    ensures added { (q : ℕ × ℕ) → get name_eq names.new q ≡ (if name_eq (name.key, name.version) q
+        then Some (one_more (get name_eq names.old (name.key, name.version)))
+        else get name_eq names.old q) }
+    ensures count { length names.new.entries
+        + one_of (get name_eq names.old (name.key, name.version)) ≡ length names.old.entries + 1 }
+    ensures spare { spare names.old ≤ spare names.new + 1 }
+{
+    let put: Result<_, _> = names.insert((name.key, name.version), one_more(None));
+    if let Some(copies) = put.unwrap() {
+        set_in(names, name, one_more(Some(copies)));
+    }
 }
 
 // Takes a name out of the map.
@@ -138,6 +173,22 @@ impl LoggedNames {
         }
         self.table.take(name);
         put_in(&mut self.later, name, copies);
+    }
+
+    /// One copy more of a name. There is a place for it.
+    pub fn add(&mut self, name: EntryName)
+        requires room { 0 < self.old.spare }
+        requires fits { count_in (copies_among self.old.entries name.key name.version) + 1 < 2 ^ 64 }
+        ensures added { Writes self.old.entries self.new.entries name.key name.version
+            (Some (one_more (copies_among self.old.entries name.key name.version))) }
+        ensures count { Recounts self.old.entries self.new.entries name.key name.version
+            (Some (one_more (copies_among self.old.entries name.key name.version))) }
+        ensures spare { self.old.spare ≤ self.new.spare + 1 }
+    {
+        match self.table.get(name) {
+            Some(copies) => self.put(name, one_more(Some(copies))),
+            None => add_in(&mut self.later, name),
+        }
     }
 
     /// Takes a name out.

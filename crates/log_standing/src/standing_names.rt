@@ -4,11 +4,11 @@ ghost use Rattle.log_standing.specs.NameCounts.{name_eq, copies_at, count_of, is
 ghost use Rattle.log_standing.specs.NameItems.{copies_among, AreSmall};
 
 use crate::floors::Floors;
-use crate::logged_names::LoggedNames;
+use crate::logged_names::{LoggedNames, one_more};
 use crate::name_item::{CHUNK_NUMBERS, MOST_IN_ITEM};
 use crate::name_table::NameTable;
 use crate::tally::Tally;
-use crate::types::{Amount, Copies, NOWHERE, Settled, Spot};
+use crate::types::{Amount, Copies, Settled, Spot};
 use fs_model::Memory;
 use log_entry::EntryName;
 use std::alloc::Global;
@@ -44,24 +44,6 @@ impl Model for Standing {
     } };
 
     ghost invariant = { λ a. IsStanding a.names.entries a.names.spare a.most a.room };
-}
-
-// One copy more.
-fn one_more(copies: Option<Copies>) -> Copies
-    requires { count_in copies + 1 < 2 ^ 64 }
-    ensures { result ≡ one_more copies }
-{
-    match copies {
-        Some(copies) => Copies {
-            count: copies.count + 1,
-            ..copies
-        },
-        None => Copies {
-            count: 1,
-            dead: false,
-            spot: NOWHERE,
-        },
-    }
 }
 
 impl Standing {
@@ -131,8 +113,7 @@ impl Standing {
         ensures tally { self.new.tally ≡ self.old.tally }
         ensures floors { self.new.floors ≡ self.old.floors }
     {
-        let copies = one_more(self.names.get(name));
-        self.names.put(name, copies);
+        self.names.add(name);
         self.most += 1;
         self.room -= 1;
     }
