@@ -59,6 +59,11 @@ pub record IsIdle (v : Account) : Type 0 where
   pub put : v.put ≡ []
   pub took : v.took ≡ []
 
+-- A pass with all parts, which has taken as many as were put: the queue is empty.
+pub record IsClear (v : Account) : Type 0 where
+  pub whole : v.parts ≡ PARTS
+  pub level : length v.took ≡ length v.put
+
 -- The rule.
 pub record Once (items : List Answer) (views : List Account) : Type 0 where
   pub parts : total (λ v. v.parts) views ≡ PARTS

@@ -5,10 +5,8 @@
 mod account;
 mod answer_queue;
 mod queue_calls;
-mod taking;
 mod window_sizes;
 
 pub use account::{Account, Numbers};
 pub use answer_queue::{AnswerPass, AnswerQueue};
-pub use taking::take_all;
 pub use window_sizes::{PARTS, WINDOW};

@@ -1,7 +1,7 @@
 // What a thread does with the queue of a window's answers.
 ghost use Rattle.std.specs.Prelude.{◌≡◌, ◌<◌, ◌≤◌, length, IfOk, MatchOption};
 ghost use Rattle.answer_queue.specs.declared.window_sizes.TheConstants.{WINDOW, PARTS};
-ghost use Rattle.answer_queue.specs.Accounts.{AreDistinct, times, AreAmong, granted, without_numbers, with_numbers, joined, after_put, TakesAs, IsSettled};
+ghost use Rattle.answer_queue.specs.Accounts.{AreDistinct, times, AreAmong, IsClear, granted, without_numbers, with_numbers, joined, after_put, TakesAs, IsSettled};
 ghost use Rattle.answer_queue.specs.Queues.{IsOf, account_of};
 
 use crate::account::{Account, Deals, Grants, Joins, Kept, Numbers, Puts, TakesAnswer};
@@ -27,6 +27,20 @@ impl AnswerQueue {
         let (ring, mut first) = RuledArrayQueue::<Answer, Account, Kept>::ruled(alloc, WINDOW)?;
         let pass = ring.another::<Grants<W>>(&mut first);
         Ok((AnswerQueue { ring }, pass))
+    }
+
+    /// Makes the pass one that may put answers of these numbers, where it has all parts and has taken all that was put:
+    /// so one queue serves one window after another. What `_of` has the call may pick them from.
+    pub fn renew<W: Numbers, Q>(&self, pass: &mut AnswerPass, _of: &Q)
+        requires of { IsOf self.now pass.old }
+        requires clear { IsClear (account_of pass.old) }
+        requires few { length W.numbers ≤ WINDOW }
+        requires distinct { AreDistinct W.numbers }
+        ensures of { IsOf self.now pass.new }
+        ensures granted { account_of pass.new ≡ granted W.numbers }
+    {
+        let next = self.ring.another::<Grants<W>>(pass);
+        *pass = next;
     }
 
     /// Puts an answer of a number that the pass may put. There is a place for it.

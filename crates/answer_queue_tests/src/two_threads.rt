@@ -4,7 +4,8 @@ ghost use Rattle.answer_queue.specs.Accounts.{AreAmong, AreDistinct, numbers, af
 ghost use Rattle.answer_queue.specs.Queues.{IsOf, account_of};
 ghost use Rattle.answer_queue_tests.specs.Putting.{MayPut, HasPut};
 
-use answer_queue::{AnswerPass, AnswerQueue, WINDOW, take_all};
+use crate::taking::take_all;
+use answer_queue::{AnswerPass, AnswerQueue, WINDOW};
 use core_worker::Answer;
 use std::alloc::{AllocError, Global};
 use std::marker::Brand;

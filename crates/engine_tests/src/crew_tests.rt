@@ -11,10 +11,23 @@ use thread_engine::group_leads::AllLeads;
 fn no_core_has_work(rt: HostRuntime) -> Result<(), Fail> {
     let alloc = rt.alloc();
     let mut jobs: Vec<CoreJob<CoreSeat<'_>, SteadyPiece>> = Vec::new(alloc);
-    let desk = Desk::open(alloc, 0, 0)?;
+    let mut desk = Desk::open(alloc)?;
     let leads = AllLeads::open(alloc, 1, 1)?;
-    let taken = work_at_desk(&rt, alloc, &mut jobs, &OpenGate, false, desk, &leads);
+    let mut window = Vec::new(alloc);
+    window.push(None)?;
+    desk.begin(0, 0);
+    work_at_desk(
+        &rt,
+        alloc,
+        &mut jobs,
+        &OpenGate,
+        false,
+        &mut desk,
+        &leads,
+        0,
+        &mut window,
+    );
     assert!(rt; jobs.is_empty());
-    assert!(rt; taken.is_empty());
+    assert!(rt; matches!(window.pop(), Some(None)));
     Ok(())
 }

@@ -12,7 +12,6 @@ use Rattle.engine_core.specs.declared.types.Stamped.{Stamped}
 use Rattle.engine_core.specs.Answers.{kept_at, stored}
 use Rattle.thread_engine.specs.RanApart.{stamped}
 use Rattle.thread_engine.specs.Windows.{EachChanges}
-use Rattle.thread_engine.specs.Takings.{AreWithin}
 use Rattle.thread_engine.specs.Collected.{AreBlank, with_stamp, restamped}
 use Rattle.thread_engine.proofs.KeptAnswers.{set_here, set_long, not_there}
 
@@ -29,11 +28,6 @@ taken_kept (x ∷ xs) t ys d low a (inl e) =
     (not_there xs t x.number (slice_set ys x.number (Some (stamped t x))) (λ b j same. (let more = in_times b xs j in let two = d b.number in let o = once_here b.number x.number (sym same) in absurd (omega (arith, more, two, o)))) ∙ set_here ys x.number (Some (stamped t x)) (low x (inl refl)))
 taken_kept (x ∷ xs) t ys d low a (inr i) =
     taken_kept xs t (slice_set ys x.number (Some (stamped t x))) (λ n. (let h = d n in omega (arith, h))) (λ b j. subst (λ n. b.number < n) (sym (set_long ys x.number (Some (stamped t x)))) (low b (inr j))) a i
-
--- numbers are within these
-pub all_within_of : (n m : ℕ) (outs : List Answer) → ((a : Answer) → In a outs → (n ≤ a.number) × (a.number < m)) → AreWithin n m outs
-all_within_of n m [] h = tt
-all_within_of n m (a ∷ outs) h = (let w = h a (inl refl) in (w.0, w.1, all_within_of n m outs (λ b i. h b (inr i))))
 
 in_either : (a : Answer) (xs ys : List Answer) → In a (xs ++ ys) → In a xs ⊎ In a ys
 in_either a [] ys i = inr i

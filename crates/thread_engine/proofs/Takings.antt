@@ -9,9 +9,7 @@ use Rattle.answer_queue.proofs.Clients.{times_append, numbers_append, once_there
 use Rattle.answer_cores.specs.Passes.{all_answers}
 use Rattle.engine_core.specs.declared.types.Stamped.{Stamped}
 use Rattle.engine_core.specs.Answers.{stored}
-use Rattle.answer_queue.specs.declared.window_sizes.TheConstants.{WINDOW}
-use Rattle.thread_engine.specs.Collected.{IsWindow}
-use Rattle.thread_engine.specs.Takings.{both_outs, TakenAs, TakenIn}
+use Rattle.thread_engine.specs.Takings.{both_outs, TakenAs}
 
 -- the answers of two windows, core by core, are those of the first and those of the second
 swap_inner : {X : Type 0} (a b c d : List X) → IsPermutation ((a ++ b) ++ (c ++ d)) ((a ++ c) ++ (b ++ d))
@@ -34,7 +32,7 @@ outs_at (x ∷ xs) [] c = sym (append-nil (slice_index_or (x ∷ xs) c []))
 outs_at (x ∷ xs) (y ∷ ys) zero = refl
 outs_at (x ∷ xs) (y ∷ ys) (suc c) = outs_at xs ys c
 
-stored_on : (xs ys : List Answer) (t : ℕ) (kept : List (Option Stamped)) → stored (xs ++ ys) t kept ≡ stored ys t (stored xs t kept)
+pub stored_on : (xs ys : List Answer) (t : ℕ) (kept : List (Option Stamped)) → stored (xs ++ ys) t kept ≡ stored ys t (stored xs t kept)
 stored_on [] ys t kept = refl
 stored_on (x ∷ xs) ys t kept = stored_on xs ys t (slice_set kept x.number (Some (record { reply = x.reply; refusal = x.refusal; stamp = t })))
 
@@ -68,18 +66,6 @@ below_or (suc k) (suc n) = elim (below_or k n) [
 
 pub nothing_taken : (t n m : ℕ) (kept : List (Option Stamped)) → TakenAs t n m [] kept kept
 nothing_taken t n m kept = record { taken = []; all = IsPermutation-refl []; distinct = λ m. omega arith; within = λ a i. absurd i; kept = refl }
-
-pub nothing_in : (n m : ℕ) (places : List (Option Stamped)) → IsWindow places → m ≤ n + WINDOW → TakenIn n m [] places
-nothing_in n m places P low = record {
-  taken = [];
-  all = IsPermutation-refl [];
-  distinct = λ m. omega arith;
-  within = λ a i. absurd i;
-  places = places;
-  blank = P.blank;
-  long = (let long = P.count in omega (arith, long, low));
-  kept = refl;
-}
 
 -- no number is at or above a later one
 pub taken_below : (t n m k : ℕ) (outs : List (List Answer)) (a b : List (Option Stamped)) → m ≤ k → TakenAs t n m outs a b → TakenAs t n k outs a b

@@ -19,11 +19,11 @@ use Rattle.engine_core.specs.Answers.{stored}
 use Rattle.store_image.specs.Facts.{In}
 use Rattle.thread_engine.specs.Windows.{dealt_from, OwnsKeys, IsDealt, AreDealt, AreAtRest, AllWentOn, HaveEnded, HaveGiven, HaveMemory, EachChanges}
 use Rattle.thread_engine.specs.Collected.{IsWindow}
-use Rattle.thread_engine.specs.Takings.{AreWithin, TakenIn, numbered_from}
+use Rattle.thread_engine.specs.Takings.{TakenIn, numbered_from}
 use Rattle.thread_engine.specs.WindowJobs.{IsAtRest, Awaits, IsReady, Worked, AllWorked, WorksWindow, TakesPass, LosesPass, without_queue, put_in, puts_of, waiting_for, passes_of}
 use Rattle.thread_engine.proofs.WindowNumbers.{dealt_among, number_there}
 use Rattle.thread_engine.proofs.WindowWork.{dealt_works, dealt_went}
-use Rattle.thread_engine.proofs.TakenKept.{in_times, all_within_of}
+use Rattle.thread_engine.proofs.TakenKept.{in_times}
 
 module _ {B P : Type 0} (seat : B → SeatAt) (sight : B → Sight) (state : P → State) (refused : Bool) (q : AnswerQueue) where
   abbrev Job : Type 0
@@ -196,6 +196,3 @@ module _ {B P : Type 0} (seat : B → SeatAt) (sight : B → Sight) (state : P �
           long = (let long = P.count in omega (arith, long, low));
           kept = is;
         }
-
-        pub all_places : (k : ℕ) → m ≤ k → AreWithin n k taken
-        all_places k high = all_within_of n k taken (λ x i. (let w = all_within x i in let low = w.0 in let less = w.1 in (low, omega (arith, less, high))))

@@ -8,6 +8,7 @@ use Rattle.engine_core.specs.RunStarts.{AreNew}
 use Rattle.engine_core.specs.Working.{SeatFirst}
 use Rattle.thread_engine.specs.declared.run_apart.Supplies.{Supplies}
 use Rattle.thread_engine.specs.Collected.{IsWindow}
+use Rattle.thread_engine.specs.Desks.{IsCleared}
 use Rattle.thread_engine.specs.Noted.{IsNoted, HasNoteRoom}
 use Rattle.thread_engine.specs.TableTokens.{HaveTokens, AreTokenRooms}
 
@@ -25,6 +26,7 @@ pub record IsSupplied (o : Origin) (r : Recovered) (count : ℕ) (x : Supplies) 
   pub worker_count : length x.crew.workers.items ≡ x.layout.cores
   pub workers : AreNew r.starts.items r.layout x.crew.workers.items
   pub seated : SeatFirst r.starts.items r.layout x.crew.workers.items
+  pub cleared : IsCleared x.answers.desk
   pub window : IsWindow x.answers.window.items
   pub blank : IsNoted [] x.answers.notes
   pub room : HasNoteRoom count x.answers.notes

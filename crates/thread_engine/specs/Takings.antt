@@ -26,11 +26,6 @@ pub record TakenAs (t n m : ℕ) (outs : List (List Answer)) (old new : List (Op
 abbrev pub numbered_from : ℕ → Answer → Answer
 numbered_from n a = record a { number = a.number - n }
 
--- the numbers are those from n on and below m
-abbrev pub AreWithin : ℕ → ℕ → List Answer → Type 0
-AreWithin n m [] = Unit {0}
-AreWithin n m (x ∷ xs) = (n ≤ x.number) × (x.number < m) × AreWithin n m xs
-
 -- The same, where only the places from number n on are at hand.
 pub record TakenIn (n m : ℕ) (outs : List (List Answer)) (window : List (Option Stamped)) : Type 0 where
   pub taken : List Answer

@@ -21,6 +21,7 @@ pub mod run_end;
 pub mod run_notes;
 pub mod run_to_sink;
 pub mod table_end;
+pub mod taken_answers;
 pub mod text_outlet;
 pub mod usual_time;
 pub mod watch;

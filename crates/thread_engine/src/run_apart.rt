@@ -20,7 +20,7 @@ use crate::work_apart::work_apart;
 use crate::{cut_rules, opening_rules, refusal_rules, work_rules};
 use atomic_board::{GroupTable, SeatToken};
 use chunk_map::{Geometry, Layout};
-use core_worker::Gate;
+use core_worker::{Gate, Worker};
 use engine_core::open_workers::open_workers;
 use engine_core::run_outcome::End;
 use engine_laws::engine_rules;
@@ -58,6 +58,8 @@ pub struct RunOutcome {
     pub stamp: u64,
     /// Whether all was answered, and why not.
     pub end: End,
+    /// By the core's number, as they stand, with all that they hold.
+    pub workers: Vec<Worker>,
 }
 
 /// A run whose replies were handed on, window by window.
@@ -183,7 +185,8 @@ fn run_supplied<
     let outcome = RunOutcome {
         notes: answers.notes,
         stamp: region.stamp(),
-        end: run_end(back.workers, course.all),
+        end: run_end(&back.workers, course.all),
+        workers: back.workers,
     };
     Ok(HandedRun {
         outcome,

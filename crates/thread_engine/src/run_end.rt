@@ -26,8 +26,8 @@ fn end_of(all: bool, stopped: bool) -> End
 }
 
 /// How a run of these workers ended, where there was memory for all or not.
-pub fn run_end(workers: Vec<Worker>, all: bool) -> End
-    ensures { result ≡ end_by all (any_stopped workers.items) }
+pub fn run_end(workers: &Vec<Worker>, all: bool) -> End
+    ensures { result ≡ end_by all (any_stopped workers.now.items) }
 {
-    end_of(all, has_stopped(&workers))
+    end_of(all, has_stopped(workers))
 }

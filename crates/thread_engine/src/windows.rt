@@ -8,6 +8,7 @@ ghost use Rattle.thread_engine.specs.declared.core_job.CoreJob as data_of;
 ghost use Rattle.thread_engine.specs.WorkStates.{IsAtWork, sight_by, stands_at};
 ghost use Rattle.thread_engine.specs.Windows.{AreDealt, DealsSome, DealsTo, AreAtRest, EachChanges, Winds, WorksOffSome, WorksOffTo, WorksThrough, InWindows};
 ghost use Rattle.thread_engine.specs.Collected.{IsWindow};
+ghost use Rattle.thread_engine.specs.Desks.{IsCleared};
 ghost use Rattle.thread_engine.specs.Noted.{IsNoted, HasNoteRoom};
 ghost use Rattle.thread_engine.specs.Outlets.{IsAsked};
 
@@ -16,7 +17,7 @@ use crate::desk::{Desk, work_at_desk};
 use crate::group_leads::AllLeads;
 use crate::outlet::Outlet;
 use crate::requests::Requests;
-use crate::run_answers::{RunAnswers, clear_window, keep_taken};
+use crate::run_answers::{RunAnswers, clear_window};
 use answer_queue::WINDOW;
 use core_worker::Gate;
 use engine_core::backlog::append;
@@ -109,6 +110,7 @@ fn work_window<
     jobs: &mut [CoreJob<B, P>],
     gate: &G,
     leads: &AllLeads,
+    desk: &mut Desk,
     window: &mut Vec<Option<Stamped>>,
     from: u64,
     to: u64,
@@ -119,6 +121,7 @@ fn work_window<
     requires order { from ≤ to }
     requires few { to ≤ from + WINDOW }
     requires within { to ≤ from + length (Q.left requests.old) }
+    requires cleared { IsCleared desk.old }
     requires places { IsWindow window.old.items }
     ensures some_ { WorksOffSome B.seat (sight_by B.view B.trail B.at) P.state
         (G.may_refuse gate.now) from to (Q.left requests.old) jobs.old jobs.new
@@ -127,13 +130,11 @@ fn work_window<
         (G.may_refuse gate.now) from to (Q.left requests.old) (Q.left requests.new)
         jobs.old jobs.new window.new.items }
     ensures count { length window.new.items ≡ WINDOW }
+    ensures cleared { IsCleared desk.new }
 {
-    let Ok(desk) = Desk::open(alloc, from, to) else {
-        return false;
-    };
+    desk.begin(from, to);
     let dealt = deal_window(alloc, requests, jobs, from, to).is_ok();
-    let taken = work_at_desk(rt, alloc, jobs, gate, !dealt, desk, leads);
-    keep_taken(taken, from, window);
+    work_at_desk(rt, alloc, jobs, gate, !dealt, desk, leads, from, window);
     dealt && !is_short(jobs)
 }
 
@@ -179,6 +180,7 @@ fn note_window(answers: &mut RunAnswers, count: usize)
     ensures room { (n : ℕ) → HasNoteRoom (count + n) answers.old.notes
         → HasNoteRoom n answers.new.notes }
     ensures window { answers.new.window.items ≡ answers.old.window.items }
+    ensures desk { answers.new.desk ≡ answers.old.desk }
 {
     answers.notes.note_all(&answers.window[..count]);
 }
@@ -209,6 +211,7 @@ pub fn work_windows<
     requires some { 0 < length jobs.old }
     requires parts { length jobs.old < PARTS }
     requires rest { AreAtRest B.seat (sight_by B.view B.trail B.at) P.state jobs.old }
+    requires cleared { IsCleared answers.old.desk }
     requires window { IsWindow answers.old.window.items }
     requires blank { IsNoted [] answers.old.notes }
     requires room { HasNoteRoom (length (Q.left requests.old)) answers.old.notes }
@@ -223,8 +226,11 @@ pub fn work_windows<
     for _ in rt.forever() {
         let to = window_end(from, count);
         let size = (to - from) as usize;
+        let desk = &mut answers.desk;
         let window = &mut answers.window;
-        let all = work_window(rt, alloc, requests, jobs, gate, leads, window, from, to);
+        let all = work_window(
+            rt, alloc, requests, jobs, gate, leads, desk, window, from, to,
+        );
         note_window(answers, size);
         if !all {
             answers.notes.note_none(count - to);

@@ -1,6 +1,7 @@
 // The jobs of all cores: they are made, done, and taken apart again.
 ghost use Rattle.std.specs.Prelude.{◌≡◌, ◌≤◌, [], length, vec_capacity};
 ghost use Rattle.thread_engine.specs.Collected.{IsWindow};
+ghost use Rattle.thread_engine.specs.Desks.{IsCleared};
 ghost use Rattle.thread_engine.specs.Noted.{IsNoted, HasNoteRoom};
 ghost use Rattle.thread_engine.specs.Outlets.{IsAsked};
 ghost use Rattle.thread_engine.specs.Windows.{InWindows};
@@ -110,6 +111,7 @@ pub fn work_apart<
 ) -> (Returned<P>, Course)
     requires crew { IsCrew tables.now.items group (length pieces.items) crew }
     requires rest { AllAtRest P.state pieces.items crew }
+    requires cleared { IsCleared answers.old.desk }
     requires window { IsWindow answers.old.window.items }
     requires blank { IsNoted [] answers.old.notes }
     requires notes { HasNoteRoom (length (Q.left requests.old)) answers.old.notes }

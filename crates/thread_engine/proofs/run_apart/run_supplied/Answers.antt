@@ -103,6 +103,9 @@ join-requires-clause-pieces g c =
     let parted = still_parted s split mid x.cuts.items (subst (λ (cs : List ℕ). Parted s split cs) c.deref.ensures.value c.in_ok-pieces.ensures.ok) c.work_apart-back.ensures.asked in
     pieces_back state refused s word z.0 z.1 I.given (length left) x z.2 z.3 z.4 ps count piece c.work_apart-back.result.0 (length I.hands.windows) c.work_apart-back.result.1.all (blanks (length I.given)) I.kept I.did mid parted
 
+pub work_apart-back-requires-clause-cleared : goal.work_apart-back-requires-clause-cleared
+work_apart-back-requires-clause-cleared g c κs within = (let z = c.requires.supplied in z.4.cleared)
+
 pub work_apart-back-requires-clause-window : goal.work_apart-back-requires-clause-window
 work_apart-back-requires-clause-window g c κs within = (let z = c.requires.supplied in z.4.window)
 

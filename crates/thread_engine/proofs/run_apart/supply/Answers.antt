@@ -21,6 +21,7 @@ returns g c =
         worker_count = c.in_ok-workers.ensures.count ∙ c.requires.region.made.count ∙ sym (ap (λ (l : Geometry). l.cores) value);
         workers = c.in_ok-workers.ensures.new;
         seated = c.in_ok-workers.ensures.seat;
+        cleared = c.in_ok-answers.ensures.cleared;
         window = c.in_ok-answers.ensures.window;
         blank = c.in_ok-answers.ensures.blank;
         room = c.in_ok-answers.ensures.room;

@@ -2,6 +2,7 @@ use Rattle.std.proofs.Common.{◌≡◌, ◌⊎◌, inl, inr, ◌≤◌, suc, �
 use Rattle.std.proofs.lemmas.List.{nil_from_length}
 use Rattle.engine_core.specs.Reports.{reply_in}
 use Rattle.thread_engine.specs.Collected.{blanks}
+use Rattle.thread_engine.specs.Desks.{IsCleared}
 use Rattle.thread_engine.specs.Noted.{IsNoted}
 use Rattle.thread_engine.specs.Outlets.{all_replies}
 use Rattle.thread_engine.specs.Windows.{WorksThrough, AllRested}
@@ -35,6 +36,7 @@ loop-init g c =
         taken = nothing_taken 0 0 0 (blanks c.count-count.result);
         noted = c.requires.blank;
         room = c.requires.room;
+        cleared = c.requires.cleared;
         window = c.requires.window;
         windows = [];
         begun = refl;
@@ -293,6 +295,7 @@ loop-preserved g c =
         noted = subst (λ ks. IsNoted ks c.note_window.new.answers.notes) (front_is from to after S.outs window S.taken a blank low) (c.note_window.ensures.notes (take from a) I.noted);
         room = c.note_window.ensures.room (length new)
             (fewer_room (to - from + length new) (length (g.Q.Requests.left c.loop.requests)) c.loop.answers.notes (let d = S.end in omega (arith, rest_long, d)) I.room);
+        cleared = subst IsCleared (sym c.note_window.ensures.desk) c.work_window-all.ensures.cleared;
         window = record {
           blank = c.clear_window.ensures.blank;
           count = (let long = c.clear_window.ensures.count in let kept_ = ap length c.note_window.ensures.window in let had = c.work_window-all.ensures.count in omega (arith, long, kept_, had));

@@ -6,6 +6,7 @@ use Rattle.answer_queue.specs.declared.window_sizes.TheConstants.{WINDOW}
 use Rattle.engine_core.specs.declared.types.Stamped.{Stamped}
 use Rattle.engine_core.specs.Reports.{reply_in}
 use Rattle.thread_engine.specs.Collected.{IsWindow, blanks}
+use Rattle.thread_engine.specs.Desks.{IsCleared}
 use Rattle.thread_engine.specs.Noted.{IsNoted, HasNoteRoom}
 use Rattle.thread_engine.specs.Outlets.{IsAsked, all_replies, TakesAll}
 use Rattle.core_worker.specs.declared.types.Answer.{Answer}
@@ -31,6 +32,7 @@ invariant-loop g l = (goal.iterator-loop g).can_next l.iterator'
       taken : TakenAs 0 0 l.from outs (blanks l.count) kept;
       noted : IsNoted (take l.from kept) l.answers.notes;
       room : HasNoteRoom (length (g.Q.Requests.left l.requests)) l.answers.notes;
+      cleared : IsCleared l.answers.desk;
       window : IsWindow l.answers.window.items;
       windows : List (List Reply);
       begun : l.from ≡ length windows * WINDOW;

@@ -1,7 +1,7 @@
 use Rattle.std.proofs.Common.{◌≡◌, ◌≤◌, vec_capacity}
 use Rattle.answer_queue.specs.declared.window_sizes.TheConstants.{WINDOW, PARTS}
 use Rattle.answer_queue.specs.Queues.{IsOf, account_of}
-use Rattle.answer_queue.proofs.taking.take_all.Given as goal
+use Rattle.answer_queue_tests.proofs.taking.take_all.Given as goal
 
 abbrev pub invariant-loop : goal.invariant-loop
 invariant-loop g l = record {

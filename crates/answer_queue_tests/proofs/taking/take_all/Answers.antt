@@ -2,8 +2,8 @@ use Rattle.std.proofs.Common.{◌≡◌, length, sym, subst}
 use Rattle.std.proofs.lemmas.List.Sorted.{length_permutation}
 use Rattle.answer_queue.specs.declared.account.Account.{Account}
 use Rattle.answer_queue.specs.Accounts.{AreDistinct, numbers}
-use Rattle.answer_queue.proofs.Numbering.{distinct_permutation}
-use Rattle.answer_queue.proofs.taking.take_all.Goals as goal
+use Rattle.answer_queue.proofs.Clients.{distinct_permutation}
+use Rattle.answer_queue_tests.proofs.taking.take_all.Goals as goal
 
 pub returns-in-None-take-clause-distinct : goal.returns-in-None-take-clause-distinct
 returns-in-None-take-clause-distinct g c =

@@ -4,7 +4,7 @@ ghost use Rattle.answer_queue.specs.declared.window_sizes.TheConstants.{WINDOW, 
 ghost use Rattle.answer_queue.specs.Accounts.{AreDistinct, numbers};
 ghost use Rattle.answer_queue.specs.Queues.{IsOf, account_of};
 
-use crate::answer_queue::{AnswerPass, AnswerQueue};
+use answer_queue::{AnswerPass, AnswerQueue};
 use core_worker::Answer;
 use std::sync::Wait;
 
