@@ -7,7 +7,7 @@ ghost use Rattle.flatstore_commands.specs.Ordering.{is_of_region, is_quiet};
 ghost use Rattle.flatstore_commands.specs.Promise.{IsInput, Replays};
 ghost use Rattle.flatstore_commands.specs.declared.report.Status.TheVariants as statuses;
 
-use crate::replay::{replay, write_outcome};
+use crate::replay::{leave, replay, write_outcome};
 use crate::report::{CommandReport, Status};
 use fs_text::{Sink, Source};
 use pm_region::{AttachError, ReadRegion, SplitRegion};
@@ -57,7 +57,10 @@ pub fn replay_region<S: Source, O: Sink, R: SplitRegion + ReadRegion>(
         Err(AttachError::Memory) => CommandReport::of(alloc, Status::Memory, false),
         Ok(()) => match replay(alloc, source, region) {
             Err(status) => CommandReport::of(alloc, status, true),
-            Ok(outcome) => write_outcome(alloc, sink, region, outcome),
+            Ok((outcome, workers)) => {
+                leave(workers);
+                write_outcome(alloc, sink, region, outcome)
+            }
         },
     }
 }

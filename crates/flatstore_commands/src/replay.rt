@@ -14,6 +14,7 @@ ghost use Rattle.flatstore_commands.specs.Ordering.{is_of_region};
 
 use crate::finishes::Finishes;
 use crate::report::{CommandReport, Status};
+use core_worker::Worker;
 use engine_core::run_outcome::{End, Outcome};
 use engine_core::run_report::Refusal;
 use fs_text::{Input, InputError, OutError, Sink, Source, read_input, write_replies};
@@ -21,6 +22,7 @@ use group_engine::replaying;
 use pm_region::{ReadRegion, RegionFault, SplitRegion};
 use recover::{RecoverError, Recovered, recover_read};
 use std::alloc::Global;
+use std::mem::forget;
 
 /// The status for an input that was not read.
 pub fn unread(error: InputError) -> Status
@@ -90,18 +92,24 @@ pub fn prepared<S: Source, R: SplitRegion + ReadRegion>(
     }
 }
 
+/// Leaves to the system what workers hold, behind a call that the program ends with: to give the values of a million keys
+/// back one by one would take a twentieth of its time.
+pub fn leave(workers: Vec<Worker>) {
+    forget(workers);
+}
+
 /// Reads the input and runs its lines, on a region that was attached. Where it answers a status, the region is as it
-/// was.
+/// was. The workers come with the outcome, as they stand.
 pub fn replay<S: Source, R: SplitRegion + ReadRegion>(
     alloc: Global,
     source: &mut S,
     region: &mut R,
-) -> Result<Outcome, Status>
+) -> Result<(Outcome, Vec<Worker>), Status>
     requires open { S.ended source.old ≡ false }
     requires whole { StandsWhole (R.state region.old) }
-    ensures played { IfOk result (Played (R.state region.old) (R.word region.old)
+    ensures played { IfOk result (λ x. Played (R.state region.old) (R.word region.old)
         (R.state region.new)
-        (source_use S.coming S.fault_count source.old source.new)) }
+        (source_use S.coming S.fault_count source.old source.new) x.0) }
     ensures refused { IfErr result (IsRefused (R.state region.old)
         (source_use S.coming S.fault_count source.old source.new)) }
     ensures untouched { OnErr result (region.new ≡ region.old) }

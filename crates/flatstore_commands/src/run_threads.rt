@@ -13,7 +13,7 @@ ghost use Rattle.flatstore_commands.specs.declared.report.Status.TheVariants as 
 ghost use Rattle.flatstore_commands.specs.declared.run_threads.NotRun.TheVariants as not_run;
 
 use crate::finishes::Finishes;
-use crate::replay::{is_ended, prepared, report_on, status_of};
+use crate::replay::{is_ended, leave, prepared, report_on, status_of};
 use crate::report::{CommandReport, Status};
 use core_worker::Gate;
 use engine_core::run_outcome::End;
@@ -163,7 +163,13 @@ pub fn run_report(outcome: RunOutcome, status: Status, in_place: bool) -> Comman
     ensures complete { result.complete ≡ is_ended outcome.end }
     ensures in_place { result.in_place ≡ in_place }
 {
-    let RunOutcome { notes, stamp, end } = outcome;
+    let RunOutcome {
+        notes,
+        stamp,
+        end,
+        workers,
+    } = outcome;
+    leave(workers);
     let RunNotes { finished, refusals } = notes;
     let finishes = Finishes::Alike { finished, stamp };
     report_on(finishes, refusals, end, status, in_place)

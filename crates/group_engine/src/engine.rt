@@ -277,14 +277,16 @@ impl<W: CoreWorker + Drop> Engine<W> {
     ghost use Rattle.engine_core.specs.Reports.{listed, IsReport, ReportsOn};
     ghost use Rattle.group_engine.specs.Shows.{Shows};
 
-    /// The replies, and the report on them: those of the state that the engine shows. It takes no memory.
-    pub fn into_report(self) -> Report
-        ensures kept { IsReport self.answers.items (listed result) }
+    /// The replies, and the report on them: those of the state that the engine shows. It takes no memory. The workers
+    /// come with it, as they stand.
+    pub fn into_report(self) -> (Report, Vec<W>)
+        ensures kept { IsReport self.answers.items (listed result.0) }
         ensures reports { (s : State) (o : Origin) (e : engines.Engine) → Stands o e
             → Shows W.hands W.answers W.stands W.fair W.room W.leads (λ q. q.items) s self.layout
             self.workers.items self.boards.items self.backlogs.items self.answers.items e
-            → ReportsOn s o e (listed result) }
+            → ReportsOn s o e (listed result.0) }
     {
-        report_on(self.answers, self.report)
+        let report = report_on(self.answers, self.report);
+        (report, self.workers)
     }
 }
